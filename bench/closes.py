@@ -1,31 +1,31 @@
 #!/usr/bin/env python3
-"""Measures `catchup`: opening an image, and closing ledgers behind it; and `run` over a store beside it.
+"""Measures `catchup`: opening an image, and closing ledgers after it; and `run` over a store beside it.
 
     bench/closes.py [PROGRAM [OTHER]]
 
 PROGRAM is the built program, crates/ledger/out/ledger of this repository where none is given. OTHER is another build, of an earlier
-state say: both are then run in turn, and the last lines tell what PROGRAM takes of OTHER's times.
+state say: both are then run in turn, and the last lines say what PROGRAM takes of OTHER's times.
 
 Images of 1,000, 10,000 and 100,000 accounts are opened, and then 50 records of 100 transactions are handed in one by one, of two mixes.
 One is of accounts: payments, new accounts, options, data, sequence numbers, data that another account pays for, and merges. The other is
 of assets: lines that are made and changed, what is issued, paid and redeemed in them, authorisations taken back and given, claimable
 balances made, claimed and clawed back, and clawback. A third mix, of offers (`trading.py`), and a fourth, of all 24 operations
-(`everything.py`), are run behind images of 10,000 and 100,000 offers in 20 books, the fourth with ten pools. What the program prints is
+(`everything.py`), are run over images of 10,000 and 100,000 offers in 20 books, the fourth with ten pools. What the program prints is
 compared with what the ledger in Python in tests/models says. Images of 98 and 980 offers of one account are opened too; it can't
 have more than 1,000 subentries. So are images of pools (`pooling.py`): of 1,000 and 10,000 pools with a line of shares each, and of one
 pool with 1,000 and 10,000 lines.
 
-Behind 1,000 and 10,000 accounts the records of the mix of accounts are closed by `run` too, over a store of the same image in a directory,
-and the ratio of both is told: processor time of all closes but the longest, where the syncs of `run` do nothing.
+Over 1,000 and 10,000 accounts the records of the mix of accounts are closed by `run` too, over a store of the same image in a directory,
+and the ratio of both is printed: processor time of all closes but the longest, where the syncs of `run` do nothing.
 
 The script prints processor time and peak memory of opening; then the processor time of closing without the longest close, ledgers and
 transactions a second of it, and the longest close by itself, which is the one in which a deep level is merged; each close by the least
-of several runs. A close is measured from when its record is handed in until the program waits for the next one. Last it tells how much
-longer closing takes behind 100,000 accounts than behind 1,000, with the mix of offers than with that of accounts, and behind ten times
+of several runs. A close is measured from when its record is handed in until the program waits for the next one. Last it prints how much
+longer closing takes over 100,000 accounts than over 1,000, with the mix of offers than with that of accounts, and over ten times
 the offers, and all of a run than sha256sum of the same input.
 
 Exit status: 0 where all is well, 1 where ten times the accounts, offers, pools or lines of one pool take more than 15 times as long to
-open, closing takes more than twice as long behind 100,000 accounts as behind 1,000, ten times the offers change the time of closing by
+open, closing takes more than twice as long over 100,000 accounts as over 1,000, ten times the offers change the time of closing by
 more than a fifth, or `run` takes more than 1.15 times what `catchup` takes, 2 where a run fails or prints another text. Linux (it reads
 /proc), Python 3.9 or later, its standard library, sha256sum, and a C compiler (cc).
 """
@@ -98,15 +98,15 @@ class Sender:
     """Makes transactions of accounts in turn, and keeps their sequence numbers."""
 
     def __init__(self, count, senders):
-        self.count, self.senders, self.place, self.numbers, self.made = count, senders, 0, {}, count
+        self.count, self.senders, self.index, self.numbers, self.made = count, senders, 0, {}, count
 
     def look(self, ledger):
         pass
 
     def turn(self):
-        self.place = (self.place + 7) % self.senders
-        self.numbers[self.place] = self.numbers.get(self.place, 0) + 1
-        return self.place, self.numbers[self.place]
+        self.index = (self.index + 7) % self.senders
+        self.numbers[self.index] = self.numbers.get(self.index, 0) + 1
+        return self.index, self.numbers[self.index]
 
     def transaction(self, kind):
         source, seq = self.turn()
@@ -154,12 +154,12 @@ class Holder(Sender):
 
 
 def story(data, sender):
-    """The records behind an image, one by one, and what `catchup` prints for all."""
+    """The records after an image, one by one, and what `catchup` prints for all."""
     ledger = model.ledger_of(model.sha(NETWORK.encode()), *model.cut_image(model.Text(data)))
     records, lines = [], []
     for number in range(LEDGERS):
         sender.look(ledger)
-        listed = [sender.transaction((number + place) % 11).xdr() for place in range(SIZE)]
+        listed = [sender.transaction((number + index) % 11).xdr() for index in range(SIZE)]
         digest = model.sha(ledger.hash + b"".join(sorted(listed, key=model.sha)))
         value = digest + model.u64(1005 + 5 * number) + model.u32(0) + model.u32(0)
         record = model.u32(ledger.header["seq"] + 1) + ledger.hash + model.many(listed) + value
@@ -218,7 +218,7 @@ class Watched:
 CATCHUP = ["catchup", "--network", NETWORK]
 
 
-def watched(program, data, records, wanted, words=CATCHUP, folder=None, environment={}):
+def watched(program, data, records, expected, words=CATCHUP, folder=None, environment={}):
     """The processor time of opening, its peak of memory, and the processor time of each close, of one run."""
     it = Watched(program, words, folder, environment)
     it.hand_in(data)
@@ -230,7 +230,7 @@ def watched(program, data, records, wanted, words=CATCHUP, folder=None, environm
         now = it.used()
         closes.append(now - last)
         last = now
-    if it.end() != wanted:
+    if it.end() != expected:
         stop(f"{words[0]} printed another text")
     return opening, peak, closes
 
@@ -241,7 +241,7 @@ def least(runs):
     return min(it[0] for it in runs), max(it[1] for it in runs), sum(closes) - max(closes), max(closes)
 
 
-def tell(name, count, what, size, done, opening, peak, closing, longest):
+def report(name, count, what, size, done, opening, peak, closing, longest):
     print(
         f"{name}{count:7} {what}: image of {size / 1e6:.2f} MB opened in {opening * 1e3:.1f} ms"
         f" ({size / opening / 1e6:.1f} MB/s), {peak / 1e3:.1f} MB of memory, {peak * 1e3 / size:.1f} times the image;"
@@ -272,19 +272,19 @@ RUNS = [(count, mix) for count in (1_000, 10_000, 100_000) for mix in (ASSET_MIX
 def measured(programs, count, mix, folder):
     """What each program takes of one mix."""
     data, sender = given(count, mix)
-    records, wanted = story(data, sender)
+    records, expected = story(data, sender)
     source = os.path.join(folder, "input")
     with open(source, "wb") as file:
         file.write(data + b"".join(records))
     hashed, _, _ = run(["sha256sum", source], 3, folder)
-    done = sum(line.startswith("tx ") and line.split()[-1] in "01" for line in wanted.splitlines())
+    done = sum(line.startswith("tx ") and line.split()[-1] in "01" for line in expected.splitlines())
     runs = {program: [] for program in programs}
     for _ in range(3 if count == 100_000 else 7):
         for program in programs:
-            runs[program].append(watched(program, data, records, wanted))
+            runs[program].append(watched(program, data, records, expected))
     results = {program: least(runs[program]) for program in programs}
     for program, found in results.items():
-        tell(f"{program}: " if len(programs) > 1 else "", count, mix, len(data), done, *found)
+        report(f"{program}: " if len(programs) > 1 else "", count, mix, len(data), done, *found)
         whole = found[0] + found[2] + found[3]
         print(f"    all of it takes {whole / max(hashed, 1e-9):.1f} times as long as sha256sum of the input", flush=True)
     return results
@@ -293,8 +293,8 @@ def measured(programs, count, mix, folder):
 def opened(program, data):
     """The least processor time of opening an image, of several runs."""
     ledger = model.ledger_of(model.sha(NETWORK.encode()), *model.cut_image(model.Text(data)))
-    wanted = f"end {SEQ} {ledger.hash.hex()}\n"
-    return min(watched(program, data, [], wanted)[0] for _ in range(15))
+    expected = f"end {SEQ} {ledger.hash.hex()}\n"
+    return min(watched(program, data, [], expected)[0] for _ in range(15))
 
 
 def watch_accounts(results):
@@ -304,7 +304,7 @@ def watch_accounts(results):
         small, middle, large = [results[count, mix] for count in (1_000, 10_000, 100_000)]
         ratios, growth = (middle[0] / small[0], large[0] / middle[0]), large[2] / small[2]
         print(f"{mix}: ten times the accounts take {ratios[0]:.1f} and {ratios[1]:.1f} times as long to open;"
-              f" closing takes {growth:.2f} times as long behind 100,000 accounts as behind 1,000")
+              f" closing takes {growth:.2f} times as long over 100,000 accounts as over 1,000")
         fine = fine and max(ratios) <= GREATEST_RATIO and growth <= GREATEST_GROWTH
     return fine
 
@@ -329,12 +329,12 @@ def watch_pools(program):
     return max(ratios) <= GREATEST_RATIO
 
 
-# Syncs that do nothing, to tell what the syncs of a run take.
+# Syncs that do nothing, to show what the syncs of a run take.
 NO_SYNCS = "int fsync(int file) { return 0; }\nint fdatasync(int file) { return 0; }\n"
 
 
 def without_syncs(folder):
-    """A library that is loaded in front of the C library, and whose syncs do nothing."""
+    """A library that is loaded before the C library, and whose syncs do nothing."""
     with open(f"{folder}/syncs.c", "w", encoding="ascii") as file:
         file.write(NO_SYNCS)
     words = ["cc", "-shared", "-fPIC", "-o", f"{folder}/syncs.so", f"{folder}/syncs.c"]
@@ -343,11 +343,11 @@ def without_syncs(folder):
     return f"{folder}/syncs.so"
 
 
-def kept(program, data, records, wanted, library):
-    """What one `run` over a store of an image takes, in front of which a library is loaded where one is given."""
+def kept(program, data, records, expected, library):
+    """What one `run` over a store of an image takes, before which a library is loaded where one is given."""
     with tempfile.TemporaryDirectory(dir=".") as folder:
         subprocess.run([program, "init", "--network", NETWORK], input=data, cwd=folder, check=True)
-        return watched(program, b"", records, wanted, ["run"], folder, {"LD_PRELOAD": library} if library else {})
+        return watched(program, b"", records, expected, ["run"], folder, {"LD_PRELOAD": library} if library else {})
 
 
 def watch_runs(program):
@@ -357,12 +357,12 @@ def watch_runs(program):
         library = without_syncs(folder)
         for count in (1_000, 10_000):
             data, sender = given(count, ACCOUNT_MIX)
-            records, wanted = story(data, sender)
+            records, expected = story(data, sender)
             alone, stored, unsynced = [], [], []
             for _ in range(7):
-                alone.append(watched(program, data, records, wanted))
-                stored.append(kept(program, data, records, wanted, None))
-                unsynced.append(kept(program, data, records, wanted, library))
+                alone.append(watched(program, data, records, expected))
+                stored.append(kept(program, data, records, expected, None))
+                unsynced.append(kept(program, data, records, expected, library))
             closing, keeping, rest = [least(it)[2] for it in (alone, stored, unsynced)]
             print(f"{count:7} accounts: {LEDGERS - 1} ledgers take catchup {closing * 1e3:.1f} ms and run {keeping * 1e3:.1f} ms, of which"
                   f" the syncs {(keeping - rest) * 1e3:.1f} ms; the rest is {rest / closing:.2f} times catchup", flush=True)

@@ -7,11 +7,11 @@ PROGRAM is the built program, crates/ledger/out/ledger of this repository where 
 beside their closing threads, none where nothing is said. `init` makes a store at ledger 1 in a folder of
 TMPDIR. Over a copy of it `run` closes 300 ledgers, and goes on to another epoch four times. Such runs, over a fresh copy each, are killed
 (SIGKILL) at random moments, until 200 were killed before their end. About half of the moments are on the clock, within the time that a
-whole run takes. The others are told by the output: a little behind the moment at which so many of its bytes have come.
+complete run takes. The others follow from the output: a little after the moment at which so many of its bytes have come.
 
-What a killed run printed must be a front of the whole run's text. Its files must open, by the store in Python in tests/models, to the
-ledger of the last whole `closed` line that came, or to the next one; a run without records must end at that ledger, and a run over the
-records that follow print what the whole run printed from there on.
+What a killed run printed must be a prefix of the complete run's text. Its files must open, by the store in Python in tests/models, to the
+ledger of the last complete `closed` line that came, or to the next one; a run without records must end at that ledger, and a run over the
+records that follow print what the complete run printed from there on.
 
 Such a crash is one of the process alone: what it wrote stays in the memory of the system. That power is lost is what the contracts of the
 store speak of, and what `tests/stops.py` tries.
@@ -41,22 +41,22 @@ FIRST, RECORDS, KILLS, SEED = 1, 300, 200, 15
 
 
 def story():
-    """An image, records behind it one by one, and the lines of each: lumens are paid, and data comes and goes."""
+    """An image, records after it one by one, and the lines of each: lumens are paid, and data comes and goes."""
     made, records, lines, numbers = Story(image([A, B, C], seq=FIRST)), [], [], dict.fromkeys("abc", 0)
-    for place in range(RECORDS):
+    for index in range(RECORDS):
         listed = []
         for name, other in zip("abc", "bca"):
             numbers[name] += 1
-            value = None if place % 5 == 4 else b"%d" % place
-            listed.append(sent(name, numbers[name], sets.payment(other, 1 + place), sets.manage_data(b"%d" % (place // 5 % 7), value), fee=200))
+            value = None if index % 5 == 4 else b"%d" % index
+            listed.append(sent(name, numbers[name], sets.payment(other, 1 + index), sets.manage_data(b"%d" % (index // 5 % 7), value), fee=200))
         record = made.record(*listed)
         lines.append(made.ledger.close(record))
         records.append(model.marked(record))
     return made.data, records, lines
 
 
-class Told:
-    """What a whole run has to print, and where its lines end."""
+class Expected:
+    """What a complete run has to print, and where its lines end."""
 
     def __init__(self, start, lines):
         self.lines, self.start = lines, start
@@ -67,11 +67,11 @@ class Told:
         return f"end {FIRST + count} {self.hashes[count]}\n"
 
     def text(self, count):
-        """What a run behind so many records prints."""
+        """What a run after so many records prints."""
         return "".join(self.lines[count:]) + self.end(RECORDS)
 
     def closed(self, out):
-        """Of how many closes a text has the last line, whole."""
+        """Of how many closes a text has the last line, complete."""
         return sum(line.startswith("closed ") for line in out.split("\n")[:-1])
 
 
@@ -130,25 +130,25 @@ def content(path):
         return file.read()
 
 
-def judged(program, folder, told, records, out):
-    """How many ledgers a store opens to beyond those that a killed run told, and in which epoch; or what is wrong."""
-    if not told.text(0).startswith(out):
-        return "what was printed is no front of the whole text"
+def judged(program, folder, expected, records, out):
+    """How many ledgers a store opens to beyond those that a killed run printed, and in which epoch; or what is wrong."""
+    if not expected.text(0).startswith(out):
+        return "what was printed is no prefix of the entire text"
     try:
         store = stores.Store([content(f"{folder}/ledger-store/{name}") for name in stores.FILES])
     except (stores.Missing, stores.BadStore) as wrong:
         return f"the files are no store: {wrong!r}"
-    closed, opened = told.closed(out), store.ledger.header["seq"] - FIRST
+    closed, opened = expected.closed(out), store.ledger.header["seq"] - FIRST
     if not closed <= opened <= closed + 1:
-        return f"behind {closed} closes the files open behind {opened}"
-    if run(program, ["run"], folder, b"") != told.end(opened):
-        return f"behind {opened} closes a run ends elsewhere"
-    if run(program, ["run"], folder, b"".join(records[opened:])) != told.text(opened):
-        return f"behind {opened} closes other lines follow"
+        return f"after {closed} closes the files open after {opened}"
+    if run(program, ["run"], folder, b"") != expected.end(opened):
+        return f"after {opened} closes a run ends elsewhere"
+    if run(program, ["run"], folder, b"".join(records[opened:])) != expected.text(opened):
+        return f"after {opened} closes other lines follow"
     return opened - closed, store.epoch
 
 
-def tell(seen, whole):
+def report(seen, whole):
     """Prints what the stores of the killed runs opened to."""
     ends, epochs = (collections.Counter(column) for column in zip(*seen))
     print(f"{len(seen)} runs over {RECORDS} records, {len(seen) - whole} of them killed before their end:"
@@ -160,7 +160,7 @@ def main():
     program = os.path.abspath(sys.argv[1] if len(sys.argv) > 1 else built("ledger"))
     command = [program, "run", *(["--workers", sys.argv[2]] if len(sys.argv) > 2 else [])]
     data, records, lines = story()
-    told = Told(model.ledger_of(model.sha(NETWORK.encode()), *model.cut_image(model.Text(data))).hash.hex(), lines)
+    expected = Expected(model.ledger_of(model.sha(NETWORK.encode()), *model.cut_image(model.Text(data))).hash.hex(), lines)
     moments, seen, whole, wrong = random.Random(SEED), [], 0, 0
     with tempfile.TemporaryDirectory() as folder:
         source, made, fresh = (f"{folder}/{name}" for name in ("records", "made", "fresh"))
@@ -171,14 +171,14 @@ def main():
             stop("init made no store")
         shutil.copytree(made, fresh)
         begun = time.perf_counter()
-        if run(program, ["run"], fresh, b"".join(records)) != told.text(0):
+        if run(program, ["run"], fresh, b"".join(records)) != expected.text(0):
             stop("run printed another text")
         took = time.perf_counter() - begun
         while len(seen) - whole + wrong < KILLS:
             shutil.rmtree(fresh)
             shutil.copytree(made, fresh)
-            out, ended = killed(command, fresh, source, moments, len(told.text(0)), took)
-            found = judged(program, fresh, told, records, out)
+            out, ended = killed(command, fresh, source, moments, len(expected.text(0)), took)
+            found = judged(program, fresh, expected, records, out)
             if isinstance(found, str):
                 print(found)
                 wrong += 1
@@ -186,7 +186,7 @@ def main():
             seen.append(found)
             whole += ended
     if seen:
-        tell(seen, whole)
+        report(seen, whole)
     sys.exit(1 if wrong else 0)
 
 

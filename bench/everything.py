@@ -48,7 +48,7 @@ class Doer:
     """Makes transactions of takers in turn, and keeps their sequence numbers."""
 
     def __init__(self):
-        self.place, self.numbers, self.made = 0, {}, 0
+        self.index, self.numbers, self.made = 0, {}, 0
 
     def look(self, ledger):
         pass
@@ -88,7 +88,7 @@ class Doer:
         ][kind]
 
     def transaction(self, kind):
-        self.place = (self.place + 7) % TAKERS
-        self.numbers[self.place] = seq = self.numbers.get(self.place, 0) + 1
-        listed, others = self.operations((self.place // 7 + seq) % 25, self.place, seq)
-        return sets.sent(self.place, seq, *listed, fee=300, signers=[self.place, *others])
+        self.index = (self.index + 7) % TAKERS
+        self.numbers[self.index] = seq = self.numbers.get(self.index, 0) + 1
+        listed, others = self.operations((self.index // 7 + seq) % 25, self.index, seq)
+        return sets.sent(self.index, seq, *listed, fee=300, signers=[self.index, *others])

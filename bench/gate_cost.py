@@ -1,19 +1,19 @@
 #!/usr/bin/env python3
 """What the gate checks and what that takes, by crate.
 
-    bench/gate_cost.py tell [NOTES]
+    bench/gate_cost.py report [NOTES]
     bench/gate_cost.py watch NOTES
 
-`tell` prints a row a crate, in the order of crates.txt, in the form of docs/GATE.md: lines of code, of definitions and of proofs, and how
-many edits stand in must-fail/. Where NOTES are given, two columns follow: seconds of processor time, of the crate's proof, its tests and
-all its builds, but not of its edits; and MB of checked files (*.oantt) that its proof wrote. The last row adds up, and a line behind it
-tells what all edits took.
+`report` prints a row a crate, in the order of crates.txt, in the form of docs/GATE.md: lines of code, of definitions and of proofs, and how
+many edits are in must-fail/. Where NOTES are given, two columns follow: seconds of processor time, of the crate's proof, its tests and
+all its builds, but not of its edits; and MB of checked files (*.oantt) that its proof wrote. The last row adds up, and a line after it
+says what all edits took.
 
 `watch` makes NOTES. It runs beside the gate, in the checkout that the gate runs in, until it is killed: every two seconds it looks which
 provers and compilers run, and keeps what each used so far. So it misses up to two seconds of each, and what a machine kept from an
 earlier run, which is not proved again.
 
-MB tell what a proof costs, and no load of the machine changes them; the seconds rise with what else the machine does.
+MB show what a proof costs, and no load of the machine changes them; the seconds rise with what else the machine does.
 
 Linux (it reads /proc, and the folders that provers keep their checked files in), Python 3.10 or later, its standard library.
 """
@@ -94,12 +94,12 @@ def watch(path):
     while True:
         for process in filter(str.isdigit, os.listdir("/proc")):
             try:
-                told = used(process)
+                found = used(process)
             except (OSError, ValueError):
                 # it ended meanwhile
                 continue
-            if told:
-                start, name, what, seconds, size = told
+            if found:
+                start, name, what, seconds, size = found
                 known = notes.get((process, start), (name, what, 0, 0))
                 notes[process, start] = (name, what, seconds, max(size, known[3]))
         with open(f"{path}.new", "w") as file:
@@ -128,7 +128,7 @@ def say(name, counts):
     print(f"| {name} | {' | '.join(map(str, numbers))} | {edits or ''} | {seconds} | {size} |")
 
 
-def tell(notes):
+def report(notes):
     print("| crate | code | definitions | proofs | edits | seconds | MB |\n|---|---|---|---|---|---|---|")
     rows = [(name, row(name, notes)) for name in crates()]
     for name, counts in rows:
@@ -141,13 +141,13 @@ def main():
     match sys.argv[1:]:
         case ["watch", path]:
             watch(path)
-        case ["tell"]:
-            tell([])
-        case ["tell", path]:
+        case ["report"]:
+            report([])
+        case ["report", path]:
             with open(path) as file:
-                tell(json.load(file))
+                report(json.load(file))
         case _:
-            stop("expected `tell [NOTES]` or `watch NOTES`")
+            stop("expected `report [NOTES]` or `watch NOTES`")
 
 
 if __name__ == "__main__":

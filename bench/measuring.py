@@ -1,4 +1,4 @@
-"""What the scripts of this folder share: spelling XDR, and running a program for its processor time and its peak memory.
+"""What the scripts of this folder share: encoding XDR, and running a program for its processor time and its peak memory.
 
 Times are processor time, of the program and of the system for it, since it is disturbed less by what else the machine does than the
 time on the clock. The best of several runs counts. Python 3.9 or later and its standard library.
@@ -50,7 +50,7 @@ def i64(number):
 
 
 def opaque(content):
-    """Bytes behind their number, filled up with zero bytes to a multiple of four."""
+    """Bytes after their number, filled up with zero bytes to a multiple of four."""
     return u32(len(content)) + content + bytes(-len(content) % 4)
 
 
@@ -59,10 +59,10 @@ def built(name):
     return f"{TOP}/crates/{name}/out/{name}"
 
 
-def run(words, runs, folder, source=os.devnull, wanted=None):
+def run(words, runs, folder, source=os.devnull, expected=None):
     """Runs a command, and returns its least processor time in seconds, its greatest peak memory in kB, and its output.
 
-    The output has to be what is wanted, where something is.
+    The output has to be what is expected, where something is.
     """
     target = f"{folder}/output"
     best, most = float("inf"), 0
@@ -77,6 +77,6 @@ def run(words, runs, folder, source=os.devnull, wanted=None):
         best, most = min(best, float(seconds)), max(most, int(memory))
     with open(target, "rb") as file:
         output = file.read()
-    if wanted is not None and output.decode() != wanted:
+    if expected is not None and output.decode() != expected:
         stop(f"{' '.join(words)} printed {output[:200]!r}")
     return best, most, output

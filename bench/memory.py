@@ -6,10 +6,10 @@
 PROGRAM is the built program, crates/ledger/out/ledger of this repository where none is given.
 
 It runs `catchup`, `init`, `run`, and `run` beside two workers, over an image and three records, those in examples/, once for each call for
-memory that the run makes of the C library. A library that is loaded in front of that one counts the calls and refuses one of them. Each run has to answer 8, tell
-`no memory`, and write a front of the text that the ledger in Python in tests/models gives; or, where the directory of the store
-is refused memory, 6 with `disk fault`; or it passes over the refusal, and answers 0 with all of the text. Behind `init` and `run` the
-store is opened again, by a `run` without input: behind 8 and 0 at the last ledger whose `closed` line was written, behind 6 there or one
+memory that the run makes of the C library. A library that is loaded before that one counts the calls and refuses one of them. Each run has
+to answer 8, report `no memory`, and write a prefix of the text that the ledger in Python in tests/models gives; or, where the directory of
+the store is refused memory, 6 with `disk fault`; or it passes over the refusal, and answers 0 with all of the text. After `init` and `run`
+the store is opened again, by a `run` without input: after 8 and 0 at the last ledger whose `closed` line was written, after 6 there or one
 further on. An `init` that answered 8 has made no store, and one that answered 6 may have.
 
 Beside workers the calls of all threads count, so which of them is refused differs from run to run. Then the calls of the workers alone
@@ -48,7 +48,7 @@ def compiled(folder):
 
 
 class Command:
-    """A command that is run behind a store, and what it has to come to."""
+    """A command that is run over a store, and what it has to yield."""
 
     def __init__(self, program, words, data, text, store, ends, of_workers=False):
         # `ends` are the `end` lines of the ledgers that a `run` without input may open to, by how many were closed; None is no store
@@ -67,7 +67,7 @@ class Command:
         return at, subprocess.run(self.words, env={**os.environ, **environment}, **how)
 
     def is_opened(self, at, end):
-        """Whether the store behind a run opens where it has to."""
+        """Whether the store after a run opens where it has to."""
         if self.ends is None:
             return True
         closed = sum(line.startswith(b"closed ") for line in end.stdout.splitlines(True) if line.endswith(b"\n"))
@@ -79,7 +79,7 @@ class Command:
         return again.stdout in [self.ends[number] for number in may if number < len(self.ends)]
 
     def judged(self, at, end):
-        """What a run came to whose call for memory was refused: `passed`, `front`, `nothing`, `device`, or None where it is wrong."""
+        """What a run yielded whose call for memory was refused: `passed`, `prefix`, `nothing`, `device`, or None where it is wrong."""
         said = {0: b"", 8: b"no memory\n", 6: b"disk fault\n"}.get(end.returncode)
         whole = end.returncode != 0 or end.stdout == self.text
         if end.stderr != said or not whole or not self.text.startswith(end.stdout) or not self.is_opened(at, end):
@@ -87,17 +87,17 @@ class Command:
         if self.of_workers and end.returncode != 0:
             return None
         if end.returncode == 8:
-            return "front" if end.stdout else "nothing"
+            return "prefix" if end.stdout else "nothing"
         return {0: "passed", 6: "device"}[end.returncode]
 
 
 def tried(command, library, folder):
-    """Refuses each call for memory of a command in turn, and tells what came of it; gives how many runs were wrong."""
+    """Refuses each call for memory of a command in turn, and prints what came of it; gives how many runs were wrong."""
     counted = f"{folder}/counted"
     at, end = command.ran(folder, LD_PRELOAD=library, REFUSED="0", COUNTED=counted)
     if command.judged(at, end) != "passed":
         stop(f"{' '.join(command.words[1:])} without a refusal does something else")
-    calls, found = int(content(counted)), dict.fromkeys(["passed", "front", "nothing", "device", None], 0)
+    calls, found = int(content(counted)), dict.fromkeys(["passed", "prefix", "nothing", "device", None], 0)
     for number in range(1, calls + 1):
         at, end = command.ran(folder, LD_PRELOAD=library, REFUSED=str(number), COUNTED=counted)
         came = command.judged(at, end)
@@ -106,8 +106,8 @@ def tried(command, library, folder):
             print(f"{' '.join(command.words[1:])}, call {number}: status {end.returncode}, {end.stderr!r}, {end.stdout[:80]!r}")
         shutil.rmtree(at)
     by = " by its workers" if command.of_workers else ""
-    print(f"{' '.join(command.words[1:])}: {calls} calls for memory{by}, each refused in turn; {found['front'] + found['nothing']} runs answer 8,"
-          f" {found['front']} of them behind some of the text, {found['device']} answer 6, {found['passed']} pass it over, and"
+    print(f"{' '.join(command.words[1:])}: {calls} calls for memory{by}, each refused in turn; {found['prefix'] + found['nothing']} runs answer 8,"
+          f" {found['prefix']} of them after some of the text, {found['device']} answer 6, {found['passed']} pass it over, and"
           f" {found[None]} do otherwise")
     return found[None]
 

@@ -1,25 +1,25 @@
 #!/usr/bin/env python3
-"""Measures books of offers: going through one, asking for its head, and the index behind a batch.
+"""Measures order books: going through one, asking for its head, and the index after a batch.
 
     bench/offers.py [PROGRAM]
 
 PROGRAM is the built program, crates/speed/out/speed of this repository where none is given.
 
-`PROGRAM book COUNT` makes a map of COUNT offers of one pair, a layer with 1,000 changed ones over it, and goes through the whole book
+`PROGRAM book COUNT` makes a map of COUNT offers of one pair, a layer with 1,000 changed ones over it, and goes through the entire book
 by `offer_after`, again and again for a million answers. It is run at 10, 1,000 and 100,000 offers; of the first book the layer makes
 one of 1,000.
 `PROGRAM head COUNT` makes a map of 20,000 offers of one pair, erases the COUNT best in a layer, and asks a million times for the best
 in the layer above. It is run at 100 and at 10,000.
-`PROGRAM index COUNT PAIRS` makes the index of COUNT offers, and 1,000 times the index behind a batch of 100 changed ones. It is run at
+`PROGRAM index COUNT PAIRS` makes the index of COUNT offers, and 1,000 times the index after a batch of 100 changed ones. It is run at
 1,000 and at 100,000 offers, in 50 pairs and in one.
 
-Each is run with `-base` behind its command too, which does all but what is timed, and that time is taken off. A line of the program
-must tell as many answers as were asked for.
+Each is run with `-base` after its command too, which does all but what is timed, and that time is taken off. A line of the program
+must print as many answers as were asked for.
 
 The script prints the processor time of an answer, and the ratios.
 
-Exit status: 0 where all is well, 1 where an offer of 100,000 costs more than 2.5 times as much as one of 1,000, a head behind 10,000
-erased offers more than 2.5 times as much as behind 100, or an index behind a batch among 100,000 offers more than 3 times as much as
+Exit status: 0 where all is well, 1 where an offer of 100,000 costs more than 2.5 times as much as one of 1,000, a head after 10,000
+erased offers more than 2.5 times as much as after 100, or an index after a batch among 100,000 offers more than 3 times as much as
 among 1,000; 2 where a run fails or prints another line. Python 3.9 or later and its standard library.
 """
 
@@ -58,8 +58,8 @@ def main():
         one = [timed(program, folder, ["index", str(count), "1"], 1_000) for count in (1_000, 100_000)]
     within = [
         ratio("an offer of 100,000 and one of 1,000", walks[2], walks[0], 2.5),
-        ratio("a head behind 10,000 erased offers and behind 100", heads[1], heads[0], 2.5),
-        ratio("an index behind a batch among 100,000 offers and 1,000, in 50 pairs", spread[1], spread[0], 3),
+        ratio("a head after 10,000 erased offers and after 100", heads[1], heads[0], 2.5),
+        ratio("an index after a batch among 100,000 offers and 1,000, in 50 pairs", spread[1], spread[0], 3),
         ratio("the same in one pair", one[1], one[0], 3),
     ]
     sys.exit(not all(within))

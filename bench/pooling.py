@@ -34,9 +34,9 @@ def pool(asset, lines):
 def many_pools(count):
     """So many pools, of assets of one issuer, each with one line, and how many accounts they need."""
     entries, names = [], [FIRST_HOLDER + number for number in range(count // EACH)]
-    for place, name in enumerate(names):
+    for index, name in enumerate(names):
         entries.append(account(name, 3 * EACH))
-        for number in range(place * EACH, (place + 1) * EACH):
+        for number in range(index * EACH, (index + 1) * EACH):
             asset = sets.asset(f"P{number}", ISSUER)
             entries += [*holding(name, asset), pool(asset, 1)]
     return entries, len(names)

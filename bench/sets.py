@@ -1,5 +1,5 @@
 #!/usr/bin/env python3
-"""Measures the application of whole sets of transactions.
+"""Measures the application of complete sets of transactions.
 
     bench/sets.py [PROGRAM]
 

@@ -4,14 +4,14 @@
     bench/store.py [PROGRAM]
 
 PROGRAM is the built program, crates/speed/out/speed of this repository where none is given. The store is made in a folder of TMPDIR: what
-is measured is the file system that it stands on.
+is measured is the file system that it is on.
 
 `PROGRAM store-append COUNT SIZE` appends COUNT records of SIZE bytes. Beside it the same writes and syncs are made by this script, with
 nothing else: that is the part of the system. `PROGRAM store-roll BYTES 0` opens a store and goes on to an image of BYTES bytes, and
 `PROGRAM store-open BYTES 0` does all but that; the difference is compared with `dd conv=fsync` from the image's file. Both write over a
 file of that length. All times are those on the clock, the best of several runs in turn.
 
-Exit status: 0 where all is well, 1 where a roll takes more than 1.5 times as long as `dd`, or more memory than the spelling of its image
+Exit status: 0 where all is well, 1 where a roll takes more than 1.5 times as long as `dd`, or more memory than the encoding of its image
 beyond what opening takes; 2 where a run fails or prints another line. Python 3.9 or later and its standard library.
 """
 
@@ -51,8 +51,8 @@ def system_part(folder):
         begun = time.perf_counter()
         for number in range(RECORDS):
             at = number * (SIZE + 5)
-            for place, text in ((at + 1, piece), (at, b"\x01")):
-                os.pwrite(journal.fileno(), text, place)
+            for offset, text in ((at + 1, piece), (at, b"\x01")):
+                os.pwrite(journal.fileno(), text, offset)
                 os.fsync(head.fileno())
                 os.fsync(journal.fileno())
         return time.perf_counter() - begun

@@ -65,10 +65,10 @@ class Taker:
     """Makes transactions of takers in turn, and keeps their sequence numbers."""
 
     def __init__(self, others):
-        self.place, self.numbers, self.own, self.others = 0, {}, {}, others
+        self.index, self.numbers, self.own, self.others = 0, {}, {}, others
 
     def look(self, ledger):
-        """Finds what the takers offer: the ids behind those of the image."""
+        """Finds what the takers offer: the ids after those of the image."""
         self.own = {}
         for rank, entry in ledger.entries.items():
             if rank[0] == 2 and entry["body"][1]["offer"] > self.others:
@@ -90,6 +90,6 @@ class Taker:
         return offered(PASSIVE if kind == 6 else SELL, (sets.LUMENS, asset), 50, (3, 1))
 
     def transaction(self, kind):
-        self.place = (self.place + 7) % TAKERS
-        self.numbers[self.place] = seq = self.numbers.get(self.place, 0) + 1
-        return sets.sent(self.place, seq, self.operation(kind, self.place, seq))
+        self.index = (self.index + 7) % TAKERS
+        self.numbers[self.index] = seq = self.numbers.get(self.index, 0) + 1
+        return sets.sent(self.index, seq, self.operation(kind, self.index, seq))

@@ -4,12 +4,12 @@
     bench/workers.py [PROGRAM [MEGABYTES [PAUSE]]]
 
 PROGRAM is the built program, crates/ledger/out/ledger of this repository where none is given. The levels of the image have MEGABYTES in
-all, 200 where nothing is said, in accounts whose files go three levels deep; 520 ledgers of ten payments are closed behind it, and the
+all, 200 where nothing is said, in accounts whose files go three levels deep; 520 ledgers of ten payments are closed after it, and the
 merges of these levels are committed in that time. A record is handed in PAUSE seconds, 0.02 where nothing is said, after the program
 began to wait for it; a real ledger closes each five seconds. All runs have to print the same text.
 
 The script prints for each number of workers the time on the clock of all closes, each from when its record is handed in until its
-`closed` line is read, the longest of them, and the processor time of the closing thread in all closes and what is done behind them, from
+`closed` line is read, the longest of them, and the processor time of the closing thread in all closes and what is done after them, from
 the first record on.
 
 Exit status: 0 where the longest close with two workers is at most a third of the longest without, 1 where it is longer, 2 where a run
@@ -46,15 +46,15 @@ def deep_image(size):
     """An image with so many bytes of accounts in its levels, and how many accounts it has."""
     domain = b"a.domain.of.32.bytes.example.org"
     sample = sets.Account("a", BALANCE, domain=domain)
-    spelled = model.row(model.INIT, model.ENTRY.read(model.Text(sample.xdr())))[3]
-    before, after = spelled.split(sets.key("a"), 1)
-    mark, meta = model.u32(0x80000000 | len(spelled)), model.marked(model.i32(model.META) + model.u32(18) + model.u32(0))
+    encoded = model.row(model.INIT, model.ENTRY.read(model.Text(sample.xdr())))[3]
+    before, after = encoded.split(sets.key("a"), 1)
+    mark, meta = model.u32(0x80000000 | len(encoded)), model.marked(model.i32(model.META) + model.u32(18) + model.u32(0))
     files, made = [b""] * 22, 0
-    # the accounts that send stand in the first level
+    # the accounts that send are in the first level
     senders = sorted(model.row(model.INIT, model.ENTRY.read(model.Text(sets.Account(n, BALANCE).xdr()))) for n in range(SIZE + 1))
     files[0] = meta + b"".join(model.marked(row[3]) for row in senders)
     for (level, is_snap), part in PARTS.items():
-        count = int(size * part) // (len(spelled) + 4)
+        count = int(size * part) // (len(encoded) + 4)
         files[2 * level + is_snap] = meta + b"".join(mark + before + name + after for name in names(made, count))
         made += count
     hashes = [hashlib.sha256(file).digest() if file else bytes(32) for file in files]
@@ -64,13 +64,13 @@ def deep_image(size):
         levels=hashlib.sha256(b"".join(levels)).digest(), seq=FIRST, coins=(made + SIZE + 1) * BALANCE, pool=0, inflation=0, ids=0,
         base_fee=100, reserve=5_000_000, most=1000, skips={name: bytes(32) for name in "abcd"}, ext=(0, None),
     )
-    spelled = model.HEADER.write(header)
+    encoded = model.HEADER.write(header)
     bytes_of_files = b"".join(model.u64(len(file)) + file for file in files)
-    return b"SLI1" + model.marked(spelled) + bytes_of_files, model.sha(spelled)
+    return b"SLI1" + model.marked(encoded) + bytes_of_files, model.sha(encoded)
 
 
 def record(number, previous):
-    """A record of payments, behind the ledger of this hash."""
+    """A record of payments, after the ledger of this hash."""
     listed = [sets.sent(name, number + 1, sets.payment(SIZE, 1_000)).xdr() for name in range(SIZE)]
     digest = model.sha(previous + b"".join(sorted(listed, key=model.sha)))
     value = digest + model.u64(1005 + 5 * number) + model.u32(0) + model.u32(0)
@@ -106,7 +106,7 @@ class Closing:
         while b"closed " not in self.line or not self.line.endswith(b"\n"):
             more = os.read(self.process.stdout.fileno(), 1 << 16)
             if not more:
-                stop(f"the run ended behind {self.line[-200:]!r}")
+                stop(f"the run ended after {self.line[-200:]!r}")
             self.line += more
         took = time.perf_counter() - begun
         self.text += self.line

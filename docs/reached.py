@@ -48,7 +48,7 @@ def direct(line, crates):
 
 
 def names_in(imports, crates):
-    """What a file's imports bring: by name, or by the name of a whole file."""
+    """What a file's imports bring: by name, or by the name of an entire file."""
     names, files = {}, {}
     for line in (direct(line, crates) for line in imports):
         match = re.match(r"(?:pub )?use Rattle\.(\w+)\.specs\.(\w+)\.\{(.*)\}", line)
@@ -84,15 +84,15 @@ def reached(read, start):
             continue
         seen.add((crate, file, name))
         for word in WORD.findall("\n".join(found[name])):
-            front, _, last = word.partition(".")
+            prefix, _, last = word.partition(".")
             if word in found:
                 ahead.append((crate, file, word))
             elif word in names:
                 ahead.append(names[word])
-            elif front in files and last:
-                ahead.append((*files[front], last.split(".")[0]))
-            elif front in found or front in names:
-                ahead.append((crate, file, front) if front in found else names[front])
+            elif prefix in files and last:
+                ahead.append((*files[prefix], last.split(".")[0]))
+            elif prefix in found or prefix in names:
+                ahead.append((crate, file, prefix) if prefix in found else names[prefix])
     return seen
 
 

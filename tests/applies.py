@@ -1,4 +1,4 @@
-"""Whether each wrong body still applies: whether its old text stands exactly once in the file that it names.
+"""Whether each wrong body still applies: whether its old text occurs exactly once in the file that it names.
 
 A file `NAME.edit` in `crates/CRATE/must-fail` or `wrong_bodies/CRATE` has a line `file: PATH`, below the crate, and then pairs of lines
 `old: TEXT` and `new: TEXT`; each pair applies to what the earlier ones made.
@@ -43,7 +43,7 @@ def why_not(crate: str, path: str) -> Optional[str]:
             with open(f"{crate}/{file}", encoding="utf-8") as code:
                 texts[file] = code.read()
         if not old or texts[file].count(old) != 1:
-            return f"`{old}` stands {texts[file].count(old)} times in {file}"
+            return f"`{old}` occurs {texts[file].count(old)} times in {file}"
         texts[file] = texts[file].replace(old, new)
     return None if changes else "it changes nothing"
 

@@ -2,7 +2,7 @@
 
 The text and the four files must be those of a run without workers: whatever the number of workers; where each worker is held back
 until most ledgers are closed; and where such a run is stopped at a call on its store, what a loss of power leaves must open at the
-last ledger that was printed, or at the next. The records, and what is printed and left for them, stand in `stories/beside`;
+last ledger that was printed, or at the next. The records, and what is printed and left for them, are in `stories/beside`;
 `models/beside_story.py` writes them.
 """
 
@@ -14,7 +14,7 @@ from harness import FILES, NETWORK, Program, Tally, after_power_loss, read, thre
 from stops import DISK_FAULT, DONE, FILLS, ended
 
 WORKERS = (0, 1, 2, 4, 8)
-# the first call on the store that is stopped, how far they lie apart, and the least number of them before the run's end: 241 leaves 1
+# the first call on the store that is stopped, how far apart they are, and the least number of them before the run's end: 241 leaves 1
 # when divided by 4 and by 8, so that each call of a close comes
 FIRST_STOP, BETWEEN_STOPS, LEAST_STOPS = 101, 241, 30
 # workers start to work once the lines of this ledger are printed

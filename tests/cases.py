@@ -10,7 +10,7 @@ line, and the bytes of which the head has the numbers. A line of the head is one
 - `before FILE N`, the number of bytes that a file of the store has when the program begins;
 - `after FILE N`, the number of bytes that it must have when the program has ended.
 
-FILE is `image0`, `image1`, `journal0` or `journal1`; a file without a line has no bytes. After the empty line stand the bytes of the
+FILE is `image0`, `image1`, `journal0` or `journal1`; a file without a line has no bytes. After the empty line follow the bytes of the
 last three kinds, in the order of their lines, and then the input.
 
 Each is run twice, plainly and at one byte a read and a write; a case of `run` alone is also run beside 1, 2, 4 and 8 workers. No file
@@ -65,15 +65,15 @@ def read_case(name: str) -> Case:
 
 
 def difference(case: Case, ran: Ran) -> Optional[str]:
-    """What a run answered or left otherwise than the case wants, if anything."""
-    wanted = {name: data for name, data in case.after.items() if data}
-    for what, came, want in (
+    """What a run answered or left otherwise than the case expects, if anything."""
+    left = {name: data for name, data in case.after.items() if data}
+    for what, got, expected in (
         ("status", ran.status, case.status), ("output", ran.out, case.output), ("standard error", ran.err, case.error),
-        ("names of files", sorted(ran.store), sorted(wanted)), ("files", ran.store, wanted), ("strays", ran.strays, []),
+        ("names of files", sorted(ran.store), sorted(left)), ("files", ran.store, left), ("strays", ran.strays, []),
         ("files that aren't synced", unsynced(ran.notes), []),
     ):
-        if came != want:
-            return f"{what}: {str(came)[-200:]}, not {str(want)[-200:]}"
+        if got != expected:
+            return f"{what}: {str(got)[-200:]}, not {str(expected)[-200:]}"
     return None
 
 

@@ -40,7 +40,7 @@ class Ran:
 
 
 class Program:
-    """A built program, and the shim that stands between it and the C library."""
+    """A built program, and the shim between it and the C library."""
 
     def __init__(self, path: str, shim: str, label: str):
         self.path, self.shim, self.label = path, shim, label
@@ -143,15 +143,15 @@ def after_power_loss(begun: Store, notes: bytes, fill: int) -> Store:
             held.extend(bytes(offset - len(held)))
         else:
             pending[name].clear()
-    for name, places in pending.items():
-        for place in places:
-            if place < len(now[name]):
-                now[name][place] = fill
+    for name, offsets in pending.items():
+        for offset in offsets:
+            if offset < len(now[name]):
+                now[name][offset] = fill
     return {name: bytes(data) for name, data in now.items() if data}
 
 
 class Tally:
-    """What was checked: how often each thing was as wanted, and how often otherwise."""
+    """What was checked: how often each thing was as expected, and how often otherwise."""
 
     def __init__(self) -> None:
         self.passed: collections.Counter = collections.Counter()

@@ -1,5 +1,5 @@
-/* Stands between a program and the C library, so that calls of a built program can be made to fail, noted or held back:
- * cc -shared -fPIC -o shim.so shim.c -ldl -lpthread, and LD_PRELOAD=shim.so with any of these in the environment.
+/* Interposed between a program and the C library, so that calls of a built program can be made to fail, noted or held
+ * back: cc -shared -fPIC -o shim.so shim.c -ldl -lpthread, and LD_PRELOAD=shim.so with any of these in the environment.
  *
  *   FAIL_FROM=N    each call on the files of `ledger-store` fails from the N-th on
  *   FAIL_AT=N      the N-th call on them fails, and no other

@@ -6,7 +6,7 @@ worked out from what was written, cut and synced: each byte that is pending is 0
 that follow are run, up to ledger 66, and must give the text of a run that was never stopped.
 
 Then each read of an input and each write of an output fails, for `init`, `run` and `catchup`. The records, and what is printed for
-them, stand in `stories/stopped`; `models/stopped_story.py` writes them.
+them, are in `stories/stopped`; `models/stopped_story.py` writes them.
 """
 
 from __future__ import annotations
@@ -50,7 +50,7 @@ class Story:
         return b"".join(self.lines[first:last]) + self.ends[last]
 
     def printed(self, out: bytes) -> Optional[int]:
-        """How many whole closes a text has, with its end or without; None where it is none of the run's."""
+        """How many complete closes a text has, with its end or without; None where it is none of the run's."""
         return next((count for count in range(ALL + 1) if out in (b"".join(self.lines[:count]), self.text(0, count))), None)
 
     def opens_at(self, store: Store) -> Optional[int]:
@@ -77,7 +77,7 @@ def ended(ran: Ran) -> Tuple[int, bytes]:
 
 
 def image_file(gate: int, epoch: int, image: bytes) -> bytes:
-    """The file of an image behind a gate, in an epoch of some network."""
+    """The file of an image after a gate, in an epoch of some network."""
     return bytes([gate]) + epoch.to_bytes(8, "big") + bytes(32) + len(image).to_bytes(8, "big") + image
 
 
@@ -100,7 +100,7 @@ def check_stops(story: Story, tally: Tally, begun: Store, fault: str, what: str)
         ran = story.program.run(RUN, story.given(0, CLOSES), begun, **{fault: call})
         count, done = story.printed(ran.out), ended(ran) == DONE
         tally.check(f"{what} ends with a disk fault, or is done", done or ended(ran) == DISK_FAULT, ended(ran))
-        tally.check(f"{what} prints whole closes", count is not None, ran.out)
+        tally.check(f"{what} prints complete closes", count is not None, ran.out)
         for fill in FILLS:
             at = story.resumes_at(after_power_loss(begun, ran.notes, fill))
             last = count if done else None if count is None else count + 1
@@ -128,7 +128,7 @@ def check_makings(story: Story, tally: Tally) -> None:
 
 
 def check_making(story: Story, tally: Tally, begun: Store, fault: str, what: str) -> None:
-    """Stops a making at each of its calls: a loss of power leaves no store, or the whole one, and never an image of long ago."""
+    """Stops a making at each of its calls: a loss of power leaves no store, or the complete one, and never an image of long ago."""
     for call in range(1, ENOUGH):
         ran = story.program.run(INIT, story.image, begun, **{fault: call})
         done = ended(ran) == DONE
@@ -138,7 +138,7 @@ def check_making(story: Story, tally: Tally, begun: Store, fault: str, what: str
             opened = story.program.run(RUN, b"", left)
             is_missing = not done and (ended(opened), opened.out) == (MISSING, b"")
             holds = is_missing or (ended(opened), opened.out) == (DONE, story.ends[0])
-            tally.check(f"{what} leaves no store, or the whole one", holds, (call, fill, opened.status, opened.err))
+            tally.check(f"{what} leaves no store, or the complete one", holds, (call, fill, opened.status, opened.err))
         if done:
             break
     tally.check(f"{what} is stopped at each call up to the last", call < ENOUGH - 1)
@@ -173,26 +173,26 @@ def check_reads(story: Story, tally: Tally) -> None:
         bounds = [ahead + len(story.given(0, count)) for count in range(CLOSES + 1)]
         for number in range(1, len(given) + 2):
             ran = story.program.run(words, given, begun, IN_FAIL=number, ONE_BYTE=1)
-            count = 0 if name == "init" else max((place for place, bound in enumerate(bounds) if bound < number), default=0)
+            count = 0 if name == "init" else max((index for index, bound in enumerate(bounds) if bound < number), default=0)
             holds = ended(ran) == READ_FAULT and ran.out == b"".join(story.lines[:count])
             if name == "init":
                 holds = holds and not ran.store
             if name == "run":
                 holds = holds and story.opens_at(ran.store) == count
-            tally.check(f"{name}: a read that fails leaves the lines of the whole records before it", holds, (number, ended(ran)))
+            tally.check(f"{name}: a read that fails leaves the lines of the complete records before it", holds, (number, ended(ran)))
 
 
 def check_writes(story: Story, tally: Tally) -> None:
     """Fails each write of an output of one byte a write; and has the output take so many bytes and then none."""
-    whole = story.text(0, CLOSES)
+    entire = story.text(0, CLOSES)
     starts = [len(b"".join(story.lines[:count])) for count in range(CLOSES + 1)]
     for name, words, begun, given, _ in commands(story)[1:]:
-        for length in range(len(whole)):
+        for length in range(len(entire)):
             # the close whose lines are being written is kept by then
             kept = min(sum(start <= length for start in starts), CLOSES)
             for faults in ({"OUT_FAIL": length + 1, "ONE_BYTE": 1}, {"OUT_ROOM": length}):
                 ran = story.program.run(words, given, begun, **faults)
-                holds = ended(ran) == WRITE_FAULT and ran.out == whole[:length]
+                holds = ended(ran) == WRITE_FAULT and ran.out == entire[:length]
                 if name == "run":
                     holds = holds and story.opens_at(ran.store) == kept
                 what = f"{name}: a write that fails or takes nothing leaves a prefix of the text"

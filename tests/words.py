@@ -186,14 +186,15 @@ def one_payment(passphrase: str) -> Tuple[bytes, bytes, bytes]:
 
 def check_passphrases(program: Program, tally: Tally) -> None:
     for words, passphrase in INITS:
-        image, record, wanted = one_payment(passphrase)
+        image, record, expected = one_payment(passphrase)
         made = program.run(words, image)
         ran = program.run(["run"], record, made.store)
-        tally.check("init has the passphrase as it is written", ended(made) == DONE and ran.out.startswith(wanted), (words, ran.out[:70]))
+        tally.check("init has the passphrase as it is written", ended(made) == DONE and ran.out.startswith(expected), (words, ran.out[:70]))
     for words, passphrase in CATCHUPS:
-        image, record, wanted = one_payment(passphrase)
+        image, record, expected = one_payment(passphrase)
         ran = program.run(words, image + record)
-        tally.check("catchup has the passphrase as it is written", ended(ran) == DONE and ran.out.startswith(wanted), (words, ran.out[:70]))
+        holds = ended(ran) == DONE and ran.out.startswith(expected)
+        tally.check("catchup has the passphrase as it is written", holds, (words, ran.out[:70]))
 
 
 def check_numbers(program: Program, tally: Tally) -> None:
@@ -206,8 +207,8 @@ def check_numbers(program: Program, tally: Tally) -> None:
     tally.check("show has no option", ended(ran) == DONE and ran.out != b"", ran)
     for words, seed, ledgers in SAMPLES:
         ran = program.run(words, b"")
-        wanted = b"sample %d %d " % (seed, ledgers) + (LONGEST if ledgers == 20000 else b"")
-        tally.check("sample has its numbers in either order", ended(ran) == DONE and ran.out.startswith(wanted), (words, ran.out))
+        expected = b"sample %d %d " % (seed, ledgers) + (LONGEST if ledgers == 20000 else b"")
+        tally.check("sample has its numbers in either order", ended(ran) == DONE and ran.out.startswith(expected), (words, ran.out))
 
 
 def check_no_command(program: Program, tally: Tally) -> None:
@@ -226,10 +227,10 @@ def check_not_utf8(program: Program, tally: Tally) -> None:
 
 
 def check_memory(program: Program, tally: Tally) -> None:
-    """Where memory is refused before the words are read. bench/memory.py refuses each call of whole runs."""
-    for faults, wanted in (({"REFUSED": 1}, (8, b"no memory\n")), ({"REFUSED": 1, "ERR_ROOM": 0}, (5, b""))):
+    """Where memory is refused before the words are read. bench/memory.py refuses each call of entire runs."""
+    for faults, expected in (({"REFUSED": 1}, (8, b"no memory\n")), ({"REFUSED": 1, "ERR_ROOM": 0}, (5, b""))):
         ran = program.run(["show"], b"", **faults)
-        tally.check("no memory for the words is reported, where standard error takes it", ended(ran) == wanted, (faults, ended(ran)))
+        tally.check("no memory for the words is reported, where standard error takes it", ended(ran) == expected, (faults, ended(ran)))
 
 
 PARTS = (check_passphrases, check_numbers, check_no_command, check_not_utf8, check_memory)

@@ -5,7 +5,7 @@
 #     wrong_bodies/try.sh            all of them
 #     wrong_bodies/try.sh CRATE..    those of these crates
 #
-# They are tried on a clone of the last commit, which is left behind in no case, a crate at a time. It prints a line for
+# They are tried on a clone of the last commit, which is removed in every case, a crate at a time. It prints a line for
 # each, and last how many were refused and which were not. The status is 0 where each was refused.
 set -euo pipefail
 
@@ -18,18 +18,18 @@ cd "$clone/ledger"
 if [ $# -eq 0 ]; then
     set -- $(cd wrong_bodies && ls -d */ | tr -d /)
 fi
-wanted=0
+expected=0
 : > "$clone/log"
 for crate in "$@"; do
     mkdir -p "crates/$crate/must-fail"
     rm -f "crates/$crate/must-fail/"*.edit
     cp "wrong_bodies/$crate/"*.edit "crates/$crate/must-fail/"
-    wanted=$((wanted + $(ls "wrong_bodies/$crate/"*.edit | wc -l)))
+    expected=$((expected + $(ls "wrong_bodies/$crate/"*.edit | wc -l)))
     rt must-fail "$crate" 2>&1 | tee -a "$clone/log" | grep 'must-fail .*\.edit' || true
 done
 
 refused=$(grep -c ': refused, as it must be' "$clone/log" || true)
 echo
-echo "wrong bodies: $wanted, refused: $refused"
+echo "wrong bodies: $expected, refused: $refused"
 grep 'must-fail .*\.edit' "$clone/log" | grep -v ': refused, as it must be' || true
-[ "$refused" -eq "$wanted" ]
+[ "$refused" -eq "$expected" ]

@@ -11,7 +11,7 @@ FOLDER has a run: `args`, a word a line; `input.bin`; what must be written and a
 import os
 import sys
 
-from case_tools import spelled, write, write_names
+from case_tools import encoded, write, write_names
 from store_model import FILES
 
 CASES = os.path.join(os.path.dirname(os.path.dirname(os.path.abspath(__file__))), "cases")
@@ -26,7 +26,7 @@ def content(path):
 
 
 def read_apart(folder):
-    """The words of a run, its input, what it must come to, and the files of the volume before and after it."""
+    """The words of a run, its input, what it must yield, and the files of the volume before and after it."""
     out, err, status = (content(f"{folder}/expected_{kind}").decode() for kind in ("out", "err", "status"))
     before, after = ([content(f"{folder}/{when}/{name}") for name in FILES] for when in ("before", "after"))
     words = content(f"{folder}/args").decode().splitlines()
@@ -40,7 +40,7 @@ def main():
         names = file.read().split()
     if name not in names:
         names.insert(sum(name.startswith("apart-") for name in names), name)
-    write(f"{CASES}/{name}.case", spelled(*read_apart(folder)))
+    write(f"{CASES}/{name}.case", encoded(*read_apart(folder)))
     write_names(names)
 
 

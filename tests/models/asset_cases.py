@@ -51,7 +51,7 @@ def line_ranges():
         case(f"a line: {name}", image([HOLDER, value]), "10 bad image rule 7")
     for data in BAD_CODES:
         case(f"a line: the code {data.hex()}", image([HOLDER, line("a", code(data))]), "10 bad image rule 7")
-    # issuers needn't stand
+    # issuers needn't exist
     fine = [
         line("a", USD, balance=GREATEST, limit=GREATEST), line("a", EUR, limit=1, flags=0), line("a", LONG, 100, 100, 2),
         line("a", code(b"1\0\0\0"), flags=4), line("a", code(b"az09"), flags=5), line("a", code(b"AZ5AZ" + bytes(7)), flags=6),
@@ -74,16 +74,16 @@ def claimable_ranges():
         ("an extension that names nobody", model.with_sponsor(claimable(ID, payer="a"), None)),
     ]
     for name, held in [
-        ("five levels", predicate(5)), ("five levels behind an and", sets.both(part, deep)), ("a relative time", sets.within(5)),
+        ("five levels", predicate(5)), ("five levels after an and", sets.both(part, deep)), ("a relative time", sets.within(5)),
         ("a relative time in a not", sets.opposite(sets.within(0))), ("a time below 0", sets.before(-1)),
         ("an and of one", u32(1) + many([part])), ("an and of none", u32(1) + many([])), ("an or of one", u32(2) + many([part])),
-        ("a not of nothing", sets.opposite(None)), ("a time below 0 at the second place of an or", sets.either(part, sets.before(-1))),
+        ("a not of nothing", sets.opposite(None)), ("a time below 0 in the second part of an or", sets.either(part, sets.before(-1))),
     ]:
         wrong.append((name, claimable(ID, [("c", part), ("b", held)])))
     wrong += [(f"the code {data.hex()}", claimable(ID, asset=code(data))) for data in BAD_CODES[::4]]
     for name, value in wrong:
         case(f"a claimable balance: {name}", image([PAYER, value]), "10 bad image rule 7")
-    # claimants needn't stand, nor issuers
+    # claimants needn't exist, nor issuers
     deepest = sets.both(sets.either(sets.opposite(sets.before(0)), part), sets.opposite(sets.both(part, sets.before(GREATEST))))
     fine = [
         claimable(sha(b"1"), "bcdefghijk", amount=1), claimable(sha(b"2"), [("n", deepest)], amount=GREATEST, asset=USD, flags=1),
@@ -220,19 +220,19 @@ def offer_rules():
     case("an offer with a sponsor",
          image([{**SELLER, "body": (0, paid)}, BUYING, with_counts(B, sponsoring=1), offer("a", payer="b")], ids=1), "end 5", 0)
     story = Story(image([SELLER, BUYING, sale, B], ids=1))
-    case("a close behind offers", story.close(sent("b", 1, NOTHING)), "end 6", 1)
+    case("a close after offers", story.close(sent("b", 1, NOTHING)), "end 6", 1)
 
 
 def asset_files():
     """Rules 4 and 5 by the files of lines and claimable balances: their forms, the order of their keys, their marks."""
     one, other = line("a"), line("a", LONG)
-    spelled = ENTRY.write(claimable(ID, "bc"))
+    encoded = ENTRY.write(claimable(ID, "bc"))
     for name, file in [
         ("eleven claimants", raw(META_18, i32(INIT) + ENTRY.write(claimable(ID, "bcdefghijkl")))),
         ("a predicate of 33 levels", raw(META_18, i32(INIT) + ENTRY.write(claimable(ID, [("b", sets.ANY_TIME)])).replace(
             key("b") + u32(0), key("b") + predicate(33)))),
         ("an asset of type 4", raw(META_18, i32(DEAD) + u32(1) + u32(0) + key("a") + u32(4))),
-        ("three parts of an and", raw(META_18, i32(INIT) + spelled.replace(key("b") + u32(0), key("b") + u32(1) + many([u32(0)] * 3)))),
+        ("three parts of an and", raw(META_18, i32(INIT) + encoded.replace(key("b") + u32(0), key("b") + u32(1) + many([u32(0)] * 3)))),
         ("falling kinds of assets", raw(META_18, *items((INIT, other), (INIT, one)))),
         ("falling codes", raw(META_18, *items((INIT, line("a", USD)), (INIT, line("a", EUR))))),
         ("falling issuers", raw(META_18, *items((INIT, line("a", USD)), (INIT, line("a", sets.asset("USD", "y")))))),
@@ -245,7 +245,7 @@ def asset_files():
     case("marks: INIT over LIVE of a line", image([HOLDER, one], twice), "10 bad image rule 5")
     dead = {0: bucket((DEAD, claimable(ID)), (LIVE, A)), 2: bucket((DEAD, claimable(ID)))}
     case("marks: DEAD over DEAD of a balance", image([A], dead), "10 bad image rule 5")
-    # what stands below is older, and may be out of its ranges
+    # what lies below is older, and may be out of its ranges
     owner = with_counts(entry(Account("a", 100 * LUMEN, data=2)), sponsoring=2)
     two = line("a", EUR)
     files = {
@@ -307,7 +307,7 @@ def payments():
     # each holder pays by the threshold in the middle
     weak = entry(Account("b", 100 * LUMEN, data=1, thresholds=(0, 1, 2, 2)))
     story = Story(image([*holders(a=(60, 100, 1)), weak, line("b", balance=5)]))
-    story.close(sent("a", 1, pay("b", 1), pay("a", 1, "b"), fee=200, signers="ab"), wants=[sets.failed(R(1, 0), i32(-1))])
+    story.close(sent("a", 1, pay("b", 1), pay("a", 1, "b"), fee=200, signers="ab"), expected=[sets.failed(R(1, 0), i32(-1))])
     case("payments: a holder that is too weak", story, "end 6", 1)
 
 
@@ -317,7 +317,7 @@ def lines():
     trust = sets.change_trust
     entries = holders(a=(60, 100, 1), p=None)
     entries[1] = entry(Account("a", 100 * LUMEN, data=2))
-    # p has 3 reserves, and 1 stroop less than 4 behind its fee
+    # p has 3 reserves, and 1 stroop less than 4 after its fee
     entries[3] = entry(Account("p", 19_999_999))
     story = Story(image([*entries, line("a", gone, 0)]))
     codes = [
@@ -334,7 +334,7 @@ def lines():
     assert exact.line("p", EUR) == (0, 5, 5) and exact.counts("p") == (2, 0, 0)
     case("lines: the last reserve", exact, "end 6", 1)
     case("lines: a stroop less", Story(image([ISSUER, entry(Account("p", 20_000_099))])).run("p", (trust(EUR, 5), R(6, -4))), "end 6", 1)
-    # the issuer's flags when the line is made count; those of lines that stand stay
+    # the issuer's flags when the line is made count; those of existing lines stay
     issuers = [entry(Account(name, 100 * LUMEN, flags=flags)) for name, flags in zip("vwxyz", (0, 1, 2, 10, 15))]
     story = Story(image([A, *issuers]))
     story.run("a", *((trust(sets.asset("USD", name), 5), R(6, 0)) for name in "vwxyz"))
@@ -420,7 +420,7 @@ def authorisation():
     weak = entry(Account("z", 100 * LUMEN, flags=10, thresholds=(0, 1, 2, 2)))
     story = Story(image([weak, *entries[1:]]))
     story.run("z", (flags("a", 1), R(21, 0)), (allow("a", 1), R(7, 0)))
-    story.close(sent("z", 2, allow("a", 0), sets.clawback("a", 1), flags("a"), fee=300), wants=[sets.failed(R(7, 0), i32(-1), R(21, 0))])
+    story.close(sent("z", 2, allow("a", 0), sets.clawback("a", 1), flags("a"), fee=300), expected=[sets.failed(R(7, 0), i32(-1), R(21, 0))])
     case("flags: the thresholds of an issuer", story, "end 7", 2)
 
 
@@ -448,7 +448,7 @@ ALWAYS = sets.ANY_TIME
 def set_aside_codes():
     """What CREATE_CLAIMABLE_BALANCE answers."""
     create = sets.create_claimable
-    # p has 3 reserves and 2 more behind its fees; d is frozen
+    # p has 3 reserves and 2 more after its fees; d is frozen
     entries = [*holders(a=(60, 100, 1), c=None, d=(5, 10, 0), e=(5, 10, 2)), entry(Account("p", 25_000_000))]
     story = Story(image(entries))
     time, deep = sets.within(5), predicate(4)
@@ -478,7 +478,7 @@ def set_aside_codes():
     # the result of one that isn't run, as another one's source is too weak
     idle = Story(image(entries)).close(
         sent("a", 1, create(1, "b"), pay("a", 1, "z"), sets.claim(ID), fee=300),
-        wants=[sets.failed(sets.set_aside(bytes(32)), i32(-1), R(15, 0))])
+        expected=[sets.failed(sets.set_aside(bytes(32)), i32(-1), R(15, 0))])
     case("balances set aside: none without a signature", idle, "end 6", 1)
 
 
@@ -487,7 +487,7 @@ def set_aside():
     create = sets.create_claimable
     legal = image(holders(a=(60, 100, 1), b=(0, 100, 5), c=None))
     story = Story(legal)
-    made = [sets.balance_id("a", 1, place) for place in range(4)]
+    made = [sets.balance_id("a", 1, index) for index in range(4)]
     story.run("a", (create(10, "bc", USD), sets.set_aside(made[0])), (create(10, "b", source="z", asset=USD), sets.set_aside(made[1])),
               (pay("b", 10), R(1, 0)), (create(10, ["c"], USD, "b"), sets.set_aside(made[3])), signers="abz")
     assert story.line("a")[0] == 40 and story.line("b")[0] == 0
@@ -498,9 +498,9 @@ def set_aside():
     case("balances set aside: by holders and by an issuer", story, "end 6", 1)
     # a fee bump's balance has the id of its inner transaction
     inner = sent((4, "a"), 1, NOTHING, create(5, "b"), fee=200)
-    story = Story(legal).close(sets.bumped("c", 300, inner), wants=[sets.inner(1, inner, sets.ok(sets.BUMPED, sets.set_aside(made[1])))])
+    story = Story(legal).close(sets.bumped("c", 300, inner), expected=[sets.inner(1, inner, sets.ok(sets.BUMPED, sets.set_aside(made[1])))])
     case("balances set aside: by a fee bump", story, "end 6", 1)
-    # an image may have the id that an operation will make: that is told after its form, and before what its source has
+    # an image may have the id that an operation will make: that is reported after its form, and before what its source has
     taken = claimable(made[1], "b", payer="c")
     entries = [entry_ for entry_ in holders(a=(60, 100, 1), b=(0, 100, 5), c=None) if entry_["body"][1].get("id") != (0, key("c"))]
     story = Story(image([*entries, with_counts(C, sponsoring=1), taken])).run(
@@ -509,7 +509,7 @@ def set_aside():
     case("balances set aside: an id that is taken", story, "end 6", 1)
     story = Story(image([*entries, with_counts(C, sponsoring=1), taken])).run(
         "a", (NOTHING, sets.BUMPED), (create(61, "b", USD), sets.OP_NOT_SUPPORTED), (sets.claim(made[1], "b"), R(15, 0)), signers="ab")
-    case("balances set aside: an id that is taken, and no means", story, "end 6", 1)
+    case("balances set aside: an id that is taken, and no funds", story, "end 6", 1)
     freed = Story(image([*entries, with_counts(C, sponsoring=1), taken])).run(
         "a", (sets.claim(made[1], "b"), R(15, 0)), (create(1, "b"), sets.set_aside(made[1])), signers="ab")
     assert freed.counts("a") == (2, 0, 1) and freed.counts("c") == (1, 0, 0)
@@ -578,7 +578,7 @@ def times():
         assert story.claimables()[made]["body"][1]["claimants"][0][1]["predicate"] == (4, stored)
         story.run("b", (sets.claim(made), R(15, number)), time=when)
         ahead = int.from_bytes(held[4:], "big")
-        case(f"times: {ahead} seconds behind {last} stored as {stored}, at {when}", story, "end 7", 2)
+        case(f"times: {ahead} seconds after {last} stored as {stored}, at {when}", story, "end 7", 2)
     # predicates of parts; each time they are judged at 2000, and the relative ones count from 1005
     early, late = before(2000), before(2001)
     table = [
@@ -588,10 +588,10 @@ def times():
         (opposite(opposite(opposite(early))), 0), (within(995), -2), (within(996), 0), (both(within(996), opposite(within(995))), 0),
         (either(opposite(ALWAYS), within(996)), 0), (opposite(ALWAYS), -2), (both(ALWAYS, ALWAYS), 0),
     ]
-    created = [(sets.create_claimable(1, [("n", ALWAYS), ("b", held)]), sets.set_aside(sets.balance_id("a", 1, place)))
-               for place, (held, _) in enumerate(table)]
+    created = [(sets.create_claimable(1, [("n", ALWAYS), ("b", held)]), sets.set_aside(sets.balance_id("a", 1, index)))
+               for index, (held, _) in enumerate(table)]
     story = Story(legal).run("a", *created)
-    claimed = [(sets.claim(sets.balance_id("a", 1, place)), R(15, number)) for place, (_, number) in enumerate(table)]
+    claimed = [(sets.claim(sets.balance_id("a", 1, index)), R(15, number)) for index, (_, number) in enumerate(table)]
     story.run("b", *claimed, time=2000)
     case("times: predicates of parts", story, "end 7", 2)
     story = Story(legal).run("a", *created).run("b", *(pair for pair in claimed if pair[1] == R(15, 0)), time=2000)
@@ -689,7 +689,7 @@ def sponsored_balances():
              *sponsored_by("b", "p", (create(101, "b", source="p"), R(14, -5))), signers="bp")
     poor.run("b", *sponsored_by("b", "p", (create(100, "b", source="p"), sets.set_aside(sets.balance_id("b", 2, 1)))), signers="bp")
     assert poor.counts("p") == (1, 0, 1) and poor.counts("b") == (2, 0, 1)
-    case("balances with sponsors: a maker without means", poor, "end 8", 3)
+    case("balances with sponsors: a maker without funds", poor, "end 8", 3)
     rich = Story(legal).run("b", *sponsored_by("b", "p", (create(5_000_000, "abcz", source="p"), sets.set_aside(made))), signers="bp")
     assert rich.counts("p") == (1, 0, 0) and rich.counts("b") == (2, 0, 4) and rich.account("p")["balance"] == 15_000_300
     case("balances with sponsors: a maker without reserve", rich, "end 6", 1)
@@ -756,8 +756,8 @@ def sponsored_signers():
     secrets = sorted([b"one", b"two", b"three", b"four"], key=lambda secret: sha(secret))
     story = Story(image([ISSUER, HOLDER, B, C, line("a")]))
 
-    def put(place, weight=1):
-        return sets.set_options("a", signer=sets.hash_x(secrets[place], weight)), R(5, 0)
+    def put(index, weight=1):
+        return sets.set_options("a", signer=sets.hash_x(secrets[index], weight)), R(5, 0)
 
     def payers():
         account = story.account("a")
@@ -793,15 +793,15 @@ def rewritten():
     assert [entries[rank]["body"][1]["ext"][0] for rank in ranks] == [1, 0] and entries[ranks[1]]["ext"][0] == 1
     case("rewritten: lines with extensions", story, "end 6", 1)
     plain = image([ISSUER, HOLDER, B, line("a", flags=5)])
-    for name, limit, wanted in [("as it was", 100, [(0, LIVE)]), ("with another limit", 99, [(0, LIVE), (1, LIVE)])]:
+    for name, limit, rows in [("as it was", 100, [(0, LIVE)]), ("with another limit", 99, [(0, LIVE), (1, LIVE)])]:
         story = Story(plain).run("a", (trust(limit=0), R(6, 0)), (trust(limit=limit), R(6, 0)))
-        assert changed(story) == wanted
+        assert changed(story) == rows
         case(f"rewritten: a line made anew, {name}", story, "end 6", 1)
     story = Story(legal).run("a", (trust(limit=0), R(6, 0)), (trust(limit=100), R(6, 0)))
     assert changed(story) == [(0, LIVE), (1, LIVE)]
     case("rewritten: a line made anew, without its extension", story, "end 6", 1)
     story = Story(image([ISSUER, A, B]))
-    story.close(sent("a", 1, trust(limit=9)), sent("a", 2, trust(limit=8)), sent("a", 3, trust(limit=0)), wants=[sets.ok(R(6, 0))] * 3)
+    story.close(sent("a", 1, trust(limit=9)), sent("a", 2, trust(limit=8)), sent("a", 3, trust(limit=0)), expected=[sets.ok(R(6, 0))] * 3)
     assert story.line("a") is None and changed(story) == [(0, LIVE)]
     case("rewritten: a line made and removed in one ledger", story, "end 6", 1)
     story = Story(image([ISSUER, A, B])).run("a", (trust(limit=9), R(6, 0)), (trust(limit=0), R(6, 0)), (trust(limit=8), R(6, 0)))
@@ -828,7 +828,7 @@ def all_at_once():
     ]
     codes = [(1, 0), (6, 0), (7, -2), (14, 0), (15, -1), (18, -5), (19, -1), (20, -1), (21, -1)]
     results = [sets.set_aside(sets.balance_id("a", 1, 3)) if kind == 14 else R(kind, number) for kind, number in codes]
-    story = Story(image([*holders(a=(60, 100, 5)), B])).close(sent("a", 1, *operations, fee=900), wants=[sets.failed(*results)])
+    story = Story(image([*holders(a=(60, 100, 5)), B])).close(sent("a", 1, *operations, fee=900), expected=[sets.failed(*results)])
     case("each operation in one transaction", story, "end 6", 1)
 
 
@@ -840,7 +840,7 @@ def asset_records():
         story = Story(legal)
         case(f"a record: {name}", story.add(story.record(sent("a", 1, op))), f"refused 6 {end}")
 
-    # the type of the first operation is at 108, behind the flag of its source, and its fields begin at 112
+    # the type of the first operation is at 108, after the flag of its source, and its fields begin at 112
     bad("a payment of shares", pay("b", 1, asset=u32(3) + ID), "BadXdr 148 BadEnum")
     bad("a line of another type", sets.change_trust(u32(4)), "BadXdr 112 BadEnum")
     bad("ALLOW_TRUST of lumens", sets.operation(7, u32(0) + key("b") + u32(0) + u32(1)), "BadXdr 148 BadEnum")
@@ -855,14 +855,14 @@ def asset_records():
 def consequences():
     """What lines and balances mean for other operations, later ones, and fees."""
     create, claim, trust = sets.create_claimable, sets.claim, sets.change_trust
-    # behind the fee p has just the reserve that its balance set aside needs, and can't bid again until that is claimed
+    # after the fee p has just the reserve that its balance set aside needs, and can't bid again until that is claimed
     story = Story(image([ISSUER, A, B, entry(Account("p", 20_000_200))]))
     made = sets.balance_id("p", 1)
     story.run("p", (create(100, "a"), sets.set_aside(made)))
-    story.close(sent("p", 2, NOTHING), wants=[i32(-7)])
+    story.close(sent("p", 2, NOTHING), expected=[i32(-7)])
     story.run("a", (claim(made), R(15, 0))).run("p", (NOTHING, sets.BUMPED))
     case("consequences: no reserve for a bid", story, "end 9", 4)
-    # whose maker had a sponsor stands when the maker is gone
+    # whose maker had a sponsor exists when the maker is gone
     made = sets.balance_id("b", 1, 1)
     story = Story(image(holders(a=(60, 100, 1), b=None, c=None)))
     story.run("b", *sponsored_by("b", "c", (create(7, "a", source="c"), sets.set_aside(made))), signers="bc")
@@ -873,7 +873,7 @@ def consequences():
     # a line's flag of clawback stays when its issuer gives up its own, and what is set aside follows the one that counts for its maker
     story = Story(image(holders(a=(60, 100, 5), b=(60, 100, 1))))
     story.run("z", (sets.set_options(clears=8), R(5, 0)), (sets.clawback("a", 1), R(19, 0)))
-    made = [sets.balance_id("a", 1, place) for place in range(3)]
+    made = [sets.balance_id("a", 1, index) for index in range(3)]
     story.run("a", (create(5, "b", USD), sets.set_aside(made[0])), (create(5, "b", USD, "z"), sets.set_aside(made[1])),
               (create(5, "b", USD, "b"), sets.set_aside(made[2])), signers="abz")
     claw = sets.clawback_claimable
@@ -896,12 +896,12 @@ def consequences():
     story.run("a", *((trust(asset, source=name), R(6, 0)) for asset in assets for name in "ba"), signers="ab")
     ranks = [item[0] for item in story.ledger.levels.curr[0].rows if item[0][0] == 1]
     assert ranks == sorted(ranks) and len(ranks) == 36
-    story.run("b", *((create(1, "a"), sets.set_aside(sets.balance_id("b", 1, place))) for place in range(12)))
+    story.run("b", *((create(1, "a"), sets.set_aside(sets.balance_id("b", 1, index))) for index in range(12)))
     story.run("a", *((trust(asset, 0, name), R(6, 0)) for asset in assets[::3] for name in "ab"), signers="ab")
-    story.run("a", *((claim(sets.balance_id("b", 1, place)), R(15, 0)) for place in range(0, 12, 2))).close().close()
+    story.run("a", *((claim(sets.balance_id("b", 1, index)), R(15, 0)) for index in range(0, 12, 2))).close().close()
     case("consequences: many keys in order", story, "end 11", 6)
-    story = Story(image([A, B])).run("a", *((create(1, "b"), sets.set_aside(sets.balance_id("a", 1, place))) for place in range(100)))
-    story.run("b", *((claim(sets.balance_id("a", 1, place)), R(15, 0)) for place in range(1, 100)))
+    story = Story(image([A, B])).run("a", *((create(1, "b"), sets.set_aside(sets.balance_id("a", 1, index))) for index in range(100)))
+    story.run("b", *((claim(sets.balance_id("a", 1, index)), R(15, 0)) for index in range(1, 100)))
     assert list(story.claimables()) == [sets.balance_id("a", 1, 0)]
     case("consequences: a hundred balances", story, "end 7", 2)
 
@@ -916,8 +916,8 @@ def asset_story():
         seqs[source] += 1
         return sent(source, seqs[source], *operations, fee=100 * len(operations), **more)
 
-    story.close(*(tx(name, sets.change_trust(USD, 1000)) for name in names), wants=[sets.ok(R(6, 0))] * 8)
-    story.close(tx("z", *(pay(name, 500) for name in names)), wants=[sets.ok(*[R(1, 0)] * 8)])
+    story.close(*(tx(name, sets.change_trust(USD, 1000)) for name in names), expected=[sets.ok(R(6, 0))] * 8)
+    story.close(tx("z", *(pay(name, 500) for name in names)), expected=[sets.ok(*[R(1, 0)] * 8)])
     for number in range(40):
         one, two, three = (names[(number + step) % 8] for step in (0, 1, 3))
         listed = [tx(one, pay(two, 10 + number))]
@@ -926,14 +926,14 @@ def asset_story():
             listed.append(tx(two, create(5, [three, (one, sets.within(20))], USD if number % 2 else sets.LUMENS)))
         if number % 3 == 2 and number > 8:
             # its first claimant claims it two turns later
-            place = number // 3 - 2
-            listed.append(tx(names[(3 * place + 3) % 8], sets.claim(made[place])))
+            index = number // 3 - 2
+            listed.append(tx(names[(3 * index + 3) % 8], sets.claim(made[index])))
         if number % 5 == 4:
             listed.append(tx("z", sets.set_line_flags(three, 1, 2), sets.set_line_flags(three, 2, 1), sets.clawback(three, 1)))
         if number % 7 == 6:
             sandwich = sponsored_by(one, two, (sets.change_trust(EUR, 5, two), R(6, 0)), (sets.change_trust(EUR, 0, two), R(6, 0)))
             listed.append(tx(one, *(op for op, _ in sandwich), signers=one + two))
-        story.close(*listed, wants=[sets.ok(R(1, 0))])
+        story.close(*listed, expected=[sets.ok(R(1, 0))])
         assert all(outcome[:4] == bytes(4) for outcome in story.ledger.outcomes.values()), number
     left = sum(story.line(name)[0] for name in names)
     aside = sum(value["body"][1]["amount"] for value in story.claimables().values() if issuer_of(value["body"][1]["asset"]))

@@ -28,7 +28,7 @@ def line_of(layer, name, asset):
 
 
 def credit(layer, name, asset, amount, no_line, not_authorized, full):
-    """Adds an amount. The last three are the codes for want of a line, of its authorisation, and of room."""
+    """Adds an amount. The last three are the codes where there is no line, no authorisation, and no room."""
     if asset == NATIVE:
         account = layer.account(name)
         refuse(GREATEST - account["balance"] - liabilities(account)["buying"] < amount, full)
@@ -161,7 +161,7 @@ def change_trust(frame, layer, source, op):
 
 
 def set_authorisation(frame, layer, name, asset, flags, low):
-    """Sets a line's flags. Where it loses its authorisation wholly, the account's offers in the asset go, and its shares of pools."""
+    """Sets a line's flags. Where it loses its authorisation entirely, the account's offers in the asset go, and its shares of pools."""
     rank = line_rank(name, asset)
     was = layer.get(rank)["body"][1]["flags"]
     change(layer, rank, flags=flags)
@@ -207,9 +207,9 @@ def clawback(frame, layer, source, op):
 # ---- claimable balances
 
 
-def balance_id(source, number, place):
+def balance_id(source, number, index):
     """The id of the balance that an operation of a transaction makes."""
-    return sha(u32(6) + i32(0) + source + i64(number) + u32(place))
+    return sha(u32(6) + i32(0) + source + i64(number) + u32(index))
 
 
 def is_clawed(layer, source, asset):
@@ -225,7 +225,7 @@ def create_claimable(frame, layer, source, op):
     asset, amount, claimants = op["asset"], op["amount"], op["claimants"]
     are_valid = all(is_predicate(claimant[1]["predicate"], takes_relative=True) for claimant in claimants)
     refuse(amount <= 0 or not is_asset(asset) or not claimants or not are_distinct(claimants) or not are_valid, -1)
-    digest = balance_id(frame.source, frame.number, frame.place)
+    digest = balance_id(frame.source, frame.number, frame.index)
     if layer.get((4, digest)) is not None:
         raise NOT_SUPPORTED
     debit(frame, layer, source, asset, amount, -3, -4, -5)

@@ -21,10 +21,10 @@ def main():
         name, value = b"n%d" % (seq % 7), None if seq % 14 >= 7 else b"at %d" % seq
         story.close(sent("a", seq - FIRST, sets.manage_data(name, value)))
     start, records = story.data[:story.length], story.data[story.length:]
-    (text, told, status), made = init(NETWORK, start, list(NO_FILES))
-    assert (text, told, status) == ("", "", 0)
-    (text, told, status), left = run(records, made)
-    assert (told, status) == ("", 0)
+    (text, err, status), made = init(NETWORK, start, list(NO_FILES))
+    assert (text, err, status) == ("", "", 0)
+    (text, err, status), left = run(records, made)
+    assert (err, status) == ("", 0)
     write(f"{STORIES}/beside/image", start)
     write(f"{STORIES}/beside/records", records)
     write(f"{STORIES}/beside/text", text)

@@ -1,4 +1,4 @@
-"""Images, records behind them, and cases: what the cases of accounts, in `run_cases.py`, and those of `asset_cases.py` are made with."""
+"""Images, records after them, and cases: what the cases of accounts, in `run_cases.py`, and those of `asset_cases.py` are made with."""
 
 import os
 import re
@@ -22,7 +22,7 @@ NO_RESULTS = "df3f619804a92fdb4057192dc43dd748ea778adc52bc498ce80524c014b81119"
 # the files of a volume without bytes
 NO_FILES = (b"",) * len(FILES)
 
-# each a name, words, an input, what they come to (output, text on standard error, status), and a volume's files before and after
+# each a name, words, an input, what they yield (output, text on standard error, status), and a volume's files before and after
 CASES = []
 
 # ---- images
@@ -68,7 +68,7 @@ def line(name, asset=USD, balance=0, limit=100, flags=1, owed=None, uses=None, p
 
 def claimable(digest, claimants="b", amount=1, asset=sets.LUMENS, payer="a", flags=None):
     """The entry of a claimable balance; where flags are given, with an extension."""
-    listed = Rows(CLAIMANT).read(Text(sets.spelled_claimants(claimants)))
+    listed = Rows(CLAIMANT).read(Text(sets.encoded_claimants(claimants)))
     ext = (0, None) if flags is None else (1, {"ext": (0, None), "flags": flags})
     body = dict(balance=(0, digest), claimants=listed, asset=ASSET.read(Text(asset)), amount=amount, ext=ext)
     return model.with_sponsor({"modified": 1, "body": (4, body), "ext": (0, None)}, payer and key(payer))
@@ -92,8 +92,8 @@ def offer(name, number=1, selling=sets.LUMENS, buying=USD, amount=1, price=(1, 1
 
 def bucket(*rows, version=18):
     """A bucket of rows (mark, entry), or (DEAD, entry), in the order of their keys."""
-    spelled = [row(arm, key_of(value) if arm == DEAD else value) for arm, value in rows]
-    return Bucket(version, sorted(spelled, key=lambda item: item[0]))
+    encoded = [row(arm, key_of(value) if arm == DEAD else value) for arm, value in rows]
+    return Bucket(version, sorted(encoded, key=lambda item: item[0]))
 
 
 def raw(*items):
@@ -132,11 +132,11 @@ def lumens_of(value):
 
 
 def image(entries=(), files=None, at=0, **fields):
-    """An image. Its entries stand in the file `at`, unless `files` has files or buckets by their places; each field of its header may
+    """An image. Its entries are in the file `at`, unless `files` has files or buckets by their indices; each field of its header may
     be another. Its lumens are those of the accounts and of claimable balances."""
     if files is None:
         files = {at: bucket(*((INIT, value) for value in entries))} if entries else {}
-    hashes = [files.get(place, b"") for place in range(22)]
+    hashes = [files.get(index, b"") for index in range(22)]
     files = [file if isinstance(file, bytes) else file.file for file in hashes]
     digests = [sha(file) if file else NO_HASH for file in files]
     levels = sha(b"".join(sha(curr + snap) for curr, snap in zip(digests[0::2], digests[1::2])))
@@ -146,7 +146,7 @@ def image(entries=(), files=None, at=0, **fields):
 
 
 class Story:
-    """An image and records behind it."""
+    """An image and records after it."""
 
     def __init__(self, data):
         self.data, self.length = data, len(data)
@@ -166,13 +166,13 @@ class Story:
         self.data += marked(record)
         return self
 
-    def close(self, *listed, wants=(), **changes):
-        """A record that closes the ledger. `wants` are the outcomes of its transactions, by hand."""
+    def close(self, *listed, expected=(), **changes):
+        """A record that closes the ledger. `expected` are the outcomes of its transactions, by hand."""
         record = self.record(*listed, **changes)
         self.ledger.close(record)
-        for envelope, want in zip(listed, wants):
+        for envelope, end in zip(listed, expected):
             got = self.ledger.outcomes[envelope.hash]
-            assert got == want, (got.hex(" ", 4), want.hex(" ", 4))
+            assert got == end, (got.hex(" ", 4), end.hex(" ", 4))
         return self.add(record)
 
     def run(self, source, *pairs, signers=None, time=None):
@@ -181,7 +181,7 @@ class Story:
         seq = self.account(source)["seq"] + 1
         succeeds = all(result[:4] == bytes(4) and result[8:12] == bytes(4) for result in results)
         envelope = sent(source, seq, *operations, fee=100 * len(pairs), signers=signers)
-        return self.close(envelope, time=time, wants=[(sets.ok if succeeds else sets.failed)(*results)])
+        return self.close(envelope, time=time, expected=[(sets.ok if succeeds else sets.failed)(*results)])
 
     def account(self, name):
         return self.ledger.entries[0, key(name)]["body"][1]
@@ -197,7 +197,7 @@ class Story:
         return value and tuple(value["body"][1][field] for field in ("balance", "limit", "flags"))
 
     def claimables(self):
-        """The claimable balances that stand, by their ids."""
+        """The claimable balances that exist, by their ids."""
         return {rank[1]: value for rank, value in self.ledger.entries.items() if rank[0] == 4}
 
     def refused(self, *listed, **changes):
@@ -212,22 +212,22 @@ def upgrade(kind, value):
 # ---- cases
 
 
-def test_end(name, came, end, closes=None):
-    """Holds what a run came to to what is said by hand. `end` is the last line of the output, or that on standard error where a number
-    of its status stands in front; `end LEDGER` alone leaves the hash to the model. `closes` is how many ledgers close."""
-    out, err, status = came
+def test_end(name, yielded, end, closes=None):
+    """Compares what a run yielded with what is said by hand. `end` is the last line of the output, or that on standard error where a number
+    of its status precedes; `end LEDGER` alone leaves the hash to the model. `closes` is how many ledgers close."""
+    out, err, status = yielded
     last = (out.splitlines() or [""])[-1]
-    told = f"{status} {err.strip()}" if err else last.rsplit(" ", 1)[0] if last.startswith("end ") else last
-    assert told == end, (name, told, end)
+    reported = f"{status} {err.strip()}" if err else last.rsplit(" ", 1)[0] if last.startswith("end ") else last
+    assert reported == end, (name, reported, end)
     assert closes is None or sum(line.startswith("closed ") for line in out.splitlines()) == closes, name
 
 
 def case(name, data, end, closes=None):
     """A case of `catchup`, with its end by hand (`test_end`)."""
     data = data.data if isinstance(data, Story) else data
-    came = catchup(NETWORK, data)
-    test_end(name, came, end, closes)
-    CASES.append((name, ["catchup", "--network", NETWORK], data, came, NO_FILES, NO_FILES))
+    yielded = catchup(NETWORK, data)
+    test_end(name, yielded, end, closes)
+    CASES.append((name, ["catchup", "--network", NETWORK], data, yielded, NO_FILES, NO_FILES))
 
 
 def slug(name):
@@ -236,9 +236,9 @@ def slug(name):
     return "-".join("".join(letter if letter.isalnum() else " " for letter in name.replace("'", "").lower()).split())
 
 
-def spelled(words, data, came, before, after):
-    """The file of a case: a head of lines, the bytes that it tells, and the input."""
-    out, err, status = came
+def encoded(words, data, yielded, before, after):
+    """The file of a case: a head of lines, the bytes that it counts, and the input."""
+    out, err, status = yielded
     files = [(f"{when} {name}", file) for when, files in (("before", before), ("after", after)) for name, file in zip(FILES, files) if file]
     parts = [("output", out.encode()), *files]
     head = [f"word {word}" for word in words] + [f"status {status}"] + [f"error {line}" for line in err.splitlines()]

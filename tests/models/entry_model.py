@@ -8,7 +8,7 @@ from set_cases import GREATEST, i32, i64, many, sha, u32, u64  # noqa: F401
 
 
 class Wrong(Exception):
-    """A text that doesn't spell a value: the place and the kind of its first fault."""
+    """A text that doesn't encode a value: the offset and the kind of its first fault."""
 
     def __init__(self, at, kind):
         super().__init__(at, kind)
@@ -16,7 +16,7 @@ class Wrong(Exception):
 
 
 class Text:
-    """A text that is read from its front."""
+    """A text that is read from its start."""
 
     def __init__(self, data):
         self.data, self.at = data, 0
@@ -68,11 +68,11 @@ class Opaque:
         if count > self.most:
             raise Wrong(at, "TooLong")
         fill = -count % 4
-        whole = text.take(count + fill)
-        for place in range(count, count + fill):
-            if whole[place]:
-                raise Wrong(text.at - len(whole) + place, "Padding")
-        return whole[:count]
+        padded = text.take(count + fill)
+        for index in range(count, count + fill):
+            if padded[index]:
+                raise Wrong(text.at - len(padded) + index, "Padding")
+        return padded[:count]
 
     def write(self, value):
         return u32(len(value)) + value + bytes(-len(value) % 4)
@@ -157,8 +157,8 @@ class Predicate:
         return self.union.write(value)
 
 
-class Spelled:
-    """A value with its own spelling."""
+class Encoded:
+    """A value with its own encoding."""
 
     def __init__(self, kind):
         self.kind = kind
@@ -249,13 +249,13 @@ TAIL = dict(
     fee=U32, seq=I64, bounds=Maybe(Struct(least=U64, most=U64)), memo=MEMO, operations=Rows(OPERATION, 100), ext=EXT_0,
 )
 SIGNATURES = Rows(Struct(hint=Fixed(4), signature=Opaque(64)), 20)
-SIGNED = Struct(tx=Spelled(Struct(source=MUXED, **TAIL)), signatures=SIGNATURES)
+SIGNED = Struct(tx=Encoded(Struct(source=MUXED, **TAIL)), signatures=SIGNATURES)
 ENVELOPE = Union({
-    0: Struct(tx=Spelled(Struct(source=HASH, **TAIL)), signatures=SIGNATURES),
+    0: Struct(tx=Encoded(Struct(source=HASH, **TAIL)), signatures=SIGNATURES),
     2: SIGNED,
-    5: Struct(tx=Spelled(Struct(source=MUXED, fee=I64, inner=Union({2: SIGNED}), ext=EXT_0)), signatures=SIGNATURES),
+    5: Struct(tx=Encoded(Struct(source=MUXED, fee=I64, inner=Union({2: SIGNED}), ext=EXT_0)), signatures=SIGNATURES),
 })
-SET = Struct(previous=HASH, txs=Rows(Spelled(ENVELOPE)))
+SET = Struct(previous=HASH, txs=Rows(Encoded(ENVELOPE)))
 VALUE = Struct(
     set=HASH, time=U64, upgrades=Rows(Opaque(128), 6), ext=Union({0: NOTHING, 1: Struct(node=ACCOUNT_ID, signature=Opaque(64))}),
 )
@@ -268,8 +268,8 @@ HEADER = Struct(
 RECORD = Struct(seq=U32, set=SET, value=VALUE)
 
 
-def read_whole(kind, data):
-    """The value that a text spells, and no more."""
+def read_entire(kind, data):
+    """The value that a text encodes, and no more."""
     text = Text(data)
     value = kind.read(text)
     if text.at < len(data):
@@ -375,8 +375,8 @@ def with_second(account, said):
     return {**account, "ext": (1, {"liabilities": liabilities(account), "ext": (2, said)})}
 
 
-def sponsor_of_signer(account, place):
-    payer = second(account)["sponsors"][place]
+def sponsor_of_signer(account, index):
+    payer = second(account)["sponsors"][index]
     return None if payer is None else payer[1]
 
 
@@ -397,7 +397,7 @@ def issuer_of(asset):
 
 
 def is_asset(asset):
-    """Whether an asset is lumens, or has a code of letters and digits: 1 to 4 of them, or 5 to 12, and zeros behind them."""
+    """Whether an asset is lumens, or has a code of letters and digits: 1 to 4 of them, or 5 to 12, and zeros after them."""
     if asset[0] == 0:
         return True
     code = asset[1]["code"].rstrip(b"\0")
@@ -441,11 +441,11 @@ def refuse(holds, code):
 
 class Frame:
     """What the operations of a transaction share: the closing ledger, open sponsorships from the sponsored to the sponsor, the greatest
-    id of offers so far, and what other ids are made from: the transaction's source and number, and the operation's place."""
+    id of offers so far, and what other ids are made from: the transaction's source and number, and the operation's index."""
 
     def __init__(self, header, time, source, number):
         self.reserve, self.seq, self.time, self.open = header["reserve"], header["seq"] + 1, time, {}
-        self.source, self.number, self.place, self.ids = source, number, 0, header["ids"]
+        self.source, self.number, self.index, self.ids = source, number, 0, header["ids"]
         self.flags = header["ext"][1]["flags"] if header["ext"][0] else 0
 
 
@@ -512,8 +512,8 @@ def add_signer(frame, layer, owner, signer, low):
     count(layer, owner, subs=1)
     pay(layer, owner, payer, 1)
     account = layer.account(owner)
-    place = sum(other["key"] < signer["key"] for other in account["signers"])
-    set_signers(layer, owner, lambda rows, own: rows[:place] + [own] + rows[place:], signer, None if payer is None else (0, payer))
+    index = sum(other["key"] < signer["key"] for other in account["signers"])
+    set_signers(layer, owner, lambda rows, own: rows[:index] + [own] + rows[index:], signer, None if payer is None else (0, payer))
 
 
 def set_signers(layer, owner, change, signer, payer):
@@ -527,20 +527,20 @@ def set_signers(layer, owner, change, signer, payer):
     layer.set_account(owner, **changed)
 
 
-def place_of(account, key):
-    places = [place for place, signer in enumerate(account["signers"]) if signer["key"] == key]
-    return places[0] if places else None
+def index_of(account, key):
+    found = [index for index, signer in enumerate(account["signers"]) if signer["key"] == key]
+    return found[0] if found else None
 
 
 def remove_signer(layer, owner, key):
     account = layer.account(owner)
-    place = None if account is None else place_of(account, key)
-    if place is None:
+    index = None if account is None else index_of(account, key)
+    if index is None:
         return
-    payer = sponsor_of_signer(account, place)
+    payer = sponsor_of_signer(account, index)
     count(layer, owner, subs=-1)
     pay(layer, owner, payer, -1)
-    set_signers(layer, owner, lambda rows, own: rows[:place] + rows[place + 1:], None, None)
+    set_signers(layer, owner, lambda rows, own: rows[:index] + rows[index + 1:], None, None)
 
 
 def move(frame, layer, owner, k, old, new, low):

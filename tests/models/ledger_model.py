@@ -2,7 +2,7 @@
 
 It shares nothing with the program. It follows the protocol's XDR (RFC 4506; the .x files of stellar-core), CAP-0003 for offers, CAP-0015
 for fee bumps, CAP-0018 for authorisation, CAP-0020 for buckets, CAP-0023 for claimable balances, CAP-0033 for sponsorship, CAP-0035 for
-clawback, CAP-0038 for pools, and stellar-core for the rest. Values and reserves stand in `entry_model.py`, the operations of assets in
+clawback, CAP-0038 for pools, and stellar-core for the rest. Values and reserves are in `entry_model.py`, the operations of assets in
 `asset_model.py`, what offers bind in `offer_model.py`, trades in `trade_model.py`, pools in `pool_model.py`, paths in `path_model.py`.
 `run_cases.py` makes cases with it, `bench/` inputs. Python 3.9 or later and its standard library.
 """
@@ -14,8 +14,8 @@ import pool_model as pools
 import trade_model as trades
 from entry_model import (  # noqa: F401  (some names are for the scripts that use this ledger)
     DEAD, ENTRY, GREATEST, HEADER, INIT, ITEM, LIVE, META, RECORD, U32, U64, UPGRADE, Frame, Layer, Refused, Text, Wrong, account_key,
-    add_signer, add_subentry, available, count, i32, i64, is_text, key_of, liabilities, many, marked, move, muxed_key, place_of,
-    rank_of_key, read_whole, refuse, remove_signer, remove_subentry, second, sha, sponsor_of, sponsor_of_signer, test_payer, u32, u64,
+    add_signer, add_subentry, available, count, i32, i64, index_of, is_text, key_of, liabilities, many, marked, move, muxed_key,
+    rank_of_key, read_entire, refuse, remove_signer, remove_subentry, second, sha, sponsor_of, sponsor_of_signer, test_payer, u32, u64,
     with_second, with_sponsor,
 )
 
@@ -25,7 +25,7 @@ NO_HASH = bytes(32)
 
 
 class Bucket:
-    """What a bucket's file holds: a version, or None for the empty file, and rows of rank, mark, value and spelling in order."""
+    """What a bucket's file holds: a version, or None for the empty file, and rows of rank, mark, value and encoding in order."""
 
     def __init__(self, version, rows, file=None):
         self.version, self.rows, self.kept = version, rows, file
@@ -54,7 +54,7 @@ def read_bucket(file):
         if not mark & 0x80000000:
             raise Wrong(at, "BadMark")
         piece = text.take(mark & 0x7FFFFFFF)
-        arm, value = read_whole(ITEM, piece)
+        arm, value = read_entire(ITEM, piece)
         if (arm == META) != (version is None):
             raise Wrong(at, "SecondMeta" if arm == META else "NoMeta")
         if arm == META:
@@ -73,7 +73,7 @@ def row(arm, value):
 
 
 def joined(old, new):
-    """What two rows of one key come to, or nothing (CAP-0020)."""
+    """What two rows of one key yield, or nothing (CAP-0020)."""
     pair = old[1], new[1]
     if pair == (DEAD, INIT):
         return row(LIVE, new[2])
@@ -103,7 +103,7 @@ def spills(level, seq):
 
 
 class Levels:
-    """The curr and snap of eleven levels behind a ledger. What a level takes next is merged only when it is taken."""
+    """The curr and snap of eleven levels after a ledger. What a level takes next is merged only when it is taken."""
 
     def __init__(self, files, seq):
         self.curr, self.snap, self.next = list(files[0::2]), list(files[1::2]), [None] * 11
@@ -167,11 +167,11 @@ def set_options(frame, layer, source, op):
     flags = account["flags"] & ~clears | sets
     refuse(flags & 8 and not flags & 2, -10)
     if signer is not None:
-        place = place_of(account, signer["key"])
+        index = index_of(account, signer["key"])
         if signer["weight"] == 0:
             remove_signer(layer, source, signer["key"])
-        elif place is not None:
-            layer.set_account(source, signers=account["signers"][:place] + [signer] + account["signers"][place + 1:])
+        elif index is not None:
+            layer.set_account(source, signers=account["signers"][:index] + [signer] + account["signers"][index + 1:])
         else:
             refuse(len(account["signers"]) >= 20, -2)
             add_signer(frame, layer, source, signer, -1)
@@ -232,16 +232,16 @@ def end_sponsoring(frame, layer, source, op):
 def revoke_signer(frame, layer, source, body):
     name = body["id"][1]
     account = layer.account(name)
-    place = None if account is None else place_of(account, body["key"])
-    refuse(place is None, -1)
-    payer = sponsor_of_signer(account, place)
+    index = None if account is None else index_of(account, body["key"])
+    refuse(index is None, -1)
+    payer = sponsor_of_signer(account, index)
     refuse((name if payer is None else payer) != source, -2)
     is_moved, payer = move(frame, layer, name, 1, payer, frame.open.get(source), -3)
     if is_moved:
         account = layer.account(name)
         said = second(account)
         new = None if payer is None else (0, payer)
-        sponsors = said["sponsors"][:place] + [new] + said["sponsors"][place + 1:]
+        sponsors = said["sponsors"][:index] + [new] + said["sponsors"][index + 1:]
         layer.set_account(name, **with_second(account, {**said, "sponsors": sponsors}))
 
 
@@ -272,7 +272,7 @@ OPERATIONS = {
 
 
 def level_of(op):
-    """The place of the threshold that an operation's signatures have to reach."""
+    """The index of the threshold that an operation's signatures have to reach."""
     kind, body = op["body"]
     if kind in (7, 9, 11, 15, 21):
         return 1
@@ -318,20 +318,20 @@ class Signatures:
     def check(self, account, level):
         if account is None:
             return False
-        need, reached = account["thresholds"][level], 0
+        threshold, reached = account["thresholds"][level], 0
         for signer in account["signers"]:
             if signer["key"] == (1, self.digest):
                 reached += min(signer["weight"], 255)
-                if reached >= need:
+                if reached >= threshold:
                     return True
         left = [signer for signer in account["signers"] if signer["key"][0] == 2]
-        for place, row_ in enumerate(self.rows):
+        for index, row_ in enumerate(self.rows):
             for signer in left:
                 if signer["key"][1][-4:] == row_["hint"] and signer["key"][1] == sha(row_["signature"]):
-                    self.used.add(place)
+                    self.used.add(index)
                     left.remove(signer)
                     reached += min(signer["weight"], 255)
-                    if reached >= need:
+                    if reached >= threshold:
                         return True
                     break
         return False
@@ -347,8 +347,8 @@ class Signatures:
 class Sent:
     """A transaction of a set."""
 
-    def __init__(self, network, spelled):
-        (self.arm, body), raw = spelled
+    def __init__(self, network, encoded):
+        (self.arm, body), raw = encoded
         self.tx, tx_raw = body["tx"]
         self.signatures, self.full = body["signatures"], sha(raw)
         if self.arm == 0:
@@ -398,7 +398,7 @@ def checked(header, frame, layer, tx, source, signatures, pays):
 
 
 def run_transaction(header, time, layer, tx, source, signatures, pays=True, is_first=False):
-    """The outcome of a transaction, by its number and what stands behind it."""
+    """The outcome of a transaction, by its number and what follows it."""
     frame = Frame(header, time, source, tx["seq"])
     end = i32(-12) if is_first else checked(header, frame, layer, tx, source, signatures, pays)
     for name in [source, *(source_of(source, op) for op in tx["operations"])]:
@@ -407,8 +407,8 @@ def run_transaction(header, time, layer, tx, source, signatures, pays=True, is_f
         return end
     child = Layer(layer)
     ran = []
-    for place, op in enumerate(tx["operations"]):
-        frame.place = place
+    for index, op in enumerate(tx["operations"]):
+        frame.index = index
         ran.append(run_operation(frame, child, source_of(source, op), op))
     results = many([result for result, _ in ran])
     if not all(succeeds for _, succeeds in ran):
@@ -481,18 +481,18 @@ class BadImage(Exception):
 def upgraded(header, upgrades):
     """The header with all that is asked for."""
     asked, before = [], 0
-    for place, data in enumerate(upgrades):
+    for index, data in enumerate(upgrades):
         try:
-            kind, value = read_whole(UPGRADE, data)
+            kind, value = read_entire(UPGRADE, data)
         except Wrong:
-            raise BadRecord(f"BadUpgrade {place}") from None
+            raise BadRecord(f"BadUpgrade {index}") from None
         if kind <= before or kind in (2, 4) and value == 0 or kind == 5 and value > 7:
-            raise BadRecord(f"BadUpgrade {place}")
+            raise BadRecord(f"BadUpgrade {index}")
         before = kind
         asked.append((kind, value))
-    for place, (kind, value) in enumerate(asked):
+    for index, (kind, value) in enumerate(asked):
         if kind == 1 or kind == 4 and value > header["reserve"]:
-            raise BadRecord(f"UpgradeOutOfProfile {place}")
+            raise BadRecord(f"UpgradeOutOfProfile {index}")
     for kind, value in asked:
         if kind == 5:
             header = {**header, "ext": (1, {"flags": value, "ext": (0, None)})}
@@ -518,7 +518,7 @@ def with_skips(header):
 
 
 class Ledger:
-    """A ledger behind its last close."""
+    """A ledger after its last close."""
 
     def __init__(self, network, header, levels, entries):
         self.network, self.header, self.levels, self.outcomes = network, header, levels, {}
@@ -528,7 +528,7 @@ class Ledger:
     def close(self, data):
         """Closes the ledger by a record's bytes, and answers the lines of its transactions and of the close."""
         try:
-            record = read_whole(RECORD, data)
+            record = read_entire(RECORD, data)
         except Wrong as wrong:
             raise BadRecord(f"BadXdr {wrong.at} {wrong.kind}") from None
         header, value, digest = self.header, record["value"], set_hash(record)
@@ -544,7 +544,7 @@ class Ledger:
             if holds:
                 raise BadRecord(fault)
         upgrade = upgraded(header, value["upgrades"])
-        listed = [Sent(self.network, spelled) for spelled in record["set"]["txs"]]
+        listed = [Sent(self.network, encoded) for encoded in record["set"]["txs"]]
         order = in_order(listed, digest)
         top = Layer(self.entries)
         for sent in order:
@@ -591,8 +591,8 @@ class Ledger:
 # ---- images
 
 
-def standing(files):
-    """The entries that levels stand for, where their marks fit."""
+def existing(files):
+    """The entries that levels represent, where their marks fit."""
     entries, above = {}, {}
     if files[21].version is not None:
         raise BadImage("rule 5")
@@ -638,7 +638,7 @@ class Counts:
         self.subs, self.sponsored, self.sponsoring = ({name: 0 for name in accounts} for _ in range(3))
 
     def add(self, owner, payer, k, subs=0):
-        """Counts k reserves of an owner, if there is one, that somebody else pays for, where a payer is told."""
+        """Counts k reserves of an owner, if there is one, that somebody else pays for, where a payer is given."""
         for name in (owner, payer):
             if name is not None and name not in self.accounts:
                 raise BadImage("rule 8")
@@ -659,8 +659,8 @@ class Counts:
         name = body["seller" if kind == 2 else "id"][1]
         k = 2 if kind == 0 or kind == 1 and body["asset"][0] == 3 else 1
         self.add(name, sponsor_of(entry), k, 0 if kind == 0 else k)
-        for place in range(len(body["signers"]) if kind == 0 else 0):
-            self.add(name, sponsor_of_signer(body, place), 1, 1)
+        for index in range(len(body["signers"]) if kind == 0 else 0):
+            self.add(name, sponsor_of_signer(body, index), 1, 1)
 
     def has(self, name, account):
         said = second(account)
@@ -678,7 +678,7 @@ class Shares:
             if line["asset"][0] == 3:
                 self.add(entries, line)
         ranks = {assets.line_rank(line["id"][1], line["asset"]): assets.uses_of(line) for line in bodies[1]}
-        self.are_counted = all(self.uses.get(rank, 0) == uses for rank, uses in ranks.items()) and all(map(self.is_whole, self.pools))
+        self.are_counted = all(self.uses.get(rank, 0) == uses for rank, uses in ranks.items()) and all(map(self.is_consistent, self.pools))
         self.lumens = [pool[f"reserve_{side}"] for pool in self.pools.values() for side in "ab" if pool[side] == assets.NATIVE]
 
     def add(self, entries, line):
@@ -694,7 +694,7 @@ class Shares:
                     raise BadImage("rule 8")
                 self.uses[rank] = self.uses.get(rank, 0) + 1
 
-    def is_whole(self, name):
+    def is_consistent(self, name):
         pool = self.pools[name]
         kept = {pool["reserve_a"] > 0, pool["reserve_b"] > 0, pool["shares"] > 0}
         return len(kept) == 1 and pool["shares"] == self.shares[name] and pool["lines"] == self.lines[name]
@@ -741,7 +741,7 @@ def judge_entries(header, entries):
 def ledger_of(network, header_bytes, files):
     """The ledger of an image."""
     try:
-        header = read_whole(HEADER, header_bytes)
+        header = read_entire(HEADER, header_bytes)
     except Wrong:
         raise BadImage("rule 1") from None
     if header["version"] != 18:
@@ -755,7 +755,7 @@ def ledger_of(network, header_bytes, files):
         buckets = [read_bucket(file) for file in files]
     except Wrong:
         raise BadImage("rule 4") from None
-    entries, levels = standing(buckets), Levels(buckets, header["seq"])
+    entries, levels = existing(buckets), Levels(buckets, header["seq"])
     if levels.hash != header["levels"]:
         raise BadImage("rule 6")
     judge_entries(header, entries)
@@ -766,7 +766,7 @@ def ledger_of(network, header_bytes, files):
 
 
 def take_mark(text, most):
-    """Passes by a record mark, and answers how many bytes are behind it."""
+    """Passes by a record mark, and answers how many bytes follow it."""
     at = text.at
     mark = U32.read(text)
     if not mark & 0x80000000 or mark & 0x7FFFFFFF > most:
@@ -775,7 +775,7 @@ def take_mark(text, most):
 
 
 def cut_image(text):
-    """The header and the files of the image at the front of a text."""
+    """The header and the files of the image at the start of a text."""
     if text.take(4) != b"SLI1":
         raise Wrong(0, "a magic")
     header, files, room = text.take(take_mark(text, 16777216)), [], 536870912

@@ -94,7 +94,7 @@ EXCEEDED = i32(-5)
 
 
 def offers_of(story):
-    """The offers that stand, by their ids: the seller, the amount, the price and the flags."""
+    """The offers that exist, by their ids: the seller, the amount, the price and the flags."""
     bodies = [value["body"][1] for rank, value in story.ledger.entries.items() if rank[0] == 2]
     return {body["offer"]: (body["amount"], (body["price"]["n"], body["price"]["d"]), body["flags"]) for body in bodies}
 
@@ -142,7 +142,7 @@ def crossings():
     story.run("a", (sell(10), made(SELL, offer("a", 10, amount=6), atom("b", 1, USD, 4, LUMENS, 4))))
     assert offers_of(story) == {10: (6, ONE, 0)} and story.counts("b") == (2, 0, 0) and story.counts("a") == (3, 0, 0)
     case("crossing: a part", story, "end 6", 1)
-    # nobody crosses its own offer, also behind another one's
+    # nobody crosses its own offer, also after another one's
     rows = [offer("b", 1, USD, LUMENS, 4), offer("a", 2, USD, LUMENS, 4)]
     story = books({"a": {USD: (9, 100, 1)}, "b": {USD: (10, 100, 1)}}, rows)
     story.run("a", (sell(5), R(SELL, -8)), (buy(5), R(BUY, -8)), (passive(5, (1, 2)), R(PASSIVE, -8)),
@@ -313,7 +313,7 @@ def revocations():
         ("but for its liabilities, by its flags", sets.set_line_flags("a", 1, 2), {2, 4, 7}),
     ]:
         story = books(lines, rows)
-        story.close(sent("z", 1, frozen), wants=[sets.ok(R(frozen[7], 0))])
+        story.close(sent("z", 1, frozen), expected=[sets.ok(R(frozen[7], 0))])
         assert set(offers_of(story)) == {1, 3} | set(kept)
         if not kept:
             assert owes(story, "a") == (5, 0) and owes(story, "a", USD) == (0, 0) and owes(story, "a", EUR) == (0, 5)
@@ -339,7 +339,7 @@ def revocations():
     # operations that aren't run
     idle = books({"a": {USD: (20, 100, 1)}}).close(
         sent("a", 1, sell(5), passive(5), buy(5), sets.payment("a", 1, "z"), fee=400),
-        wants=[sets.failed(gone(SELL), gone(PASSIVE), gone(BUY), i32(-1))])
+        expected=[sets.failed(gone(SELL), gone(PASSIVE), gone(BUY), i32(-1))])
     case("offers: none without a signature", idle, "end 6", 1)
 
 

@@ -1,5 +1,5 @@
-"""The cases of payments along paths at the bounds of what they stand on: how many offers are crossed, what pools can give, lumens, and
-what comes to nothing. Each says by hand how it ends, and what each operation answers.
+"""The cases of payments along paths at the bounds of what they rest on: how many offers are crossed, what pools can give, lumens, and
+what yields nothing. Each says by hand how it ends, and what each operation answers.
 """
 
 from ledger_model import GREATEST, u32
@@ -22,17 +22,17 @@ RICH = {"c": 10**10, "d": 10**10}
 SELLERS = {**HELD, "d": {USD: (10_000, GREATEST, 1), EUR: (10_000, GREATEST, 1)}}
 
 
-def seller(place):
+def seller(index):
     """600 offers are c's and the others d's, since an account has no more than 1000 subentries."""
-    return "c" if place < 600 else "d"
+    return "c" if index < 600 else "d"
 
 
 def small_offers(number, sold=USD, bought=LUMENS):
-    return [selling(1, (1, 1), sold, bought, 1 + place, seller(place)) for place in range(number)]
+    return [selling(1, (1, 1), sold, bought, 1 + index, seller(index)) for index in range(number)]
 
 
 def small_atoms(number, sold=USD, bought=LUMENS):
-    return [sets.taken(seller(place), 1 + place, sold, 1, bought, 1) for place in range(number)]
+    return [sets.taken(seller(index), 1 + index, sold, 1, bought, 1) for index in range(number)]
 
 
 def crowd(*offers, pools=(), lines=SELLERS):
@@ -89,8 +89,8 @@ def none_left():
 def sent_crossings():
     """A thousand crossings on both hops of what is sent, and two more."""
     for number in (500, 501):
-        euros = [selling(1, (1, 1), EUR, USD, 1 + number + place, "d") for place in range(number)]
-        atoms = small_atoms(number) + [sets.taken("d", 1 + number + place, EUR, 1, USD, 1) for place in range(number)]
+        euros = [selling(1, (1, 1), EUR, USD, 1 + number + index, "d") for index in range(number)]
+        atoms = small_atoms(number) + [sets.taken("d", 1 + number + index, EUR, 1, USD, 1) for index in range(number)]
         answer = arrived(SEND, atoms, "b", EUR, number) if number == 500 else EXCEEDED_WORK_LIMIT
         story = crowd(*small_offers(number), *euros).run("a", (along(SEND, "b", number, number, got=EUR, path=[USD]), answer))
         case(f"sent crossings: {2 * number} on two hops", story, "end 6", 1)
@@ -137,7 +137,7 @@ def reserves():
 
 
 def nothing_flows():
-    """What comes to nothing is served by each later book, which isn't looked at."""
+    """What yields nothing is served by each later book, which isn't looked at."""
     over = along(SEND, "b", 1, 1, got=EUR, path=[USD])
     story = market(selling(10, (3, 1)), pools=()).run("a", (along(SEND, "b", 1, 1), R(SEND, -12)), (over, R(SEND, -12)))
     case("nothing flows: no later offer", story, "end 6", 1)
@@ -145,7 +145,7 @@ def nothing_flows():
     own = selling(10, (1, 1), EUR, USD, 2, "a")
     story = market(selling(10, (3, 1)), own, pools=()).run("a", (over, R(SEND, -12)))
     story.run("a", (along(SEND, "b", 3, 1, got=EUR, path=[USD]), R(SEND, -11)))
-    case("nothing flows: an offer of one's own behind", story, "end 7", 2)
+    case("nothing flows: an offer of one's own after it", story, "end 7", 2)
     own = selling(10, (1, 1), name="a")
     story = market(own, pools=()).run("a", (along(RECEIVE, "b", 1, 1, got=EUR, path=[USD]), R(RECEIVE, -10)),
                                       (along(SEND, "b", 1, 1, got=EUR, path=[USD]), R(SEND, -11)))
@@ -156,7 +156,7 @@ def nothing_flows():
 
 
 def own_and_others():
-    """Offers of one's own behind others, and of whom is paid."""
+    """Offers of one's own after others, and of whom is paid."""
     offers = [selling(100, (1, 1)), selling(996, (1, 1), number=2, name="a")]
     for kind in (RECEIVE, SEND):
         story = market(*offers, pools=()).run("a", (along(kind, "b", 101, 101), R(kind, -11)))

@@ -128,13 +128,13 @@ def chains():
 def crossings():
     """A thousand crossings of all hops together, and two more."""
     for number in (500, 501):
-        dollars = [selling(1, (1, 1), USD, LUMENS, 1 + place, "c") for place in range(number)]
-        euros = [selling(1, (1, 1), EUR, USD, 1 + number + place, "d") for place in range(number)]
+        dollars = [selling(1, (1, 1), USD, LUMENS, 1 + index, "c") for index in range(number)]
+        euros = [selling(1, (1, 1), EUR, USD, 1 + number + index, "d") for index in range(number)]
         lines = {**HELD, "d": {USD: (0, GREATEST, 1), EUR: (10_000, GREATEST, 1)}}
         more = {"c": 10**10, "d": 10**10}
         story = market(*dollars, *euros, pools=(), lines=lines, lumens=more)
-        atoms = [sets.taken("c", 1 + place, USD, 1, LUMENS, 1) for place in range(number)]
-        atoms += [sets.taken("d", 1 + number + place, EUR, 1, USD, 1) for place in range(number)]
+        atoms = [sets.taken("c", 1 + index, USD, 1, LUMENS, 1) for index in range(number)]
+        atoms += [sets.taken("d", 1 + number + index, EUR, 1, USD, 1) for index in range(number)]
         answer = arrived(RECEIVE, atoms, "b", EUR, number) if number == 500 else EXCEEDED_WORK_LIMIT
         story.run("a", (along(RECEIVE, "b", number, number, got=EUR, path=[USD]), answer))
         case(f"crossings: {2 * number} on two hops", story, "end 6", 1)

@@ -1,5 +1,5 @@
-"""Path payments of a ledger of protocol 18, beside `ledger_model.py`: chains of hops, each wholly through a pool or a book. After CAP-0038,
-PathPaymentOpFrameBase and convertWithOffersAndPools of stellar-core.
+"""Path payments of a ledger of protocol 18, beside `ledger_model.py`: chains of hops, each entirely through a pool or a book. After
+CAP-0038, PathPaymentOpFrameBase and convertWithOffersAndPools of stellar-core.
 """
 
 from asset_model import credit, debit
@@ -86,12 +86,12 @@ def pay_exactly(frame, layer, source, op):
     """PATH_PAYMENT_STRICT_RECEIVE."""
     name = test(layer, op)
     credit(layer, name, op["to_asset"], op["to_amount"], -6, -7, -8)
-    need, atoms, chain = op["to_amount"], [], Chain(frame, source)
+    needed, atoms, chain = op["to_amount"], [], Chain(frame, source)
     for sheep, wheat in reversed(hops_of(op)):
-        need, _, more = chain.hop(layer, sheep, wheat, receive=need)
+        needed, _, more = chain.hop(layer, sheep, wheat, receive=needed)
         atoms = more + atoms
-    refuse(need > op["amount"], -12)
-    debit(frame, layer, source, op["asset"], need, -3, -4, -2)
+    refuse(needed > op["amount"], -12)
+    debit(frame, layer, source, op["asset"], needed, -3, -4, -2)
     return success(atoms, name, op["to_asset"], op["to_amount"])
 
 

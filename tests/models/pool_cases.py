@@ -99,7 +99,7 @@ def deposit_bounds():
 def deposit_prices():
     """Prices of what goes into an empty pool, which are compared exactly."""
     for name, prices, number in [
-        ("at its price", ((4, 1), (4, 1)), 0), ("at its price in two spellings", ((4, 1), (8, 2)), 0),
+        ("at its price", ((4, 1), (4, 1)), 0), ("at its price in two forms", ((4, 1), (8, 2)), 0),
         ("below the least price", ((401, 100), (9, 1)), -6), ("above the greatest price", ((1, 1), (399, 100)), -6),
     ]:
         story = first().run("a", (deposit(NATIVE_USD, 400, 100, prices), R(DEPOSIT, number)))
@@ -148,15 +148,15 @@ def full_pools():
     """Pools that hold as much as their 64 bits can."""
     one = {USD: (1, 100, 1)}
     # by both assets there would be too many shares
-    whole = story_of({"a": one}, [("a", PAIR, GREATEST, GREATEST, None)], [pool(*PAIR, 1, 1, GREATEST, 1)])
-    whole.run("a", (deposit(NATIVE_USD, 2, 2), R(DEPOSIT, -7)))
-    case("deposits: shares that pass 64 bits", whole, "end 6", 1)
-    # their sum would be too great, behind the room for them and what is available
+    full = story_of({"a": one}, [("a", PAIR, GREATEST, GREATEST, None)], [pool(*PAIR, 1, 1, GREATEST, 1)])
+    full.run("a", (deposit(NATIVE_USD, 2, 2), R(DEPOSIT, -7)))
+    case("deposits: shares that pass 64 bits", full, "end 6", 1)
+    # their sum would be too great, after the room for them and what is available
     rows = [("a", PAIR, GREATEST - 1, GREATEST, None), ("b", PAIR, 1, GREATEST, None), ("c", PAIR, 0, GREATEST, None)]
-    for name, usd, wanted in [("b", 1, -5), ("c", 1, -7), ("c", 0, -4)]:
+    for name, usd, code in [("b", 1, -5), ("c", 1, -7), ("c", 0, -4)]:
         lines = {"a": one, "b": one, "c": {USD: (usd, 100, 1)}}
-        story = story_of(lines, rows, [pool(*PAIR, 1, 1, GREATEST, 3)]).run(name, (deposit(NATIVE_USD, 1, 1), R(DEPOSIT, wanted)))
-        case(f"deposits: a sum of shares that passes 64 bits, {-wanted}", story, "end 6", 1)
+        story = story_of(lines, rows, [pool(*PAIR, 1, 1, GREATEST, 3)]).run(name, (deposit(NATIVE_USD, 1, 1), R(DEPOSIT, code)))
+        case(f"deposits: a sum of shares that passes 64 bits, {-code}", story, "end 6", 1)
     # a reserve would be too great
     most = GREATEST - 6 * 10**18
     lines = {"a": {USD: (0, 1, 1), EUR: (0, 1, 1)}, "b": {USD: (4 * 10**18, GREATEST, 1), EUR: (4 * 10**18, GREATEST, 1)}}
@@ -171,12 +171,12 @@ def full_pools():
 def full_sides():
     """Shares and reserves that pass 64 bits by one asset alone."""
     rows = [("a", PAIR, GREATEST - 1, GREATEST, None), ("b", PAIR, 1, GREATEST, None)]
-    one, whole = {USD: (1, 100, 1)}, [pool(*PAIR, 1, 1, GREATEST, 2)]
-    story = story_of({"a": one, "b": one}, rows, whole)
+    one, full = {USD: (1, 100, 1)}, [pool(*PAIR, 1, 1, GREATEST, 2)]
+    story = story_of({"a": one, "b": one}, rows, full)
     story.run("b", (deposit(NATIVE_USD, 2, 1), R(DEPOSIT, -5)), (deposit(NATIVE_USD, 1, 2), R(DEPOSIT, -5)))
     story.run("b", (deposit(NATIVE_USD, 2, 2), R(DEPOSIT, -7)))
     case("deposits: shares that pass 64 bits by A, by B, by both", story, "end 7", 2)
-    story = story_of({"a": one, "b": {USD: (0, 100, 1)}}, rows, whole).run("b", (deposit(NATIVE_USD, 2, 2), R(DEPOSIT, -7)))
+    story = story_of({"a": one, "b": {USD: (0, 100, 1)}}, rows, full).run("b", (deposit(NATIVE_USD, 2, 2), R(DEPOSIT, -7)))
     case("deposits: shares that pass 64 bits, by who has no USD", story, "end 6", 1)
     # a share is 2^30 of one asset, and 1 of the other
     many, none, some = 2**33, {EUR: (0, 1, 1), USD: (0, 1, 1)}, {EUR: (2**30, 2**30, 1), USD: (2**30, 2**30, 1)}
@@ -198,10 +198,10 @@ def disabled():
         story.run("a", *[(op, code if code is REFUSED else R(kind, code)) for (op, code), kind in zip(pairs, (DEPOSIT, WITHDRAW))])
         case(f"disabled: flags {flags}", story, "end 6", 1)
     # an upgrade counts from the next ledger on
-    story = first().close(sent("a", 1, deposit(NATIVE_USD, 400, 100)), upgrades=[upgrade(5, 6)], wants=[sets.ok(R(DEPOSIT, 0))])
+    story = first().close(sent("a", 1, deposit(NATIVE_USD, 400, 100)), upgrades=[upgrade(5, 6)], expected=[sets.ok(R(DEPOSIT, 0))])
     story.run("a", (deposit(NATIVE_USD, 400, 100), REFUSED), (withdraw(NATIVE_USD, 1), REFUSED))
     case("disabled: by an upgrade", story, "end 7", 2)
-    # an account that is gone is told first
+    # an account that is gone is reported first
     story = story_of({"a": {}, "c": {}}, header=flagged(2))
     merged = sets.account_merge("a", "c"), R(8, 0, 100 * LUMEN)
     story.run("a", merged, (deposit(NATIVE_USD, 1, 1, source="c"), sets.OP_NO_ACCOUNT), signers="ac")

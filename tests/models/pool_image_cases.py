@@ -81,7 +81,7 @@ def share_rules():
         ("a line of shares with a use below 0", line("a", SHARES, 200, GREATEST, 0, uses=-1)),
     ]:
         breaks(7, name, [*BESIDE, value, changed_pool()])
-    # what stands beside each
+    # what exists beside each
     breaks(8, "shares of no pool", OTHERS)
     breaks(8, "shares without the line in USD", held({"a": {}}, MINE, [changed_pool()]))
     half = held({"a": {USD: (0, 1, 1)}}, [("a", (EUR, USD), 1, 1, None)], [pool(EUR, USD, 3, 2, 1, 1)])

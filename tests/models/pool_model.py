@@ -36,7 +36,7 @@ def share_rank(name, digest):
 
 
 def pool_of(layer, digest):
-    """What a pool has, if it stands."""
+    """What a pool has, if it exists."""
     entry = layer.get(pool_rank(digest))
     return None if entry is None else entry["body"][1]["body"][1]
 
@@ -217,7 +217,7 @@ def revoke_shares(frame, layer, name, asset, low):
 
 
 def set_aside(frame, layer, name, payer, digest, held, amount, low):
-    number = sha(u32(7) + i32(0) + frame.source + i64(frame.number) + u32(frame.place) + digest + ASSET.write(held))
+    number = sha(u32(7) + i32(0) + frame.source + i64(frame.number) + u32(frame.index) + digest + ASSET.write(held))
     if layer.get((4, number)) is not None:
         raise NOT_SUPPORTED
     test_payer(frame, layer.account(payer), 1, low)

@@ -21,18 +21,18 @@ BOTH = {"a": {USD: (1000, 10_000, 1), EUR: (1000, 10_000, 1)}}
 
 
 def made(story):
-    """The claimable balances that stand: the asset, the amount, who pays, and whether it can be clawed back."""
+    """The claimable balances that exist: the asset, the amount, who pays, and whether it can be clawed back."""
     rows = [(value["body"][1], model.sponsor_of(value)) for value in story.claimables().values()]
     return {(ASSET.write(body["asset"]), body["amount"], payer[:1].decode(), body["ext"][0]) for body, payer in rows}
 
 
-def made_id(digest, asset, source="z", number=1, place=0):
-    """The id of what a pool's shares give of an asset, by the transaction that revokes and the operation's place in it."""
-    return model.sha(u32(7) + u32(0) + key(source) + i64(number) + u32(place) + digest + asset)
+def made_id(digest, asset, source="z", number=1, index=0):
+    """The id of what a pool's shares give of an asset, by the transaction that revokes and the operation's index in it."""
+    return model.sha(u32(7) + u32(0) + key(source) + i64(number) + u32(index) + digest + asset)
 
 
 def taken(entries, payer, *digests):
-    """A story of entries in which balances stand under these ids, for which an account pays."""
+    """A story of entries in which balances exist under these ids, for which an account pays."""
     entries = with_account(entries, payer, lambda value: with_counts(value, 0, len(digests)))
     return Story(pooled_image([*entries, *(claimable(digest, payer, 5, USD, payer) for digest in digests)]))
 
@@ -47,7 +47,7 @@ def two_pools(lumens=None, others=()):
 # ---- which shares go
 
 
-def whole_pools():
+def entire_pools():
     """Shares that go, and their pools with them."""
     for name, op in [("by ALLOW_TRUST", FREEZE), ("by its flags", CLEAR)]:
         story = Story(pooled_image(two_pools())).run("z", (op, R(op[7], 0)))
@@ -86,7 +86,7 @@ def pools_that_stay():
     case("revocation: a pool that others have shares of", story, "end 6", 1)
     story = taken(entries, "c", made_id(NATIVE_USD, USD)).run("z", (FREEZE, R(ALLOW, 0)))
     assert made(story) == {(LUMENS, 2, "a", 0), (USD, 5, "c", 0)} and left_in(story, NATIVE_USD) == (399, 100, 199, 1)
-    case("revocation: an id that stands and isn't needed", story, "end 6", 1)
+    case("revocation: an id that exists and isn't needed", story, "end 6", 1)
     other, digest = (LUMENS, EUR), pool_of(LUMENS, EUR)
     shares = [("a", PAIR, 200, GREATEST, None), ("a", other, 30, GREATEST, None)]
     story = story_of(BOTH, shares, [pool(*PAIR, 400, 100, 200, 1), pool(*other, 31, 32, 30, 1)]).run("z", (FREEZE, R(ALLOW, 0)))
@@ -128,7 +128,7 @@ def authorisations():
 
 
 def clawbacks():
-    """Balances can be clawed back where the line in their asset could, by the flags behind the operation."""
+    """Balances can be clawed back where the line in their asset could, by the flags after the operation."""
     for name, flags, op, clawed in [
         ("can be clawed back", 5, FREEZE, 1), ("can't be clawed back any more", 5, sets.set_line_flags("a", 5), 0),
     ]:
@@ -166,7 +166,7 @@ def payers():
 
 
 def ids():
-    """Ids are those of the transaction's source, number and place, and none stands when its balance is made."""
+    """Ids are those of the transaction's source, number and index, and none exists when its balance is made."""
     # the number is the transaction's, also where its source's is another one by now
     story = filled(lines={**OWN, "c": {}})
     story.run("c", (sets.bump_sequence(77), R(11, 0)), (sets.allow_trust("a", 0, source="z"), R(ALLOW, 0)), signers="cz")
@@ -174,10 +174,10 @@ def ids():
     case("revocation: the second operation of another one's transaction", story, "end 6", 1)
     # A comes before B, and of each its id before its payer
     for name, asset, lumens, result in [
-        ("an id that stands", USD, 10**9, REFUSED), ("an id of lumens that stands", LUMENS, 10**9, REFUSED),
-        ("an id of USD that stands, no reserve for lumens", USD, 24_999_999, R(ALLOW, -6)),
-        ("an id of lumens that stands, no reserve for them", LUMENS, 24_999_999, REFUSED),
-        ("an id of USD that stands, no reserve for it", USD, 29_999_999, REFUSED),
+        ("an id that exists", USD, 10**9, REFUSED), ("an id of lumens that exists", LUMENS, 10**9, REFUSED),
+        ("an id of USD that exists, no reserve for lumens", USD, 24_999_999, R(ALLOW, -6)),
+        ("an id of lumens that exists, no reserve for them", LUMENS, 24_999_999, REFUSED),
+        ("an id of USD that exists, no reserve for it", USD, 29_999_999, REFUSED),
     ]:
         rows = held({**OWN, "b": {}}, [("a", PAIR, 200, GREATEST, None)], [pool(*PAIR, 400, 100, 200, 1)], {"a": lumens})
         story = taken(rows, "b", made_id(NATIVE_USD, asset)).run("z", (FREEZE, result))
@@ -194,4 +194,4 @@ def ids():
         case(f"revocation: {name}", story, "end 6", 1)
 
 
-PARTS = [whole_pools, pools_that_stay, first_asset, authorisations, clawbacks, payers, ids]
+PARTS = [entire_pools, pools_that_stay, first_asset, authorisations, clawbacks, payers, ids]

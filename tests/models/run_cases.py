@@ -3,7 +3,7 @@
 the image and records in examples/. The cases whose names begin with `apart` came from elsewhere
 (`apart_cases.py`), and stay as they are.
 
-What is wanted comes from `ledger_model.py` and `store_model.py`, and each case says its end by hand as well, so that the models are held
+What is expected comes from `ledger_model.py` and `store_model.py`, and each case says its end by hand as well, so that the models are held
 to it. Prints the name of each case. Python 3.9 or later and its standard library.
 
     run_cases.py [FOLDER]      FOLDER has cases from elsewhere, a folder each: they are compared alone
@@ -29,8 +29,8 @@ from store_cases import input_of, start_of
 from table_cases import PARTS as TABLE_PARTS
 from store_model import init, run, show
 from case_tools import (
-    A_WITH_D, CASES, LUMEN, META_18, NETWORK, NO_RESULTS, A, Account, B, C, D, Data, Story, bucket, case, entry, header_of, image,
-    image_bytes, items, key, offer, pool, predicate, raw, sent, slug, spelled, sponsored, upgrade, var, with_counts, with_liabilities,
+    A_WITH_D, CASES, LUMEN, META_18, NETWORK, NO_RESULTS, A, Account, B, C, D, Data, Story, bucket, case, encoded, entry, header_of,
+    image, image_bytes, items, key, offer, pool, predicate, raw, sent, slug, sponsored, upgrade, var, with_counts, with_liabilities,
     write, write_names,
 )
 
@@ -66,10 +66,10 @@ def forms():
     case("a clear mark of a record", legal + u32(4) + bytes(4), f"9 bad input at {len(legal)}")
     case("two bytes of a mark", legal + b"\x80\0", f"9 bad input at {len(legal) + 2}")
     case("a record that is cut at its tenth byte", legal + u32(0x80000040) + bytes(6), f"9 bad input at {len(legal) + 10}")
-    behind = Story(legal).close()
-    length = len(behind.data)
-    behind.data += b"\x80"
-    case("a mark that is cut behind a close", behind, f"9 bad input at {length + 1}", 1)
+    closed = Story(legal).close()
+    length = len(closed.data)
+    closed.data += b"\x80"
+    case("a mark that is cut after a close", closed, f"9 bad input at {length + 1}", 1)
     case("a broken rule before a wrong mark", image([A], version=17) + u32(4), "10 bad image rule 2")
 
 
@@ -77,7 +77,7 @@ def header_rules():
     """Rules 1 to 3, each alone."""
     files = [b""] * 22
     good = HEADER.write(header_of(levels=sha(11 * sha(bytes(64)))))
-    case("a byte behind the header", image_bytes(good + b"\0", files), "10 bad image rule 1")
+    case("a byte after the header", image_bytes(good + b"\0", files), "10 bad image rule 1")
     case("a header without its end", image_bytes(good[:-4], files), "10 bad image rule 1")
     case("version 17", image([A], version=17), "10 bad image rule 2")
     case("version 19", image([A], version=19), "10 bad image rule 2")
@@ -96,7 +96,7 @@ def file_rules():
     """Rules 4 to 6, and an offer that no rule before the seventh refuses."""
     two = items((DEAD, D), (DEAD, D))
     for name, file in [
-        ("META twice", raw(META_18, META_18)), ("a byte behind META", marked(META_18 + bytes(4))), ("three bytes", b"\x80\0\0"),
+        ("META twice", raw(META_18, META_18)), ("a byte after META", marked(META_18 + bytes(4))), ("three bytes", b"\x80\0\0"),
         ("no META", raw(*items((DEAD, A)))), ("two equal keys", raw(META_18, *two)),
         ("falling keys", raw(META_18, *items((INIT, B), (INIT, A)))), ("a clear mark of an item", META_18),
         ("an item of another type", raw(META_18, i32(3))), ("an item that is cut", raw(META_18, *items((INIT, A)))[:-1]),
@@ -176,7 +176,7 @@ def entry_rules():
 
 
 def rules_at_once():
-    """Two rules that are broken at once: the lower number is told."""
+    """Two rules that are broken at once: the lower number is reported."""
     wrong = entry(Account("a", 0, flags=16))
     over = {0: bucket((LIVE, A)), 3: bucket((DEAD, A))}
     counted = with_counts(A_WITH_D, sponsored=1)
@@ -207,7 +207,7 @@ def bad_records():
     # without envelopes: the number, the ledger before, their count at 36, the hash of the set, the time, the upgrades' count at 80, the
     # extension at 84
     bad("a byte short", lambda story: story.record()[:-1], "BadXdr 87 Short")
-    bad("four bytes behind it", lambda story: story.record() + bytes(4), "BadXdr 88 Trailing")
+    bad("four bytes after it", lambda story: story.record() + bytes(4), "BadXdr 88 Trailing")
     bad("an extension 2", lambda story: story.record()[:-4] + u32(2), "BadXdr 84 BadEnum")
     bad("seven upgrades", lambda story: story.record(upgrades=[b""] * 7), "BadXdr 80 TooLong")
     # with one: its type at 40, the source, the fee, the number, the flag of time bounds at 92, the memo at 96, and where it is empty the
@@ -242,7 +242,7 @@ def terms():
     record = twice.record()
     case("a record twice", twice.close().add(record), "refused 7 WrongSeq 7 6", 1)
     here = Story(legal).ledger.hash
-    case("a set behind another ledger", Story(legal).refused(previous=NO_HASH), f"refused 6 WrongPrevious {here.hex()} {'00' * 32}")
+    case("a set after another ledger", Story(legal).refused(previous=NO_HASH), f"refused 6 WrongPrevious {here.hex()} {'00' * 32}")
     alone = sha(here)
     case("another hash of the set", Story(legal).refused(digest=NO_HASH), f"refused 6 WrongSetHash {alone.hex()} {'00' * 32}")
     case("the same time", Story(legal).refused(time=1000), "refused 6 StaleTime 1000 1000")
@@ -255,17 +255,17 @@ def upgrades():
     legal = image([A])
     fee, most, reserve = upgrade(2, 200), upgrade(3, 50), upgrade(4, 4_999_999)
     for name, asked, end in [
-        ("no bytes", [b""], "BadUpgrade 0"), ("four bytes behind it", [fee + bytes(4)], "BadUpgrade 0"),
+        ("no bytes", [b""], "BadUpgrade 0"), ("four bytes after it", [fee + bytes(4)], "BadUpgrade 0"),
         ("type 0", [upgrade(0, 1)], "BadUpgrade 0"), ("type 6", [fee, upgrade(6, 1)], "BadUpgrade 1"),
         ("a base fee of 0", [upgrade(2, 0)], "BadUpgrade 0"),
         ("a base reserve of 0", [fee, most, upgrade(4, 0)], "BadUpgrade 2"), ("flags 8", [upgrade(5, 8)], "BadUpgrade 0"),
         ("the version and then the fee", [upgrade(1, 19), fee], "UpgradeOutOfProfile 0"),
         ("the fee and then the version", [fee, upgrade(1, 19)], "BadUpgrade 1"), ("the size and then the fee", [most, fee], "BadUpgrade 1"),
-        ("the fee twice", [fee, fee], "BadUpgrade 1"), ("the version that stands", [upgrade(1, 18)], "UpgradeOutOfProfile 0"),
+        ("the fee twice", [fee, fee], "BadUpgrade 1"), ("the version that is there", [upgrade(1, 18)], "UpgradeOutOfProfile 0"),
         ("a greater reserve", [fee, upgrade(4, 5_000_001)], "UpgradeOutOfProfile 1"),
     ]:
         case(f"upgrades: {name}", Story(legal).refused(upgrades=asked), f"refused 6 {end}")
-    # the fee that is asked for is that of the ledgers behind
+    # the fee that is asked for is that of the ledgers after it
     story = Story(legal).close(sent("a", 1, NOTHING, fee=150), upgrades=[fee, most, reserve, upgrade(5, 7)])
     assert story.ledger.header["ext"] == (1, {"flags": 7, "ext": (0, None)})
     story.close(sent("a", 2, NOTHING, fee=199)).close(sent("a", 3, NOTHING, fee=200))
@@ -281,9 +281,9 @@ def set_faults():
     legal = image([A, B])
     story = Story(legal)
     strangers = [sent("a", 1, NOTHING), *(sent(name, 1, NOTHING) for name in "wxyz")]
-    spelled = [envelope.xdr() for envelope in strangers]
-    mask = int.from_bytes(sha(story.ledger.hash + b"".join(sorted(spelled, key=sha))), "big")
-    first = min(range(1, 5), key=lambda place: int.from_bytes(sha(spelled[place]), "big") ^ mask)
+    encoded = [envelope.xdr() for envelope in strangers]
+    mask = int.from_bytes(sha(story.ledger.hash + b"".join(sorted(encoded, key=sha))), "big")
+    first = min(range(1, 5), key=lambda index: int.from_bytes(sha(encoded[index]), "big") ^ mask)
     case("four sources that aren't there", story.refused(*strangers), f"refused 6 FeeSourceMissing {first}")
     # y's first transaction is applied first, and listed last
     case("a source that isn't there, twice", Story(legal).refused(sent("y", 2, NOTHING), sent("a", 1, NOTHING), sent("y", 1, NOTHING)),
@@ -291,21 +291,21 @@ def set_faults():
     bump = sets.bumped("z", 200, sent("a", 1, NOTHING))
     case("a payer of a fee bump that isn't there", Story(legal).refused(bump), "refused 6 FeeSourceMissing 0")
     case("an inner source that isn't there", Story(legal).close(sets.bumped("a", 200, sent("z", 1, NOTHING))), "end 6", 1)
-    # path payments in transactions that don't come to them
+    # path payments in transactions that end before them
     exact, least = sets.path_payment("b", 1), sets.path_payment("b", 1, kind=13)
     early, old = sent("a", 2, exact, least, fee=200), sets.First(sets.Tx("b", 1, [exact]), [])
     story = Story(legal).close(early, old, sets.bumped("b", 200, sent("z", 1, least)))
-    case("path payments that aren't come to", story, "end 6", 1)
+    case("path payments that aren't reached", story, "end 6", 1)
 
 
 def faults_at_once():
-    """Two faults at once: the earlier one is told."""
+    """Two faults at once: the earlier one is reported."""
     legal = image([A])
     here = Story(legal).ledger.hash.hex()
     zero, version, fee = "00" * 32, [upgrade(1, 19)], [upgrade(2, 0)]
     last = Story(image([A], seq=2**31 - 1))
-    case("faults: no record, behind the last ledger", Story(last.data).add(last.record() + b"\0"), "refused 2147483648 BadXdr 88 Trailing")
-    case("faults: another number behind the last ledger", Story(last.data).refused(seq=3), "refused 2147483648 SeqEnd")
+    case("faults: no record, after the last ledger", Story(last.data).add(last.record() + b"\0"), "refused 2147483648 BadXdr 88 Trailing")
+    case("faults: another number after the last ledger", Story(last.data).refused(seq=3), "refused 2147483648 SeqEnd")
     for name, fault, end in [
         ("number, ledger before", dict(seq=9, previous=NO_HASH), "WrongSeq 6 9"),
         ("ledger before, hash of the set", dict(previous=NO_HASH, digest=NO_HASH), f"WrongPrevious {here} {zero}"),
@@ -354,7 +354,7 @@ def closes():
     assert story.ledger.entries[3, key("a"), b"name"]["modified"] == 2
     case("data that is removed and made again", story, "end 6", 1)
     two, one = sent("a", 1, NOTHING, NOTHING, fee=300), sent("b", 1, NOTHING, fee=120)
-    case("a crowded set", Story(image([A, B], most=100)).close(two, one), "end 6", 1)
+    case("a set in surge pricing", Story(image([A, B], most=100)).close(two, one), "end 6", 1)
     mixed = [
         sent("a", 1, sets.create_account("n", 3 * LUMEN), sets.manage_data(b"x", b"1"), fee=200),
         sent("b", 1, sets.begin_sponsoring("a"), sets.manage_data(b"y", b"2", source="a"), sets.end_sponsoring(source="a"),
@@ -363,7 +363,7 @@ def closes():
     ]
     story = Story(image([A, B, C])).close(*mixed).close(sent("a", 2, sets.manage_data(b"x", None), sets.manage_data(b"y", None), fee=200))
     case("all kinds of changes", story, "end 7", 2)
-    # a key that is made at 3 and removed at 5 stands in no file once both marks meet; the levels take and spill up to the third
+    # a key that is made at 3 and removed at 5 is in no file once both marks meet; the levels take and spill up to the third
     story, seq = Story(image([A, B], seq=1)), 0
     for number in range(2, 68):
         listed = []
@@ -405,8 +405,8 @@ def example():
 # ---- files
 
 
-def came_to(words, data, before):
-    """What a command comes to by the model, and the files behind it."""
+def yielded_by(words, data, before):
+    """What a command yields by the model, and the files after it."""
     if words[0] == "catchup":
         return catchup(words[2], data), before
     if words[0] == "show":
@@ -418,10 +418,10 @@ def compare(folder):
     """Compares the model with cases from elsewhere."""
     wrong = 0
     for name in sorted(os.listdir(folder)):
-        words, data, came, before, after = read_apart(f"{folder}/{name}")
+        words, data, yielded, before, after = read_apart(f"{folder}/{name}")
         if words[0] not in ("catchup", "init", "run", "show"):
             print(f"{name}: passed by, since the model has no {words[0]}")
-        elif came_to(words, data, before) != (came, after):
+        elif yielded_by(words, data, before) != (yielded, after):
             print(f"{name}: the model answers otherwise")
             wrong = 1
     sys.exit(wrong)
@@ -449,7 +449,7 @@ def main():
             name = slug(prefix + name)
             assert name not in names, name
             names.append(name)
-            write(f"{folder}/{name}.case", spelled(*made))
+            write(f"{folder}/{name}.case", encoded(*made))
             print(name)
     write_names(names)
     write(f"{TOP}/examples/accounts.image", start_of(example()))

@@ -212,7 +212,7 @@ def envelope(seed, k, account):
 
 
 def record(seed, k, previous):
-    """The record behind the ledger whose header has the hash `previous`."""
+    """The record after the ledger whose header has the hash `previous`."""
     envelopes = [envelope(seed, k, account) for account in range(9)]
     digest = sha(previous + b"".join(sorted(envelopes, key=sha)))
     return u32(k + 1) + previous + many(envelopes) + digest + u64(1000 + 5 * k) + many([]) + u32(0)
@@ -236,9 +236,9 @@ def closed(seed, ledgers):
 def compare(path):
     with open(path) as table:
         for line in table:
-            seed, ledgers, want = line.rstrip("\n").split("\t")
+            seed, ledgers, expected = line.rstrip("\n").split("\t")
             got = closed(int(seed), int(ledgers))
-            print("as in the table:" if got == want else "another line:", got)
+            print("as in the table:" if got == expected else "another line:", got)
 
 
 if __name__ == "__main__":

@@ -39,9 +39,9 @@ def prints(name, words, line):
 
 def lines():
     """Samples of several seeds and lengths, with the options in both orders and both forms."""
-    for place, (seed, ledgers, digest, count, done) in enumerate(SAMPLES):
-        forms = [["--seed", str(seed)], ["--ledgers", str(ledgers)]] if place % 2 else [[f"--seed={seed}"], [f"--ledgers={ledgers}"]]
-        words = forms[0] + forms[1] if place % 4 < 2 else forms[1] + forms[0]
+    for index, (seed, ledgers, digest, count, done) in enumerate(SAMPLES):
+        forms = [["--seed", str(seed)], ["--ledgers", str(ledgers)]] if index % 2 else [[f"--seed={seed}"], [f"--ledgers={ledgers}"]]
+        words = forms[0] + forms[1] if index % 4 < 2 else forms[1] + forms[0]
         prints(f"{ledgers} ledgers of seed {seed}", ["sample", *words], f"sample {seed} {ledgers} {digest} {count} {done}")
 
 
@@ -82,12 +82,12 @@ def records_of(seed, ledgers):
 
 
 def stored():
-    """The image of a sample in a store, and its records behind it."""
+    """The image of a sample in a store, and its records after it."""
     start = image_bytes(sample.first_header(1), [sample.first_file(1)] + 21 * [b""])
     records, closed = records_of(1, 200)
-    came = init("sample", start, EMPTY)
-    assert came[0] == ("", "", 0)
-    made = over("init: the image of a sample", ["init", "--network=sample"], start, EMPTY, came, (0, 0))
+    yielded = init("sample", start, EMPTY)
+    assert yielded[0] == ("", "", 0)
+    made = over("init: the image of a sample", ["init", "--network=sample"], start, EMPTY, yielded, (0, 0))
     three = b"".join(map(marked, records[:3]))
     out = run(three, made)
     assert out[0][2] == 0 and out[0][0].count("closed ") == 3 and out[0][0].count("end ") == 1
@@ -95,17 +95,17 @@ def stored():
     data = b"".join(map(marked, records))
     out = run(data, made)
     assert out[0][0].startswith("".join(closed)) and out[0][2] == 0
-    # rolled behind ledgers 63, 127 and 191
+    # rolled after ledgers 63, 127 and 191
     over("run: 200 records of a sample", ["run"], data, made, out, (3, 10))
     shown = show(out[1])
-    over("show: behind 200 records of a sample", ["show"], b"", out[1], (shown, out[1]), None)
+    over("show: after 200 records of a sample", ["show"], b"", out[1], (shown, out[1]), None)
     # the same lines from ledger 128 on
     half = Store(run(b"".join(map(marked, records[:126])), made)[1])
     assert half.ledger.header["seq"] == 127
     data = image_of(half.ledger) + b"".join(map(marked, records[126:]))
-    came = catchup("sample", data)
-    assert came[0] == "".join(closed[126:]) + out[0][0][len("".join(closed)):]
-    CASES.append(("catchup: from ledger 127 of a sample", ["catchup", "--network", "sample"], data, came, EMPTY, EMPTY))
+    yielded = catchup("sample", data)
+    assert yielded[0] == "".join(closed[126:]) + out[0][0][len("".join(closed)):]
+    CASES.append(("catchup: from ledger 127 of a sample", ["catchup", "--network", "sample"], data, yielded, EMPTY, EMPTY))
 
 
 PARTS = [lines, long, words, stored]

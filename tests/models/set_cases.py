@@ -1,7 +1,7 @@
 """Transactions, operations and sets, put together by their fields as XDR, and a table of cases of sets, each with what it has to leave.
 
 Everything is encoded here, as XDR (RFC 4506; Stellar-transaction.x, Stellar-ledger.x and Stellar-ledger-entries.x of protocol 18),
-with SHA-256 of the standard library. What is wanted of each case (codes, charges, balances, sequence numbers) is written out case by
+with SHA-256 of the standard library. What is expected of each case (codes, charges, balances, sequence numbers) is written out case by
 case. The order of application is worked out from the hashes: the k-th transactions of all sources before the next ones, and among
 them by rising full hash, bit by bit xor the hash of the set. `table_cases.py` makes runs of the program of the table.
 
@@ -12,7 +12,7 @@ SHA-256 of, or by pre-authorised signers. Python 3.9 or later and its standard l
 import hashlib
 import struct
 
-# ---- spelling
+# ---- encoding
 
 
 def sha(data):
@@ -75,7 +75,7 @@ def preauth(tx_hash, weight=1):
     return (1, tx_hash, weight)
 
 
-def spelled_signer(signer):
+def encoded_signer(signer):
     arm, data, weight = signer
     return u32(arm) + data + u32(weight)
 
@@ -129,7 +129,7 @@ class Account:
             nobody = many([u32(0) for _ in signers])
             ext = u32(1) + i64(0) + i64(0) + u32(2) + u32(sponsored) + u32(sponsoring) + nobody + u32(0)
         account = u32(0) + key(self.name) + i64(f["balance"]) + i64(f["seq"]) + u32(len(signers) + f["data"]) + u32(0)
-        account += u32(f["flags"]) + var(f["domain"]) + bytes(f["thresholds"]) + many([spelled_signer(s) for s in signers]) + ext
+        account += u32(f["flags"]) + var(f["domain"]) + bytes(f["thresholds"]) + many([encoded_signer(s) for s in signers]) + ext
         return u32(2) + u32(0) + account + u32(0)
 
 
@@ -208,7 +208,7 @@ class Claimable:
 
     def xdr(self):
         ext = u32(1) + u32(0) + u32(self.flags) if self.flags else u32(0)
-        body = u32(0) + self.digest + spelled_claimants(self.claimants) + self.line + i64(self.amount) + ext
+        body = u32(0) + self.digest + encoded_claimants(self.claimants) + self.line + i64(self.amount) + ext
         return u32(2) + u32(4) + body + with_sponsor(self.sponsor)
 
 
@@ -241,15 +241,15 @@ def within(seconds):
     return u32(5) + i64(seconds)
 
 
-def spelled_claimants(claimants):
+def encoded_claimants(claimants):
     """Claimants: names, or pairs of a name and a predicate."""
     pairs = [claimant if isinstance(claimant, tuple) else (claimant, ANY_TIME) for claimant in claimants]
     return many([u32(0) + u32(0) + key(name) + predicate for name, predicate in pairs])
 
 
-def balance_id(source, seq, place=0):
-    """The id of the balance that the operation at a place of a transaction makes."""
-    return sha(u32(6) + u32(0) + key(source) + i64(seq) + u32(place))
+def balance_id(source, seq, index=0):
+    """The id of the balance that the operation at an index of a transaction makes."""
+    return sha(u32(6) + u32(0) + key(source) + i64(seq) + u32(index))
 
 
 # ---- operations
@@ -291,7 +291,7 @@ def passive_offer(amount, selling=LUMENS, buying=USD, source=None):
 def set_options(source=None, master=None, low=None, med=None, high=None, domain=None, signer=None, clears=None, sets=None):
     numbers = [maybe(None if n is None else u32(n)) for n in (clears, sets, master, low, med, high)]
     text = maybe(None if domain is None else var(domain))
-    who = maybe(None if signer is None else spelled_signer(signer))
+    who = maybe(None if signer is None else encoded_signer(signer))
     return operation(5, u32(0) + b"".join(numbers) + text + who, source)
 
 
@@ -335,7 +335,7 @@ def end_sponsoring(source=None):
 
 def create_claimable(amount, claimants, asset=LUMENS, source=None):
     """CREATE_CLAIMABLE_BALANCE for claimants: names, or pairs of a name and a predicate."""
-    return operation(14, asset + i64(amount) + spelled_claimants(claimants), source)
+    return operation(14, asset + i64(amount) + encoded_claimants(claimants), source)
 
 
 def claim(digest, source=None):
@@ -533,7 +533,7 @@ def marked(data):
 
 
 class Start:
-    """The ledger that a case begins with, as an image: its entries stand in the first file of the levels (CAP-0020)."""
+    """The ledger that a case begins with, as an image: its entries are in the first file of the levels (CAP-0020)."""
 
     def __init__(self, before, base_fee=BASE_FEE, max_size=MAX_SIZE, seq=SEQ, pool=0, time=TIME):
         coins = pool + sum(e.balance for e in before if isinstance(e, Account))
@@ -555,7 +555,7 @@ class Start:
         queues = {}
         for e in sorted(envelopes, key=lambda e: (e.seq, sha(e.xdr()))):
             queues.setdefault(e.source, []).append(e)
-        rank = {id(e): place for queue in queues.values() for place, e in enumerate(queue)}
+        rank = {id(e): index for queue in queues.values() for index, e in enumerate(queue)}
         return sorted(envelopes, key=lambda e: (rank[id(e)], int.from_bytes(sha(e.xdr()), "big") ^ mask))
 
     def record(self, envelopes, time):
@@ -567,24 +567,24 @@ class Start:
 # ---- cases
 
 # a case each: name, start, entries before, envelopes in the order of application, the charge and the outcome of each or None where the set
-# has to be refused, the entries after, how many offers were made, the place of the transaction for which it is refused, and the close time
+# has to be refused, the entries after, how many offers were made, the index of the transaction for which it is refused, and the close time
 TABLE = []
 
 
-def case(name, before, listed, wanted=None, charged=None, after=None, missing=None, order=None, made=0, time=TIME, **fields):
-    """A case. `listed` are the envelopes as the set lists them; `wanted` has the charge and the outcome of each, in the same order;
-    `charged` is what the fee pool gets altogether; `after` are the entries that stand then; `order`, where it is given, has the places
-    in the list in the order of application; `made` is how many offers were made. Of a set that has to be refused, `missing` is the place
+def case(name, before, listed, expected=None, charged=None, after=None, missing=None, order=None, made=0, time=TIME, **fields):
+    """A case. `listed` are the envelopes as the set lists them; `expected` has the charge and the outcome of each, in the same order;
+    `charged` is what the fee pool gets altogether; `after` are the entries that exist then; `order`, where it is given, has the indices
+    in the list in the order of application; `made` is how many offers were made. Of a set that has to be refused, `missing` is the index
     of the first transaction whose fee source there isn't."""
     start = Start(before, time=time, **fields)
     in_order = start.apply_order(listed)
     if order is not None:
-        assert in_order == [listed[place] for place in order], name
+        assert in_order == [listed[index] for index in order], name
     ends = None
     if missing is None:
-        assert len(wanted) == len(listed), name
-        assert charged == sum(fee for fee, _ in wanted), name
-        by_envelope = {id(e): end for e, end in zip(listed, wanted)}
+        assert len(expected) == len(listed), name
+        assert charged == sum(fee for fee, _ in expected), name
+        by_envelope = {id(e): end for e, end in zip(listed, expected)}
         ends = [by_envelope[id(e)] for e in in_order]
     TABLE.append((name, start, before, listed, in_order, ends, after, made, missing, time))
 
@@ -630,33 +630,33 @@ def fees():
     two, one = sent("a", 1, NOTHING, NOTHING, fee=300), sent("b", 1, NOTHING, fee=120)
     done_two, done_one = ok(BUMPED, BUMPED), ok(BUMPED)
     for name, size, of_two, of_one in [
-        ("crowded", 100, 240, 120), ("crowded_below_100", 50, 240, 120), ("one_above_capacity", 102, 240, 120),
-        ("at_capacity", 103, 200, 100), ("uncrowded", 1000, 200, 100), ("greatest_size", 2**32 - 1, 200, 100),
+        ("surge", 100, 240, 120), ("surge_below_100", 50, 240, 120), ("one_above_capacity", 102, 240, 120),
+        ("at_capacity", 103, 200, 100), ("no_surge", 1000, 200, 100), ("greatest_size", 2**32 - 1, 200, 100),
     ]:
         case(name, [A, B], [two, one], [(of_two, done_two), (of_one, done_one)], of_two + of_one,
              [A.but(balance=1_000_000_000 - of_two, seq=1), B.but(balance=1_000_000_000 - of_one, seq=1)], max_size=size)
-    # the base of a crowded set may lie below the header's, by which each transaction is judged
-    case("crowded_below_base_fee", [A, B], [two, one], [(240, INSUFFICIENT_FEE), (120, INSUFFICIENT_FEE)], 360,
+    # the base of a set in surge pricing may be below the header's, by which each transaction is judged
+    case("surge_below_base_fee", [A, B], [two, one], [(240, INSUFFICIENT_FEE), (120, INSUFFICIENT_FEE)], 360,
          [A.but(balance=999_999_760), B.but(balance=999_999_880)], max_size=100, base_fee=200)
     # 301 / 2 is rounded up to 151
     rounded, other = sent("a", 1, NOTHING, NOTHING, fee=301), sent("b", 1, NOTHING, fee=400)
-    case("crowded_rounded", [A, B], [rounded, other], [(301, done_two), (151, done_one)], 452,
+    case("surge_rounded", [A, B], [rounded, other], [(301, done_two), (151, done_one)], 452,
          [A.but(balance=999_999_699, seq=1), B.but(balance=999_999_849, seq=1)], max_size=100)
     # a transaction without operations has no bid an operation, and is charged as one of one operation
     none, some = sent("a", 1, fee=400), sent("b", 1, NOTHING, fee=150)
-    case("crowded_without_operations", [A, B], [none, some], [(150, MISSING_OPERATION), (150, done_one)], 300,
+    case("surge_without_operations", [A, B], [none, some], [(150, MISSING_OPERATION), (150, done_one)], 300,
          [A.but(balance=999_999_850), B.but(balance=999_999_850, seq=1)], max_size=100)
     case("only_without_operations", [A], [none], [(100, MISSING_OPERATION)], 100, [A.but(balance=999_999_900)], max_size=100)
     # a fee bump counts as one operation more, also for the set's size
     bump = bumped("b", 400, sent("a", 1, NOTHING))
-    for name, size, fee in [("fee_bump_crowded", 101, 400), ("fee_bump_at_capacity", 102, 200)]:
+    for name, size, fee in [("fee_bump_surge", 101, 400), ("fee_bump_at_capacity", 102, 200)]:
         case(name, [A, B], [bump], [(fee, inner(1, bump.inner, done_one))], fee,
              [A.but(seq=1), B.but(balance=1_000_000_000 - fee)], max_size=size)
     # a transaction of the first version counts too: 120 each
     first = First(Tx("a", 1, [NOTHING], 120), [])
-    case("first_version_crowded", [A, B], [first, other], [(120, NOT_SUPPORTED), (120, done_one)], 240,
+    case("first_version_surge", [A, B], [first, other], [(120, NOT_SUPPORTED), (120, done_one)], 240,
          [A.but(balance=999_999_880), B.but(balance=999_999_880, seq=1)], max_size=101)
-    # the whole balance where the fee is larger
+    # the entire balance where the fee is larger
     poor = A.but(balance=60)
     case("fee_above_balance", [poor], [sent("a", 1, NOTHING)], [(60, INSUFFICIENT_BALANCE)], 60, [poor.but(balance=0, seq=1)])
     less = A.but(balance=150)
@@ -670,7 +670,7 @@ def fees():
 
 
 def early_checks():
-    """The checks before the signatures, each alone and before those behind it."""
+    """The checks before the signatures, each alone and before those after it."""
     for name, bounds, end in [
         ("too_early", (1_001, 0), TOO_EARLY), ("early_and_late", (1_001, 999), TOO_EARLY), ("too_late", (0, 999), TOO_LATE),
         ("too_late_by_one", (999, 999), TOO_LATE),
@@ -690,7 +690,7 @@ def early_checks():
     case("low_bid", [A], [sent("a", 1, NOTHING, fee=99)], [(99, INSUFFICIENT_FEE)], 99, [A.but(balance=999_999_901)])
     case("low_bid_for_two", [A], [sent("a", 1, NOTHING, NOTHING, fee=199)], [(199, INSUFFICIENT_FEE)], 199, [A.but(balance=999_999_801)])
     case("no_bid", [A], [sent("a", 1, NOTHING, fee=0)], [(0, INSUFFICIENT_FEE)], 0, [A])
-    # the same number, one too many, none behind the greatest, and a number below 0
+    # the same number, one too many, none after the greatest, and a number below 0
     same, next_one, last, below = [Account(name, 100 * LUMEN, seq=seq) for name, seq in
                                    [("a", 5), ("b", 5), ("c", GREATEST), ("d", GREATEST)]]
     case("bad_sequence", [same, next_one, last, below],
@@ -698,7 +698,7 @@ def early_checks():
          [(100, BAD_SEQ)] * 4, 400, [e.but(balance=999_999_900) for e in [same, next_one, last, below]])
     near = A.but(seq=GREATEST - 1)
     case("greatest_sequence", [near], [sent("a", GREATEST, NOTHING)], [(100, ok(BUMPED))], 100, [near.but(balance=999_999_900, seq=GREATEST)])
-    # behind a bump to 10 the number 2 is bad, and 11 is the next
+    # after a bump to 10 the number 2 is bad, and 11 is the next
     case("sequence_after_bump", [A], [sent("a", 11, NOTHING), sent("a", 2, NOTHING), sent("a", 1, bump_sequence(10))],
          [(100, ok(BUMPED)), (100, BAD_SEQ), (100, ok(BUMPED))], 300, [A.but(balance=999_999_700, seq=11)], order=[2, 1, 0])
 
@@ -771,7 +771,7 @@ def signatures():
 
 
 def balances():
-    """The reserve behind the fee: three reserves of half a lumen."""
+    """The reserve after the fee: three reserves of half a lumen."""
     enough, short = A.but(balance=15_000_100), A.but(balance=15_000_099)
     case("at_reserve", [enough], [sent("a", 1, NOTHING)], [(100, ok(BUMPED))], 100, [enough.but(balance=15_000_000, seq=1)])
     case("below_reserve", [short], [sent("a", 1, NOTHING)], [(100, INSUFFICIENT_BALANCE)], 100, [short.but(balance=14_999_999, seq=1)])
@@ -795,7 +795,7 @@ def operations():
     case("merge", [A, B], [merge], [(100, ok(ran(MERGE, 0, 999_999_900)))], 100, [B.but(balance=1_999_999_900)])
     case("merged_before", [A, B], [sent("a", 2, NOTHING), merge], [(100, NO_ACCOUNT), (100, ok(ran(MERGE, 0, 999_999_800)))], 200,
          [B.but(balance=1_999_999_800)], order=[1, 0])
-    # the account stands when its signatures are checked, and is gone when its operation's turn comes
+    # the account exists when its signatures are checked, and is gone when its operation's turn comes
     case("source_merged_before", [A, B], [sent("a", 1, account_merge("a", source="b"), bump_sequence(5, source="b"), fee=200, signers="ab")],
          [(200, failed(ran(MERGE, 0, 1_000_000_000), OP_NO_ACCOUNT))], 200, [A.but(balance=999_999_800, seq=1), B])
     case("source_merged_away", [A, B], [sent("a", 1, bump_sequence(5, source="b"), account_merge("a", source="b"), fee=200, signers="ab")],
@@ -811,7 +811,7 @@ def operations():
     case("begin_without_end", [A, B], [sent("a", 1, begin, put, fee=200, signers="ab")], [(200, BAD_SPONSORSHIP)], 200,
          [A.but(balance=999_999_800, seq=1), B])
     case("begin_alone", [A, B], [sent("a", 1, begin)], [(100, BAD_SPONSORSHIP)], 100, [A.but(balance=999_999_900, seq=1), B])
-    # a failure is told before an open sponsorship
+    # a failure is reported before an open sponsorship
     case("begin_and_failure", [A, B], [sent("a", 1, begin, payment("z", 5), fee=200)], [(200, failed(ran(BEGIN, 0), ran(PAYMENT, -5)))], 200,
          [A.but(balance=999_999_800, seq=1), B])
     case("begin_and_end", [A, B], [sent("a", 1, begin, put, end, fee=300, signers="ab")],
@@ -896,7 +896,7 @@ def fee_bumps():
          [A.but(balance=999_999_900, seq=1), C.but(balance=1_999_999_700)])
 
     # a pre-authorised signer of the payer goes once the signatures have passed, and before the balance is looked at:
-    # without it two reserves are left, which the balance behind the fee just has
+    # without it two reserves are left, which the balance after the fee just has
     inner_signed = sent("a", 1, NOTHING)
     unsigned = bumped("b", 200, inner_signed, signatures=[])
     payer = Account("b", 10_000_200, signers=[preauth(unsigned.hash)])
@@ -970,7 +970,7 @@ def order():
     """The order of application."""
     third, first, second = [sent("a", seq, bump_sequence(seq)) for seq in (3, 1, 2)]
     case("sequence_order", [A], [third, first, second], [(100, ok(BUMPED))] * 3, 300, [A.but(balance=999_999_700, seq=3)], order=[1, 2, 0])
-    # a fee bump stands in the queue of its inner source
+    # a fee bump is in the queue of its inner source
     bump = bumped("b", 200, sent("a", 2, NOTHING))
     case("fee_bump_order", [A, B], [sent("a", 3, NOTHING), bump, sent("a", 1, NOTHING)],
          [(100, ok(BUMPED)), (200, inner(1, bump.inner, ok(BUMPED))), (100, ok(BUMPED))], 400,
@@ -1091,7 +1091,7 @@ def pools():
 
 
 def paths():
-    """Path payments in transactions that don't come to them."""
+    """Path payments in transactions that end before them."""
     out_of_turn, old = sent("a", 2, path_payment("b", 1)), First(Tx("a", 1, [path_payment("b", 1)]), [])
     spent = [A.but(balance=999_999_900), B]
     case("path_payment_sequence", [A, B], [out_of_turn], [(100, BAD_SEQ)], 100, spent)
@@ -1117,8 +1117,8 @@ def thousand():
     """A set of 1,000 transactions of 100 sources: of each ten payments of the source's number and one to the next source."""
     accounts = [Account(number, 100 * LUMEN) for number in range(100)]
     listed = [sent(number, seq, payment((number + 1) % 100, number + 1), fee=100 + number) for seq in range(1, 11) for number in range(100)]
-    # 7 and 1,000 have no common factor, so every place comes once
-    turned = [listed[7 * place % 1_000] for place in range(1_000)]
+    # 7 and 1,000 have no common factor, so every index comes once
+    turned = [listed[7 * index % 1_000] for index in range(1_000)]
     after = []
     for number, account in enumerate(accounts):
         received = 10 * ((number - 1) % 100 + 1)

@@ -1,6 +1,6 @@
 #!/usr/bin/env python3
-"""Writes the run that is stopped, into stories/stopped: image, and for each ledger from 62 to 66 record.N, its record behind a mark, lines.N,
-what is printed for it, and end.N, what is printed at the end of the input behind it; end.61 is that of the image.
+"""Writes the run that is stopped, into stories/stopped: image, and for each ledger from 62 to 66 record.N, its record after a mark, lines.N,
+what is printed for it, and end.N, what is printed at the end of the input after it; end.61 is that of the image.
 
 They come from the ledger in Python beside this script. Prints how many bytes the image has, the records up to ledger 64, and what is printed
 for these. Python 3.9 or later and its standard library.

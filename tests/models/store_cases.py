@@ -1,5 +1,5 @@
 """The cases of stores, which `run_cases.py` writes: what `init` makes of an image, what `run` opens, and what it leaves. Each says by hand
-how it ends, and to which epoch and how many records the files open behind it.
+how it ends, and to which epoch and how many records the files open after it.
 """
 
 from ledger_model import Text, catchup, cut_image, marked, sha, take_mark, u32, u64
@@ -19,7 +19,7 @@ def files(**given):
 
 
 def records_in(data):
-    """The records behind the marks of a text."""
+    """The records after the marks of a text."""
     text, records = Text(data), []
     while text.at < len(data):
         records.append(text.take(take_mark(text, MOST)))
@@ -43,39 +43,40 @@ def kept(story, records=0, epoch=0, rest=b"\0"):
 
 
 def opened(volume):
-    """The epoch to which the files open, and how many records stand behind its image."""
+    """The epoch to which the files open, and how many records follow its image."""
     epoch = Store(volume).epoch
     return epoch, len(records_of(2, volume[2 + epoch % 2])[0])
 
 
-def over(name, words, data, before, came, left):
-    """A case over files. `left` is by hand to what they open behind it (`opened`), or None where each stays as it was."""
-    came, after = came
+def over(name, words, data, before, ended, left):
+    """A case over files. `left` is by hand to what they open after it (`opened`), or None where each stays as it was."""
+    yielded, after = ended
     assert after == before if left is None else opened(after) == left, (name, left)
-    CASES.append((name, words, data, came, before, after))
+    CASES.append((name, words, data, yielded, before, after))
     return after
 
 
 def makes(name, data, before, end, left=None, passphrase=NETWORK, joined=False):
-    """A case of `init`. `end` is by hand: what is told on standard error behind the status, or nothing. The option may be one word."""
-    came, after = init(passphrase, data, before)
-    assert end == (f"{came[2]} {came[1].strip()}" if came[1] else ""), (name, came)
+    """A case of `init`. `end` is by hand: what is written to standard error after the status, or nothing. The option may be one word."""
+    yielded, after = init(passphrase, data, before)
+    assert end == (f"{yielded[2]} {yielded[1].strip()}" if yielded[1] else ""), (name, yielded)
     words = ["init", f"--network={passphrase}"] if joined else ["init", "--network", passphrase]
-    return over(f"init: {name}", words, data, before, (came, after), left)
+    return over(f"init: {name}", words, data, before, (yielded, after), left)
 
 
 def runs(name, data, before, end, left=None, closes=None):
     """A case of `run`, with its end by hand."""
-    came, after = run(data, before)
-    test_end(name, came, end, closes)
-    return over(f"run: {name}", ["run"], data, before, (came, after), left)
+    yielded, after = run(data, before)
+    test_end(name, yielded, end, closes)
+    return over(f"run: {name}", ["run"], data, before, (yielded, after), left)
 
 
 def shows(name, before, end):
-    """A case of `show`: `end` is by hand, the status and what is told on standard error, or what the lines say of the store."""
-    came = show(before)
-    assert end == (f"{came[2]} {came[1].strip()}" if came[1] else [line.split(" ", 1)[1] for line in came[0].splitlines()[1:]]), (name, came)
-    over(f"show: {name}", ["show"], b"not read", before, (came, before), None)
+    """A case of `show`: `end` is by hand, the status and what is written to standard error, or what the lines say of the store."""
+    yielded = show(before)
+    lines = [line.split(" ", 1)[1] for line in yielded[0].splitlines()[1:]]
+    assert end == (f"{yielded[2]} {yielded[1].strip()}" if yielded[1] else lines), (name, yielded)
+    over(f"show: {name}", ["show"], b"not read", before, (yielded, before), None)
 
 
 # ---- images and stories
@@ -130,15 +131,15 @@ def making():
     makes("an empty ledger", image(), files(), "", (0, 0))
     makes("on another network", LEGAL, files(), "", (0, 0), "n")
     length = len(LEGAL)
-    makes("a byte behind the image", LEGAL + b"\0", files(), f"9 bad input at {length}")
-    makes("a record behind the image", Story(LEGAL).close().data, files(), f"9 bad input at {length}")
+    makes("a byte after the image", LEGAL + b"\0", files(), f"9 bad input at {length}")
+    makes("a record after the image", Story(LEGAL).close().data, files(), f"9 bad input at {length}")
     makes("two images", LEGAL + LEGAL, files(), f"9 bad input at {length}")
     makes("no bytes", b"", files(), "9 bad input at 0")
     makes("three bytes", b"SLI", files(), "9 bad input at 3")
     makes("another magic", b"SLI2" + LEGAL[4:], files(), "9 bad input at 0")
     makes("an image without its last byte", LEGAL[:-1], files(), f"9 bad input at {length - 1}")
     makes("a lumen too many", BROKEN, files(), "10 bad image rule 13")
-    makes("a byte behind an image with a lumen too many", BROKEN + b"\0", files(), f"9 bad input at {len(BROKEN)}")
+    makes("a byte after an image with a lumen too many", BROKEN + b"\0", files(), f"9 bad input at {len(BROKEN)}")
     makes("another version", image([A], version=17), files(), "10 bad image rule 2")
     # the input is judged before the volume is asked
     makes("a lumen too many, where a store is", BROKEN, made, "10 bad image rule 13")
@@ -151,7 +152,7 @@ def making_over():
     made = image_file(0, ON_TEST, LEGAL)
     for name, gate in [("0", 0), ("7", 7), ("255", 255)]:
         old = files(image0=image_file(4, sha(b"n"), OLD, gate), journal0=b"\1junk")
-        assert makes(f"over an image behind a gate of {name}", LEGAL, old, "", (0, 0)) == files(image0=made, journal0=b"\0")
+        assert makes(f"over an image after a gate of {name}", LEGAL, old, "", (0, 0)) == files(image0=made, journal0=b"\0")
     beside = files(image1=image_file(1, ON_TEST, OLD, 0), journal1=b"\1junk", journal0=bytes(100))
     after = makes("beside files of the other epochs", LEGAL, beside, "", (0, 0))
     assert after == files(image0=made, image1=beside[1], journal0=b"\0", journal1=b"\1junk")
@@ -167,7 +168,7 @@ def making_over():
     makes("with a passphrase that begins with a hyphen", LEGAL, files(), "", (0, 0), "-a", joined=True)
     makes("with a passphrase of an option's form", LEGAL, files(), "", (0, 0), "--network=a", joined=True)
     shut = image_file(0, ON_TEST, OLD, 0)
-    makes("where an image is open behind one that isn't", LEGAL, files(image0=shut, image1=head), "12 already there")
+    makes("where an image is open after one that isn't", LEGAL, files(image0=shut, image1=head), "12 already there")
 
 
 def words():
@@ -200,10 +201,10 @@ def going_on():
     runs("no records", b"", start, "end 5", closes=0)
     first = runs("three records", b"".join(map(marked, records[:3])), start, "end 8", (0, 3), 3)
     assert first == files(**kept(story, 3))
-    runs("no records, behind three", b"", first, "end 8", closes=0)
+    runs("no records, after three", b"", first, "end 8", closes=0)
     second = runs("three records more", b"".join(map(marked, records[3:])), first, "end 11", (0, 6), 3)
     assert second == files(**kept(story, 6))
-    assert "".join(CASES[place][3][0].rsplit("end ", 1)[0] for place in (-3, -1)) == lines.rsplit("end ", 1)[0]
+    assert "".join(CASES[index][3][0].rsplit("end ", 1)[0] for index in (-3, -1)) == lines.rsplit("end ", 1)[0]
     runs("all at once", input_of(story), start, "end 11", (0, 6), 6)
     assert CASES[-1][3][0] == lines and CASES[-1][5] == second
     runs("the record that is kept once more", marked(records[2]), first, "refused 9 WrongSeq 9 8", closes=0)
@@ -223,29 +224,29 @@ def endings():
     before = Story(start_of(story)).close(payment(1))
     here = before.ledger.hash.hex()
     refused = input_of(before.refused(previous=bytes(32)))
-    runs("a refused record behind a close", refused, start, f"refused 7 WrongPrevious {here} {zero}", (0, 1), 1)
-    runs("nothing behind a refused record", refused + data[second:], start, f"refused 7 WrongPrevious {here} {zero}", (0, 1), 1)
+    runs("a refused record after a close", refused, start, f"refused 7 WrongPrevious {here} {zero}", (0, 1), 1)
+    runs("nothing after a refused record", refused + data[second:], start, f"refused 7 WrongPrevious {here} {zero}", (0, 1), 1)
     runs("a refused record", data[second:], start, "refused 6 WrongSeq 6 7", closes=0)
     runs("a record of no byte", u32(0x80000000), start, "refused 6 BadXdr 0 Short", closes=0)
-    for name, rest, place in [
+    for name, rest, offset in [
         ("a record that is cut", data[second:-1], len(data) - 1), ("a mark that is cut", b"\x80\0", second + 2),
         ("a clear mark", u32(4) + bytes(4), second), ("a record that is too long", u32(0x81000001), second),
         ("the longest record, which is cut", u32(0x81000000), second + 4),
     ]:
-        after = runs(f"{name}, behind a close", data[:second] + rest, start, f"9 bad input at {place}", (0, 1), 1)
+        after = runs(f"{name}, after a close", data[:second] + rest, start, f"9 bad input at {offset}", (0, 1), 1)
         assert after == one
     runs("three bytes of a mark", b"\x80\0\0", start, "9 bad input at 3", closes=0)
 
 
 def gates():
-    """Gates behind the records of a journal, and what stands behind them."""
+    """Gates after the records of a journal, and what follows them."""
     story = paid(5, 3)
     first, second, third = records_in(input_of(story))
     for gate in (0, 2, 7, 255):
         pending = bytes([gate]) + journal_file([second])[1:]
         start = files(**kept(story, 1, rest=pending))
-        runs(f"a whole record behind a gate of {gate}", b"", start, "end 6", closes=0)
-        after = runs(f"the record behind a gate of {gate} once more", marked(second), start, "end 7", (0, 2), 1)
+        runs(f"a complete record after a gate of {gate}", b"", start, "end 6", closes=0)
+        after = runs(f"the record after a gate of {gate} once more", marked(second), start, "end 7", (0, 2), 1)
         assert after == files(**kept(story, 2))
     runs("a journal that begins with a gate of 7", marked(first), files(**kept(story, 0, rest=b"\7")), "end 6", (0, 1), 1)
     junk = bytes([1]) * 1000
@@ -253,7 +254,7 @@ def gates():
     assert after[2] == journal_file([first]) + junk[len(first) + 5:]
     runs("a record once more over more than it", marked(second), after, "end 7", (0, 2), 1)
     runs("over all but one byte of the record", marked(first), files(**kept(story, 0, rest=bytes(len(first) + 5))), "end 6", (0, 1), 1)
-    runs("records that stand open behind a shut gate", marked(first), files(**kept(story, 0, rest=b"\0" + journal_file([second, third]))),
+    runs("records with open gates after a shut gate", marked(first), files(**kept(story, 0, rest=b"\0" + journal_file([second, third]))),
          "end 6", (0, 1), 1)
 
 
@@ -261,7 +262,7 @@ def gates():
 
 
 def rolls():
-    """A store that goes on to the next epoch behind ledgers 63, 127 and 191, and to none behind others."""
+    """A store that goes on to the next epoch after ledgers 63, 127 and 191, and to none after others."""
     story = mixed(1, 129)
     records, ends = records_in(input_of(story)), catchup(NETWORK, story.data)[0]
     start = files(**kept(story))
@@ -269,13 +270,13 @@ def rolls():
     runs("up to ledger 62", part(2, 62), start, "end 62", (0, 61), 61)
     turned = runs("up to ledger 63: the next epoch, and no records", part(2, 63), start, "end 63", (1, 0), 62)
     assert turned[:1] + turned[2:] == [start[0], journal_file(records[:62]), b"\0"]
-    runs("no records, behind a new epoch", b"", turned, "end 63", closes=0)
+    runs("no records, after a new epoch", b"", turned, "end 63", closes=0)
     next_one = runs("the first record of an epoch, in the other journal", part(64, 64), turned, "end 64", (1, 1), 1)
     assert next_one[:3] == turned[:3] and next_one[3] == journal_file(records[62:63])
     later = runs("up to ledger 126 of another epoch", part(65, 126), next_one, "end 126", (1, 63), 62)
     again = runs("up to ledger 127: another epoch, over the first one's files", part(127, 127), later, "end 127", (2, 0), 1)
     assert again[1] == later[1] and again[2] == b"\0" and again[3] == journal_file(records[62:126])
-    runs("behind two epochs", part(128, 129), again, "end 129", (2, 2), 2)
+    runs("after two epochs", part(128, 129), again, "end 129", (2, 2), 2)
     at_once = runs("over two epochs at once", input_of(story), start, "end 129", (2, 2), 128)
     assert CASES[-1][3][0] == ends and at_once == CASES[-2][5]
     # no ledger is closed: none is due
@@ -283,12 +284,12 @@ def rolls():
 
 
 def rolls_that_are_not_due():
-    """Ledgers behind which the store stays in its epoch."""
+    """Ledgers after which the store stays in its epoch."""
     story = quiet(62, 65)
     records = records_in(input_of(story))
-    behind = runs("from ledger 63 with its record, whose epoch is left for later", b"".join(map(marked, records[1:])),
+    after = runs("from ledger 63 with its record, whose epoch is left for later", b"".join(map(marked, records[1:])),
                   files(**kept(story, 1)), "end 65", (0, 3), 2)
-    assert behind == files(**kept(story, 3))
+    assert after == files(**kept(story, 3))
     runs("from an image of ledger 63", input_of(quiet(63, 64)), files(**kept(quiet(63, 64))), "end 64", (0, 1), 1)
     long = quiet(62, 128)
     later = b"".join(map(marked, records_in(input_of(long))[1:]))
@@ -304,10 +305,10 @@ def rolls_that_are_not_due():
 
 
 def rolls_over():
-    """What stands in the files of the epoch to which a store goes on."""
+    """What is in the files of the epoch to which a store goes on."""
     story = quiet(62, 64)
     old = dict(journal1=b"\1junk")
-    shut = [("a shut image", 0, 9), ("an image behind a gate of 7", 7, 2**63 + 1), ("an image behind a gate of 255", 255, 1)]
+    shut = [("a shut image", 0, 9), ("an image after a gate of 7", 7, 2**63 + 1), ("an image after a gate of 255", 255, 1)]
     for name, gate, epoch in shut:
         before = files(**kept(story, epoch=10), image1=image_file(epoch, ON_TEST, OLD, gate), **old)
         runs(f"over {name}", input_of(story), before, "end 64", (11, 1), 2)
@@ -353,13 +354,13 @@ def openings():
 
 def missing():
     """No image is open."""
-    whole = image_file(0, ON_TEST, LEGAL)
+    image_with_gate = image_file(0, ON_TEST, LEGAL)
     runs("no files", b"", files(), "11 missing")
     runs("no files, and records", input_of(paid()), files(), "11 missing")
     runs("journals alone", b"", files(journal0=b"\0", journal1=b"\0"), "11 missing")
     runs("open gates of files that are too short", b"", files(image0=b"\1" * 48, image1=b"\1", journal0=b"\0"), "11 missing")
     for gate in (0, 7):
-        runs(f"an image behind a gate of {gate}", b"", files(image0=bytes([gate]) + whole[1:], journal0=b"\0"), "11 missing")
+        runs(f"an image after a gate of {gate}", b"", files(image0=bytes([gate]) + image_with_gate[1:], journal0=b"\0"), "11 missing")
 
 
 def bad_heads():
@@ -369,8 +370,8 @@ def bad_heads():
     start, other = start_of(story), image_file(3, ON_TEST, start_of(story))
     head = b"\1" * 49
 
-    def bad(name, place, **given):
-        runs(f"bad store: {name}", input_of(story), files(**{**good, **given}), f"7 bad store at {place}")
+    def bad(name, at, **given):
+        runs(f"bad store: {name}", input_of(story), files(**{**good, **given}), f"7 bad store at {at}")
 
     bad("an odd epoch in the first file", "0 1", image0=image_file(1, ON_TEST, start))
     bad("an even epoch in the second file", "1 1", image0=b"", image1=image_file(2, ON_TEST, start), journal1=journal)
@@ -399,8 +400,8 @@ def bad_images():
     bad("an image of no byte", b"")
     bad("another magic", b"SLI2" + LEGAL[4:])
     bad("an image without its last byte", LEGAL[:-1])
-    bad("a byte behind the image", LEGAL + b"\0")
-    bad("a record behind the image", Story(LEGAL).close().data)
+    bad("a byte after the image", LEGAL + b"\0")
+    bad("a record after the image", Story(LEGAL).close().data)
     bad("an image without its last byte, and no journal", LEGAL[:-1], journal=b"")
     bad("a lumen too many", BROKEN)
     bad("a lumen too many in the second file", BROKEN, "7 bad store at 1 49", epoch=1)
@@ -417,7 +418,7 @@ def bad_journals():
     """Journals that are none, and records that close no ledger."""
     story = paid(5, 3)
     first, second, third = records_in(input_of(story))
-    place, last = len(first) + 5, len(first) + len(second) + 10
+    offset, last = len(first) + 5, len(first) + len(second) + 10
     broken = second[:-1] + b"\1"
 
     def bad(name, journal, end, epoch=0):
@@ -426,28 +427,28 @@ def bad_journals():
 
     bad("no journal", b"", "2 0")
     bad("no journal in the fourth file", b"", "3 0", 1)
-    bad("no gate behind a record", journal_file([first], b""), f"2 {place}")
-    bad("no gate behind two records", journal_file([first, second], b""), f"2 {last}")
+    bad("no gate after a record", journal_file([first], b""), f"2 {offset}")
+    bad("no gate after two records", journal_file([first, second], b""), f"2 {last}")
     bad("a gate alone", b"\1", "2 0")
     bad("three bytes of a length", b"\1\0\0\0", "2 0")
     bad("a record that is cut", journal_file([first])[:-2], "2 0")
-    bad("a second record that is cut", journal_file([first, second])[:-2], f"2 {place}")
-    bad("a second record of which one byte is there", journal_file([first], b"\1\0\0\0\2a"), f"2 {place}")
-    bad("a second record without its length", journal_file([first], b"\1"), f"2 {place}")
+    bad("a second record that is cut", journal_file([first, second])[:-2], f"2 {offset}")
+    bad("a second record of which one byte is there", journal_file([first], b"\1\0\0\0\2a"), f"2 {offset}")
+    bad("a second record without its length", journal_file([first], b"\1"), f"2 {offset}")
     bad("a record that is too long", b"\1" + u32(16777217) + bytes(99), "2 0")
     bad("the longest record, which is cut", b"\1" + u32(16777216) + bytes(99), "2 0")
-    bad("a record of 2^32 - 1 bytes", journal_file([first], b"\1" + u32(2**32 - 1) + bytes(99)), f"2 {place}")
+    bad("a record of 2^32 - 1 bytes", journal_file([first], b"\1" + u32(2**32 - 1) + bytes(99)), f"2 {offset}")
     bad("a refused record", journal_file([second]), "2 0")
-    bad("a refused record in the fourth file", journal_file([first, third]), f"3 {place}", 1)
+    bad("a refused record in the fourth file", journal_file([first, third]), f"3 {offset}", 1)
     bad("a record twice", journal_file([first, second, second]), f"2 {last}")
     bad("a record of no byte", journal_file([b""]), "2 0")
-    bad("a second record that is none", journal_file([first, broken, third]), f"2 {place}")
+    bad("a second record that is none", journal_file([first, broken, third]), f"2 {offset}")
     bad("a refused record ahead of one that is cut", journal_file([second, first])[:-2], f"2 {len(second) + 5}")
     bad("a refused record, and no gate", journal_file([first, third], b""), f"2 {len(first) + len(third) + 10}")
 
 
 def changed(volume, *changes):
-    """The files of a volume with bytes written at places: each a file, an offset and its bytes."""
+    """The files of a volume with bytes written at offsets: each a file, an offset and its bytes."""
     left = [bytearray(file) for file in volume]
     for file, offset, data in changes:
         left[file].extend(bytes(max(0, offset + len(data) - len(left[file]))))
@@ -460,7 +461,7 @@ def two_images():
     return files(**kept(paid(8, 2), 2, 2), **kept(paid(5, 1), 1, 1))
 
 
-def places():
+def precedence():
     """Which fault of two comes first: file by file, and in each the epoch before the length; all of that before the image. Files that are
     shut, images that don't count, and their journals aren't judged."""
     volume = two_images()
@@ -523,12 +524,12 @@ def before_a_journal():
 
 
 def take(data):
-    """What stands after a record mark."""
+    """What follows a record mark."""
     return data[4:4 + (int.from_bytes(data[:4], "big") & 0x7FFFFFFF)]
 
 
 def showing():
-    """What `show` tells of stores, and of volumes that have none; it never goes on to another epoch."""
+    """What `show` reports of stores, and of volumes that have none; it never goes on to another epoch."""
     story, two = paid(5, 3), 200 * LUMEN
     good = kept(story)
     shows("no files", files(), "11 missing")
@@ -539,13 +540,13 @@ def showing():
     shows("a closed gate ahead of a record", files(**{**good, "journal0": b"\0" + journal_file(records_in(input_of(story)))}), ["0 records 0", f"{two} 0", "2"])
     long = mixed(1, 63)
     before = run(b"".join(map(marked, records_in(input_of(long))[:61])), files(**kept(long)))[1]
-    behind = run(input_of(long), files(**kept(long)))[1]
-    assert opened(before) == (0, 61) and opened(behind) == (1, 0)
+    after = run(input_of(long), files(**kept(long)))[1]
+    assert opened(before) == (0, 61) and opened(after) == (1, 0)
     shows("ahead of a new epoch", before, ["0 records 61", *show_of(before)])
-    shows("a new epoch", behind, ["1 records 0", *show_of(behind)])
-    # a ledger behind which an epoch was due, where a run stopped ahead of it
+    shows("a new epoch", after, ["1 records 0", *show_of(after)])
+    # a ledger after which an epoch was due, where a run stopped ahead of it
     due = kept(long, 62)
-    shows("where an epoch is due", files(**due), ["0 records 62", *show_of(behind)])
+    shows("where an epoch is due", files(**due), ["0 records 62", *show_of(after)])
     shows("bad store: an odd epoch in the first file", files(**{**good, "image0": image_file(1, ON_TEST, start_of(story))}), "7 bad store at 0 1")
     shows("bad store: an image that breaks a rule", files(image0=image_file(0, ON_TEST, BROKEN), journal0=b"\0"), "7 bad store at 0 49")
     shows("bad store: a journal of no bytes", files(**{**good, "journal0": b""}), "7 bad store at 2 0")
@@ -559,5 +560,5 @@ def show_of(volume):
 
 PARTS = [
     making, making_over, words, showing, going_on, endings, gates, rolls, rolls_that_are_not_due, rolls_over, last_epochs, openings, missing,
-    bad_heads, bad_images, bad_journals, places, image_bytes, before_a_journal,
+    bad_heads, bad_images, bad_journals, precedence, image_bytes, before_a_journal,
 ]

@@ -14,7 +14,7 @@ STRETCH = 64
 
 
 class BadStore(Exception):
-    """Open files that are no store: a file, and a place in it."""
+    """Open files that are no store: a file, and an offset in it."""
 
 
 class Missing(Exception):
@@ -29,7 +29,7 @@ def image_file(epoch, network, image, gate=1):
 
 
 def journal_file(records, rest=b"\0"):
-    """A journal of records, with what stands behind them: a closed gate, unless it is said."""
+    """A journal of records, with what follows them: a closed gate, unless it is said."""
     return b"".join(b"\1" + u32(len(record)) + record for record in records) + rest
 
 
@@ -41,24 +41,24 @@ def number(data):
     return int.from_bytes(data, "big")
 
 
-def records_of(place, file):
-    """The records of a journal, with the places of their gates, and that of the gate behind them."""
+def records_of(index, file):
+    """The records of a journal, with the offsets of their gates, and that of the gate after them."""
     at, records = 0, []
     while True:
         if at >= len(file):
-            raise BadStore(place, at)
+            raise BadStore(index, at)
         if file[at] != 1:
             return records, at
         length = number(file[at + 1:at + 5])
         end = at + 5 + length
         if len(file) < at + 5 or length > MOST or len(file) < end:
-            raise BadStore(place, at)
+            raise BadStore(index, at)
         records.append((at, file[at + 5:end]))
         at = end
 
 
-def whole_image(data):
-    """The header and the files of an image behind which nothing stands, or None."""
+def complete_image(data):
+    """The header and the files of an image after which nothing follows, or None."""
     text = Text(data)
     try:
         cut = cut_image(text)
@@ -68,42 +68,42 @@ def whole_image(data):
 
 
 class Store:
-    """What a volume opens to: an epoch, and the ledger behind its image and its records."""
+    """What a volume opens to: an epoch, and the ledger after its image and its records."""
 
     def __init__(self, files):
         self.files, epochs = list(files), {}
-        for place, file in enumerate(self.files[:2]):
+        for index, file in enumerate(self.files[:2]):
             if is_open(file):
-                epochs[place] = number(file[1:9])
-                if epochs[place] % 2 != place:
-                    raise BadStore(place, 1)
+                epochs[index] = number(file[1:9])
+                if epochs[index] % 2 != index:
+                    raise BadStore(index, 1)
                 if number(file[41:49]) != len(file) - HEAD:
-                    raise BadStore(place, 41)
+                    raise BadStore(index, 41)
         if not epochs:
             raise Missing
-        place = max(epochs, key=epochs.get)
-        self.epoch, self.network = epochs[place], self.files[place][9:41]
-        cut = whole_image(self.files[place][HEAD:])
+        index = max(epochs, key=epochs.get)
+        self.epoch, self.network = epochs[index], self.files[index][9:41]
+        cut = complete_image(self.files[index][HEAD:])
         if cut is None:
-            raise BadStore(place, HEAD)
-        records, self.gate = records_of(2 + place, self.files[2 + place])
+            raise BadStore(index, HEAD)
+        records, self.gate = records_of(2 + index, self.files[2 + index])
         try:
             self.ledger = ledger_of(self.network, *cut)
         except BadImage:
-            raise BadStore(place, HEAD) from None
+            raise BadStore(index, HEAD) from None
         for at, record in records:
             try:
                 self.ledger.close(record)
             except BadRecord:
-                raise BadStore(2 + place, at) from None
+                raise BadStore(2 + index, at) from None
 
     def close(self, record):
         """Closes the ledger by a record and keeps it; answers its lines."""
         lines = self.ledger.close(record)
-        place = 2 + self.epoch % 2
+        index = 2 + self.epoch % 2
         written = journal_file([record])
-        file = self.files[place]
-        self.files[place] = file[:self.gate] + written + file[self.gate + len(written):]
+        file = self.files[index]
+        self.files[index] = file[:self.gate] + written + file[self.gate + len(written):]
         self.gate += len(written) - 1
         if (self.ledger.header["seq"] + 1) % STRETCH == 0 and self.epoch < LAST_EPOCH:
             self.go_on()
@@ -112,9 +112,9 @@ class Store:
     def go_on(self):
         """Goes on to the next epoch."""
         self.epoch, self.gate = self.epoch + 1, 0
-        place = self.epoch % 2
-        self.files[place] = image_file(self.epoch, self.network, image_of(self.ledger))
-        self.files[2 + place] = journal_file([])
+        index = self.epoch % 2
+        self.files[index] = image_file(self.epoch, self.network, image_of(self.ledger))
+        self.files[2 + index] = journal_file([])
 
 
 def image_of(ledger):
@@ -122,16 +122,16 @@ def image_of(ledger):
     return b"SLI1" + marked(HEADER.write(ledger.header)) + b"".join(u64(len(file)) + file for file in files)
 
 
-# ---- the commands: what each writes to its output and to standard error, its status, and the files behind it
+# ---- the commands: what each writes to its output and to standard error, its status, and the files after it
 
 
 def init(passphrase, data, files):
-    """What `init` comes to over the files of a volume."""
+    """What `init` yields over the files of a volume."""
     text, network = Text(data), sha(passphrase.encode())
     try:
         cut = cut_image(text)
         if text.at < len(data):
-            raise Wrong(text.at, "bytes behind the image")
+            raise Wrong(text.at, "bytes after the image")
         ledger_of(network, *cut)
     except Wrong as wrong:
         return ("", f"bad input at {wrong.at}\n", 9), files
@@ -143,7 +143,7 @@ def init(passphrase, data, files):
 
 
 def run(data, files):
-    """What `run` comes to over the files of a volume."""
+    """What `run` yields over the files of a volume."""
     try:
         store = Store(files)
     except Missing:
@@ -162,7 +162,7 @@ def run(data, files):
 
 
 def show(files):
-    """What `show` comes to over the files of a volume, which stay."""
+    """What `show` yields over the files of a volume, which stay."""
     try:
         store = Store(files)
     except Missing:

@@ -1,7 +1,7 @@
 """Runs of `catchup` that close one ledger over the table of cases of sets in `set_cases.py`, which `run_cases.py` writes.
 
 What is printed is worked out from what the table says by hand: the lines of transactions from their charges and outcomes, and the header
-after the close from the results, what the fee pool gets, and the entries that stand then.
+after the close from the results, what the fee pool gets, and the entries that exist then.
 """
 
 import set_cases as sets
@@ -59,12 +59,12 @@ def tables():
     for name, start, before, listed, in_order, ends, after, made, missing, time in sets.TABLE:
         data = start.image + sets.marked(start.record(listed, time))
         if ends is None:
-            came = f"refused {start.seq + 1} FeeSourceMissing {missing}\n", "", 3
+            yielded = f"refused {start.seq + 1} FeeSourceMissing {missing}\n", "", 3
         else:
-            came = lines_of(start, before, listed, in_order, ends, after, made, time), "", 0
+            yielded = lines_of(start, before, listed, in_order, ends, after, made, time), "", 0
         # the ledger in Python, which shares nothing with the table, must say the same
-        assert catchup(NETWORK, data) == came, (name, catchup(NETWORK, data), came)
-        CASES.append((name, ["catchup", "--network", NETWORK], data, came, NO_FILES, NO_FILES))
+        assert catchup(NETWORK, data) == yielded, (name, catchup(NETWORK, data), yielded)
+        CASES.append((name, ["catchup", "--network", NETWORK], data, yielded, NO_FILES, NO_FILES))
 
 
 PARTS = [tables]

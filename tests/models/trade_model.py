@@ -52,7 +52,7 @@ def bind(layer, offer, sign):
             change(layer, rank, ext=(1, {"liabilities": {**owed, side: owed[side] + sign * amount}, "ext": more}))
 
 
-# ---- offers that stand
+# ---- existing offers
 
 
 def rank_of(offer):
@@ -60,7 +60,7 @@ def rank_of(offer):
 
 
 def pair(selling, buying):
-    """What names a book."""
+    """What names an order book."""
     return ASSET.write(selling) + ASSET.write(buying)
 
 
@@ -73,13 +73,13 @@ def dearness(price):
     return (price["n"] << 64) // price["d"]
 
 
-def place_of(rank, offer):
-    """What orders a book."""
+def position_of(rank, offer):
+    """What orders an order book."""
     return dearness(offer["price"]), offer["offer"], rank
 
 
 class Entries(dict):
-    """Entries by the ranks of their keys, and the books of the offers among them."""
+    """Entries by the ranks of their keys, and the order books of the offers among them."""
 
     def __init__(self, entries):
         super().__init__()
@@ -92,18 +92,18 @@ class Entries(dict):
         super().__setitem__(rank, entry)
         if rank[0] == 2:
             offer = entry["body"][1]
-            bisect.insort(self.books.setdefault(pair_of(offer), []), place_of(rank, offer))
+            bisect.insort(self.books.setdefault(pair_of(offer), []), position_of(rank, offer))
 
     def __delitem__(self, rank):
         self.drop(rank)
         super().__delitem__(rank)
 
     def drop(self, rank):
-        """Takes an offer that stands out of its book."""
+        """Takes an existing offer out of its order book."""
         if rank[0] == 2 and rank in self:
             offer = self[rank]["body"][1]
             listed = self.books[pair_of(offer)]
-            del listed[bisect.bisect_left(listed, place_of(rank, offer))]
+            del listed[bisect.bisect_left(listed, position_of(rank, offer))]
 
 
 def changes_over(layer):
@@ -124,8 +124,8 @@ def cancel(layer, offer):
 def revoke_offers(layer, name, asset):
     """Removes the offers of an account that sell an asset or buy it."""
     entries, changed = changes_over(layer)
-    standing = {rank: entry["body"][1] for rank, entry in entries.items() if rank[:2] == (2, name)}
-    for _, offer in sorted((standing | changed).items()):
+    existing = {rank: entry["body"][1] for rank, entry in entries.items() if rank[:2] == (2, name)}
+    for _, offer in sorted((existing | changed).items()):
         if offer is not None and offer["seller"][1] == name and asset in (offer["selling"], offer["buying"]):
             cancel(layer, offer)
 
@@ -136,13 +136,13 @@ def revoke_offers(layer, name, asset):
 def book(layer, wanted):
     """The offers of a pair, from the best on, as they are before any of them is crossed."""
     entries, changed = changes_over(layer)
-    own = sorted(place_of(rank, offer) for rank, offer in changed.items() if offer is not None and pair_of(offer) == wanted)
-    others = [place for place in entries.books.get(wanted, []) if place[2] not in changed]
+    own = sorted(position_of(rank, offer) for rank, offer in changed.items() if offer is not None and pair_of(offer) == wanted)
+    others = [position for position in entries.books.get(wanted, []) if position[2] not in changed]
     for _, _, rank in heapq.merge(own, others):
         yield changed[rank] if rank in changed else entries[rank]["body"][1]
 
 
-def spelled_atom(offer, wheat, sheep):
+def encoded_atom(offer, wheat, sheep):
     sold, bought = ASSET.write(offer["selling"]), ASSET.write(offer["buying"])
     return i32(1) + u32(0) + offer["seller"][1] + i64(offer["offer"]) + sold + i64(wheat) + bought + i64(sheep)
 
@@ -172,7 +172,7 @@ class Trade:
         wheat, sheep, stays = exchange(offer["price"], amount, *left, room(layer, takes), rounding=self.rounding)
         pay_at(layer, takes, sheep)
         pay_at(layer, gives, -wheat)
-        self.atoms.append(spelled_atom(offer, wheat, sheep))
+        self.atoms.append(encoded_atom(offer, wheat, sheep))
         self.wheat += wheat
         self.sheep += sheep
         rest = what_offer_gives(frame, layer, offer, amount - wheat) if stays else 0
@@ -185,7 +185,7 @@ class Trade:
 
     def cross(self, frame, layer, taker, offers, greatest=None, is_passive=False):
         """Crosses the offers of a book that aren't too dear; answers whether the taker has what it asked for."""
-        for place, offer in enumerate(offers):
+        for index, offer in enumerate(offers):
             if self.is_done:
                 return True
             if greatest is not None:
@@ -193,7 +193,7 @@ class Trade:
                 if most < price or is_passive and not price < most:
                     return False
             refuse(offer["seller"][1] == taker, self.own)
-            if place == self.crossings:
+            if index == self.crossings:
                 raise EXCEEDED_WORK_LIMIT
             if self.meet(frame, layer, offer):
                 return True
@@ -273,7 +273,7 @@ def cross_for(frame, layer, offer, sells, buys):
 
 
 def rest_of(frame, layer, offer, trade, sells, buys):
-    """What is still offered behind a trade."""
+    """What is still offered after a trade."""
     if trade.has_all:
         return 0
     gives, takes = holders(offer)

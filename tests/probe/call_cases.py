@@ -13,21 +13,21 @@ FILE = META + b"".join(bytes.fromhex("8000002c000000010000000000000000") + lette
 
 
 class Calls:
-    """The lines of cases, and what is wanted of them."""
+    """The lines of cases, and what is expected of them."""
 
     def __init__(self) -> None:
         self.lines = ["calls"]
-        self.wanted: List[str] = []
+        self.expected: List[str] = []
 
     def find(self, file: bytes, letter: bytes, answer: str) -> None:
         """What a file says of the account of 32 equal letters."""
         self.lines.append(f"find {(var(file) + bytes(8) + letter * 32).hex()}")
-        self.wanted.append(f"find: {answer}")
+        self.expected.append(f"find: {answer}")
 
     def upgrade(self, kind: int, value: int) -> None:
         data = (u32(kind) + u32(value)).hex()
         self.lines.append(f"upgrade {data}")
-        self.wanted.append(f"upgrade: {data}")
+        self.expected.append(f"upgrade: {data}")
 
 
 def cases() -> Calls:

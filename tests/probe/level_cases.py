@@ -10,7 +10,7 @@ import hashlib
 import os
 from typing import Dict, List, NamedTuple, Optional, Tuple
 
-from operation_cases import place_of
+from operation_cases import rank_of_entry
 from xdr_words import u32, var
 
 HERE = os.path.dirname(os.path.abspath(__file__))
@@ -40,12 +40,12 @@ def read(file: bytes) -> Tuple[Optional[int], Rows]:
         if arm == META:
             version = int.from_bytes(body[:4], "big")
         else:
-            rows[place_of(bytes(4) + body + bytes(60) if arm == DEAD else body)] = (arm, body)
+            rows[rank_of_entry(bytes(4) + body + bytes(60) if arm == DEAD else body)] = (arm, body)
     return version, rows
 
 
-def met(old: Tuple[int, bytes], new: Tuple[int, bytes]) -> Optional[Tuple[int, bytes]]:
-    """What two items of one key come to, or nothing."""
+def merged_item(old: Tuple[int, bytes], new: Tuple[int, bytes]) -> Optional[Tuple[int, bytes]]:
+    """What two items of one key merge into, or nothing."""
     if (old[0], new[0]) == (INIT, DEAD):
         return None
     return ({DEAD: {INIT: LIVE}, INIT: {LIVE: INIT}}.get(old[0], {}).get(new[0], new[0]), new[1])
@@ -57,7 +57,7 @@ def merged(level: int, older: bytes, newer: bytes) -> bytes:
     versions = [it for it in (old_version, new_version) if it is not None]
     if not versions:
         return b""
-    found = {**rows, **{key: met(rows[key], item) if key in rows else item for key, item in new.items()}}
+    found = {**rows, **{key: merged_item(rows[key], item) if key in rows else item for key, item in new.items()}}
     items = [found[key] for key in sorted(found) if found[key] is not None]
     return meta(max(versions)) + b"".join(record(*it) for it in items if level < 10 or it[0] != DEAD)
 
@@ -117,10 +117,10 @@ class Levels:
         back = f"{level} {start} {len(older)} {len(newer)}"
         if start != due.start:
             return f"stale {level} {start} {due.start} {back}"
-        for word, wanted, given in [("older", due.older, older), ("newer", due.newer, newer)]:
-            if wanted != given:
-                pairs = zip(wanted, given)
-                at = next((at for at, (a, b) in enumerate(pairs) if a != b), min(len(wanted), len(given)))
+        for word, expected, given in [("older", due.older, older), ("newer", due.newer, newer)]:
+            if expected != given:
+                pairs = zip(expected, given)
+                at = next((at for at, (a, b) in enumerate(pairs) if a != b), min(len(expected), len(given)))
                 return f"{word} {level} {at} {back}"
         return "taken"
 
@@ -129,21 +129,21 @@ class Levels:
 
 
 class Board:
-    """Levels and the merges that are kept, and the lines of a case with what is wanted of them."""
+    """Levels and the merges that are kept, and the lines of a case with what is expected of them."""
 
     def __init__(self) -> None:
         self.levels = Levels([b""] * 22, 0)
         self.earlier = Levels([b""] * 22, 0)
         self.kept: List[Merge] = []
         self.lines = ["levels"]
-        self.wanted: List[str] = []
+        self.expected: List[str] = []
         self.answers: List[str] = []
 
     def line(self, word: str, arguments: bytes = b"", answer: str = "") -> None:
         self.lines.append(f"{word} {arguments.hex()}".strip())
-        self.wanted.append(f"{word}: {answer}".strip())
+        self.expected.append(f"{word}: {answer}".strip())
 
-    def stand(self, seq: int, level: int, curr: bytes, snap: bytes) -> None:
+    def set_level(self, seq: int, level: int, curr: bytes, snap: bytes) -> None:
         """One level has a file as its curr, and the one above it another as its snap. The others have META alone."""
         files = [meta(18)] * 22
         files[2 * level], files[2 * level - 1] = curr, snap
@@ -161,45 +161,45 @@ class Board:
         """The levels are made anew of their files."""
         self.set(self.levels.files(), self.levels.seq)
 
-    def close(self, fresh: bytes, wanted: Optional[bytes] = None) -> None:
+    def close(self, fresh: bytes, expected: Optional[bytes] = None) -> None:
         self.levels.close(fresh)
-        assert wanted in (None, self.levels.hash())
+        assert expected in (None, self.levels.hash())
         self.line("close", var(fresh), self.state())
 
     def draw(self) -> List[int]:
-        """Draws the merges that began. Answers their places in the row."""
+        """Draws the merges that began. Answers their indices in the row."""
         drawn = [self.levels.pending[level] for level in self.levels.undrawn]
         self.levels.undrawn = []
         self.line("draw", b"", " ".join(f"{it.level} {it.start}" for it in drawn))
         self.kept += drawn
         return list(range(len(self.kept) - len(drawn), len(self.kept)))
 
-    def make(self, level: int, start: int, older: bytes, newer: bytes, wanted: bytes) -> None:
+    def make(self, level: int, start: int, older: bytes, newer: bytes, expected: bytes) -> None:
         """A merge is made, or as a close where it is into the first level."""
-        assert merged(level, older, newer) == wanted
+        assert merged(level, older, newer) == expected
         if level == 0:
             self.set([older] + [b""] * 21, 2)
             self.close(newer)
-            assert self.levels.files()[0] == wanted
+            assert self.levels.files()[0] == expected
             return
-        self.line("make", u32(level) + u32(start) + var(older) + var(newer), wanted.hex() or "-")
+        self.line("make", u32(level) + u32(start) + var(older) + var(newer), expected.hex() or "-")
         self.kept.append(Merge(level, start, older, newer))
 
-    def again(self, place: int, later: int = 0, more_older: bytes = b"", more_newer: bytes = b"") -> int:
-        """A merge once more, as it isn't. Answers its place."""
-        level, start, older, newer = self.kept[place]
+    def again(self, index: int, later: int = 0, more_older: bytes = b"", more_newer: bytes = b"") -> int:
+        """A merge once more, in another form. Answers its index in the row."""
+        level, start, older, newer = self.kept[index]
         self.kept.append(Merge(level, start + later, older + more_older, newer + more_newer))
-        self.line("again", u32(place) + u32(later) + var(more_older) + var(more_newer))
+        self.line("again", u32(index) + u32(later) + var(more_older) + var(more_newer))
         return len(self.kept) - 1
 
-    def hand_in(self, place: int, wanted: Optional[str] = None) -> None:
-        answer = self.levels.answer(self.kept.pop(place))
-        assert wanted is None or answer.startswith(wanted), answer
+    def hand_in(self, index: int, expected: Optional[str] = None) -> None:
+        answer = self.levels.answer(self.kept.pop(index))
+        assert expected is None or answer.startswith(expected), answer
         self.answers.append(answer.split()[0])
-        self.line("hand_in", u32(place), answer)
+        self.line("hand_in", u32(index), answer)
 
     def others(self, is_new: bool) -> None:
-        """Hands in the merges of levels with the files of an earlier ledger, by turns as they stood after it and as if they stood after
+        """Hands in the merges of levels with the files of an earlier ledger, by turns as they were after it and as if they were after
         the same one."""
         if is_new:
             self.earlier = Levels(self.levels.files(), self.levels.seq)
@@ -208,9 +208,9 @@ class Board:
         self.answers += [it.split()[0] for it in answers]
         self.line("others", u32(is_new) + u32(seq), " ".join(answers))
 
-    def lengths(self, *wanted: int) -> None:
+    def lengths(self, *expected: int) -> None:
         """The lengths of the first files were worked out by hand."""
-        assert [len(it) for it in self.levels.files()][: len(wanted)] == [*wanted]
+        assert [len(it) for it in self.levels.files()][: len(expected)] == [*expected]
 
 
 # ---- merges
@@ -240,10 +240,10 @@ def rows_of(name: str) -> List[List[str]]:
 def merges() -> Board:
     board = Board()
     for level, *files in rows_of("merges"):
-        older, newer, wanted = (bytes.fromhex(it.lstrip("-")) for it in files)
-        board.make(int(level), 0, older, newer, wanted)
-    for level, older, newer, wanted in MERGES:
-        board.make(level, 64, older, newer, wanted)
+        older, newer, expected = (bytes.fromhex(it.lstrip("-")) for it in files)
+        board.make(int(level), 0, older, newer, expected)
+    for level, older, newer, expected in MERGES:
+        board.make(level, 64, older, newer, expected)
     return board
 
 
@@ -275,26 +275,26 @@ class Schedule:
             for _ in drawn:
                 self.board.hand_in(drawn[0])
         elif name in ("twice", "changed"):
-            for place in drawn:
-                (self.twice if name == "twice" else self.changed)(place)
+            for index in drawn:
+                (self.twice if name == "twice" else self.changed)(index)
         else:
-            for place in drawn:
-                if all(it.level != self.board.kept[place].level for it in self.waiting):
-                    self.waiting.append(self.board.kept[place])
+            for index in drawn:
+                if all(it.level != self.board.kept[index].level for it in self.waiting):
+                    self.waiting.append(self.board.kept[index])
 
-    def twice(self, place: int) -> None:
-        self.board.hand_in(self.board.again(place))
+    def twice(self, index: int) -> None:
+        self.board.hand_in(self.board.again(index))
         # (it stays in the row, and another one is handed in)
-        self.board.hand_in(self.board.again(place))
+        self.board.hand_in(self.board.again(index))
 
-    def changed(self, place: int) -> None:
+    def changed(self, index: int) -> None:
         """With one entry more in the older input, then in the newer one, with a later start, and with one byte more."""
-        _, _, older, newer = self.board.kept[place]
-        self.board.hand_in(self.board.again(place, 0, LAST if older else meta(18) + LAST))
-        self.board.hand_in(self.board.again(place, 0, b"", LAST if newer else meta(18) + LAST))
-        self.board.hand_in(self.board.again(place, 1))
+        _, _, older, newer = self.board.kept[index]
+        self.board.hand_in(self.board.again(index, 0, LAST if older else meta(18) + LAST))
+        self.board.hand_in(self.board.again(index, 0, b"", LAST if newer else meta(18) + LAST))
+        self.board.hand_in(self.board.again(index, 1))
         # (a file with one byte more is no bucket)
-        self.board.line("again", u32(place) + u32(0) + var(b"") + var(b"\0"), "BAD")
+        self.board.line("again", u32(index) + u32(0) + var(b"") + var(b"\0"), "BAD")
 
     def hand_in_waiting(self, name: str) -> None:
         seq = self.board.levels.seq
@@ -309,8 +309,8 @@ def scheduled(name: str) -> Board:
     board = Board()
     schedule = Schedule(board)
     schedule.by(name)
-    for seq, fresh, wanted in rows_of("levels"):
-        board.close(bytes.fromhex(fresh), bytes.fromhex(wanted))
+    for seq, fresh, expected in rows_of("levels"):
+        board.close(bytes.fromhex(fresh), bytes.fromhex(expected))
         if int(seq) == RESTARTED:
             board.restart()
         schedule.by(name)
@@ -342,17 +342,17 @@ A, B, A_AND_B, B_AND_C = gone(b"A"), gone(b"B"), gone(b"A", b"B"), gone(b"B", b"
 def drawn_once() -> Board:
     """A job is drawn once, and again as its level begins the next merge."""
     board = Board()
-    board.stand(1, 1, A, B)
-    for wanted in [[(1, 2), *((level, 0) for level in range(2, 11))], [], [(1, 4)]]:
+    board.set_level(1, 1, A, B)
+    for expected in [[(1, 2), *((level, 0) for level in range(2, 11))], [], [(1, 4)]]:
         board.close(meta(18))
-        assert [board.kept[it][:2] for it in board.draw()] == wanted
+        assert [board.kept[it][:2] for it in board.draw()] == expected
     return board
 
 
 def taken_twice() -> Board:
     """What an outcome leaves that is handed in twice is what levels have that were handed nothing."""
     board = Board()
-    board.stand(17, 2, A, DEAD_DATA)
+    board.set_level(17, 2, A, DEAD_DATA)
     second = board.draw()[1]
     assert board.kept[second].level == 2
     board.hand_in(board.again(second), "taken")
@@ -365,7 +365,7 @@ def taken_twice() -> Board:
 def handed_in_late() -> Board:
     """A merge whose commit has passed comes back."""
     board = Board()
-    board.stand(4, 1, A, B)
+    board.set_level(4, 1, A, B)
     board.draw()
     board.close(meta(18))
     board.close(meta(18))
@@ -379,16 +379,16 @@ def other_inputs() -> Board:
     account."""
     board = Board()
     for older, at in [(DEAD_DATA, 19), (B, 32), (meta(18), 16), (b"", 0)]:
-        board.stand(5, 1, A_AND_B, B)
+        board.set_level(5, 1, A_AND_B, B)
         board.make(1, 4, older, B, merged(1, older, B))
         board.hand_in(0, f"older 1 {at} ")
         board.close(meta(18))
     for older, newer, word, at in [
         (A, B, "older", len(A)), (A_AND_B, A, "newer", 32), (A_AND_B, meta(18), "newer", 16), (A_AND_B, B_AND_C, "newer", len(B)),
     ]:
-        board.stand(19, 2, older, newer)
+        board.set_level(19, 2, older, newer)
         board.draw()
-        board.stand(19, 2, A_AND_B, B)
+        board.set_level(19, 2, A_AND_B, B)
         board.hand_in(1, f"{word} 2 {at} ")
         board.close(meta(18))
         while board.kept:
@@ -399,7 +399,7 @@ def other_inputs() -> Board:
 def ready_outcome() -> Board:
     """A close has the hash that it has without the outcome which it commits."""
     board = Board()
-    board.stand(5, 1, A, DEAD_DATA)
+    board.set_level(5, 1, A, DEAD_DATA)
     board.draw()
     board.hand_in(0, "taken")
     board.close(meta(18))
@@ -413,8 +413,8 @@ EMPTY_LEVELS = "fe05118472ded163eec364dac2e960ba8ac910689c88cead24b394962b13a1e6
 
 
 def made_and_removed() -> Board:
-    """A key that is made and removed stands in no file once both met. The file that it is made in has 92 bytes, that in which it is gone
-    72, and META alone has 16. Levels that are made anew go on alike."""
+    """A key that is made and removed is in no file once both were merged. The file that it is made in has 92 bytes, that in which it is
+    gone 72, and META alone has 16. Levels that are made anew go on alike."""
     board = Board()
     board.set([b""] * 22, 2)
     assert board.levels.hash().hex() == EMPTY_LEVELS

@@ -1,6 +1,6 @@
-"""Cases of maps of entries with undo, of the books of their offers, and of sums.
+"""Cases of maps of entries with undo, of the order books of their offers, and of sums.
 
-They are answered by a plain list of entries, which shares nothing with the program; the orders of books, the offers after all layers
+They are answered by a plain list of entries, which shares nothing with the program; the order of each book, the offers after all layers
 and the sums are compared with what was worked out by hand, from prices as fractions.
 """
 
@@ -8,7 +8,7 @@ from fractions import Fraction
 from typing import Dict, List, Optional, Sequence, Tuple
 
 from level_cases import DATA_KEY, INIT, INIT_V, meta, record
-from operation_cases import Place, place_of
+from operation_cases import Rank, rank_of_entry
 from sponsor_cases import THINGS, Account
 from xdr_words import i32, i64, many, u32, u64, var
 
@@ -44,63 +44,63 @@ def key(seller: int, number: int) -> bytes:
 
 
 class Sheet:
-    """Entries as a plain dictionary by their places in the order of keys, and the lines of a case with what is wanted of them."""
+    """Entries as a plain dictionary by the ranks of their keys, and the lines of a case with what is expected of them."""
 
     def __init__(self, *entries: bytes):
-        self.base: Dict[Place, bytes] = {place_of(it): it for it in entries}
+        self.base: Dict[Rank, bytes] = {rank_of_entry(it): it for it in entries}
         self.now, self.kept = dict(self.base), []
         file = meta(18) + b"".join(record(INIT, self.base[it]) for it in sorted(self.base)) if entries else b""
         self.lines = [f"maps {(var(file) + var(b'') * 21).hex()}"]
-        self.wanted: List[str] = []
+        self.expected: List[str] = []
 
     def step(
         self, name: str, erased: Sequence[bytes] = (), put: Sequence[bytes] = (), asked: Sequence[bytes] = (), pair: bytes = NOTHING,
         seller: int = SELLER, book: Sequence[int] = (), own: Optional[Sequence[int]] = None, sums: Optional[Tuple[int, int]] = None,
     ) -> None:
-        """Takes a step. Where a book, an account's own offers or sums are given, they were worked out by hand."""
+        """Takes a step. Where an order book, an account's own offers or sums are given, they were worked out by hand."""
         if name == "child":
             self.kept.append(dict(self.now))
         elif name in ("keep", "undo"):
             last = self.kept.pop()
             self.now = last if name == "undo" else self.now
         for it in erased:
-            self.now.pop(place_of_key(it), None)
+            self.now.pop(rank_of_key(it), None)
         for it in put:
-            self.now[place_of(it)] = it
+            self.now[rank_of_entry(it)] = it
         found = [number for _, number in self.book(pair)]
         assert not book or found == [*book], found
         # (offers are numbered from 1 on; one of number 0 is none of its account's)
-        owned = [place[2] for place in sorted(self.now) if place[:2] == (2, bytes([seller] * 32)) and place[2] > 0]
+        owned = [rank[2] for rank in sorted(self.now) if rank[:2] == (2, bytes([seller] * 32)) and rank[2] > 0]
         assert own is None or owned == [*own], owned
         held = sums or (self.held(pair[: len(pair) - 4] if pair[:4] != NATIVE else NATIVE), self.held(NATIVE))
-        words = [f"{self.shown(place if place in self.now else None)} {self.next(place)}" for place in map(place_of_key, asked)]
+        words = [f"{self.shown(rank if rank in self.now else None)} {self.next(rank)}" for rank in map(rank_of_key, asked)]
         words += ["best", *found[:1], "book", *found, "own", *owned, *held, self.changes()]
         arguments = many(erased) + many(put) + many(asked) + offer_body(seller, 0, 0, (1, 1), pair)
         self.lines.append(f"{name} {arguments.hex()}")
-        self.wanted.append(f"{name}: {' '.join(map(str, words))}")
+        self.expected.append(f"{name}: {' '.join(map(str, words))}")
 
-    def shown(self, place: Optional[Place]) -> str:
+    def shown(self, rank: Optional[Rank]) -> str:
         """An entry by the ledger that changed it, and an offer by its number and amount too."""
-        if place is None:
+        if rank is None:
             return "none"
-        entry = self.now[place]
+        entry = self.now[rank]
         numbers = [entry[:4]]
-        if place[0] == 2:
+        if rank[0] == 2:
             # (an offer ends with its amount, the two parts of its price, its flags and two empty extensions)
             numbers += [entry[44:52], entry[-28:-20]]
         return " ".join(str(int.from_bytes(it, "big")) for it in numbers)
 
-    def next(self, place: Place) -> str:
-        return self.shown(min((it for it in self.now if it > place), default=None))
+    def next(self, rank: Rank) -> str:
+        return self.shown(min((it for it in self.now if it > rank), default=None))
 
     def book(self, pair: bytes) -> List[Tuple[Fraction, int]]:
-        offers = [it[8:-4] for place, it in self.now.items() if place[0] == 2 and it[52 : 52 + len(pair)] == pair]
-        return sorted(rank_of(it) for it in offers)
+        offers = [it[8:-4] for rank, it in self.now.items() if rank[0] == 2 and it[52 : 52 + len(pair)] == pair]
+        return sorted(position_of(it) for it in offers)
 
     def held(self, asset: bytes) -> int:
         """What all entries hold of an asset, where it is none that is given by hand."""
-        assert not any(place[0] != 2 for place in self.now) or asset == NATIVE
-        return sum(int.from_bytes(it[44:52], "big") for place, it in self.now.items() if place[0] == 0)
+        assert not any(rank[0] != 2 for rank in self.now) or asset == NATIVE
+        return sum(int.from_bytes(it[44:52], "big") for rank, it in self.now.items() if rank[0] == 0)
 
     def changes(self) -> str:
         new = [it for it in sorted(self.now) if it not in self.base]
@@ -110,12 +110,12 @@ class Sheet:
         return " ".join(["new", *map(self.shown, new), "changed", *map(self.shown, changed), "gone", *numbers])
 
 
-def place_of_key(encoded: bytes) -> Place:
-    return place_of(bytes(4) + encoded + bytes(60))
+def rank_of_key(encoded: bytes) -> Rank:
+    return rank_of_entry(bytes(4) + encoded + bytes(60))
 
 
-def rank_of(body: bytes) -> Tuple[Fraction, int]:
-    """The rank of an offer in its book: its price as a fraction, and its number."""
+def position_of(body: bytes) -> Tuple[Fraction, int]:
+    """The position of an offer in its order book: its price as a fraction, and its number."""
     parts = [int.from_bytes(body[at : at + 4], "big") for at in (len(body) - 16, len(body) - 12)]
     return Fraction(*parts), int.from_bytes(body[36:44], "big")
 
@@ -157,7 +157,7 @@ def kept_child() -> Sheet:
     return sheet
 
 
-# ---- books: offer 5 at a half, 3 at two quarters, 9 at a third, and one of the other pair that is cheaper
+# ---- order books: offer 5 at a half, 3 at two quarters, 9 at a third, and one of the other pair that is cheaper
 
 BOOK = [
     offer(seller, number, 5, price, pair) for seller, number, price, pair in [
@@ -177,7 +177,7 @@ def ranked_book() -> Sheet:
 
 
 def new_price() -> Sheet:
-    """A new price is a new place, and an account's offers are in the order of their numbers."""
+    """A new price is a new position, and an account's offers are in the order of their numbers."""
     sheet = Sheet()
     sheet.step("stay", put=BOOK, seller=SELLER, own=[1, 5, 9])
     sheet.step("stay", seller=OTHER, own=[3])
@@ -228,7 +228,7 @@ def made_once() -> Sheet:
     sheet = Sheet()
     entry_made = INIT_V[24:]
     sheet.lines = [f"maps {(var(INIT_V) + var(b'') * 21).hex()}"]
-    sheet.base = {place_of(entry_made): entry_made}
+    sheet.base = {rank_of_entry(entry_made): entry_made}
     sheet.now = dict(sheet.base)
     sheet.step("stay", asked=[DATA_KEY], sums=(0, 0))
     return sheet
@@ -238,7 +238,7 @@ def made_twice() -> Sheet:
     """There is no base where two levels say that an entry is made."""
     sheet = Sheet()
     sheet.lines = [f"maps {((var(INIT_V) + var(b'') * 7) + var(INIT_V) + var(b'') * 13).hex()}"]
-    sheet.wanted = ["case: BAD"]
+    sheet.expected = ["case: BAD"]
     return sheet
 
 

@@ -1,6 +1,6 @@
-"""Cases of operations: operations.txt beside this script, with each case encoded as XDR, and what is wanted of it.
+"""Cases of operations: operations.txt beside this script, with each case encoded as XDR, and what is expected of it.
 
-A case of operations.txt is a small ledger in words, as in xdr_words.py, and an operation. What is wanted follows `=`, worked out by
+A case of operations.txt is a small ledger in words, as in xdr_words.py, and an operation. What is expected follows `=`, worked out by
 hand from the protocol: what the operation answers, each entry that is new, changed or gone, and the open sponsorships where their
 number changed. Of an entry all is stated that isn't 0 or none:
 
@@ -23,24 +23,24 @@ from xdr_words import (
 
 HERE = os.path.dirname(os.path.abspath(__file__))
 
-# the place of an entry in the order of keys
-Place = Tuple[object, ...]
+# the rank of an entry's key
+Rank = Tuple[object, ...]
 
 
 class Case(NamedTuple):
-    """A line of the cases: its name, what is made, and what it says; and what is wanted of it."""
+    """A line of the cases: its name, what is made, and what it says; and what is expected of it."""
 
     name: str
     made: str
     encoded: bytes
-    wanted: str
+    expected: str
 
 
 # ---- entries
 
 
-def place_of(encoded: bytes) -> Place:
-    """The place of an entry in the order of keys: numbers of offers have a sign, and names are compared without their lengths."""
+def rank_of_entry(encoded: bytes) -> Rank:
+    """The rank of an entry's key: numbers of offers have a sign, and names are compared without their lengths."""
     kind = int.from_bytes(encoded[4:8], "big")
     if kind in (0, 1, 2, 3):
         owner, rest = encoded[12:44], encoded[44:]
@@ -157,12 +157,12 @@ def balance(stated: str) -> bytes:
     return u32(1) + u32(4) + balance_id(found[1]) + claimants + line_asset(found[2]) + i64(found[3]) + ext + by(found[6])
 
 
-def stated_entry(stated: str, before: Dict[Place, bytes]) -> bytes:
-    """The entry that is stated, where these stand before it."""
+def stated_entry(stated: str, before: Dict[Rank, bytes]) -> bytes:
+    """The entry that is stated, where these exist before it."""
     kind = stated.split()[0]
     if kind in ("line", "offer"):
         plain = line(stated, None) if kind == "line" else ENTRIES["offer"](*stated.split()[1:3])
-        return (line if kind == "line" else offer)(stated, before.get(place_of(plain)))
+        return (line if kind == "line" else offer)(stated, before.get(rank_of_entry(plain)))
     return {"account": account, "data": data, "balance": balance}[kind](stated)
 
 
@@ -181,13 +181,13 @@ def answer_of(stated: str) -> str:
 
 
 class Ledger:
-    """What a case says before what is wanted."""
+    """What a case says before what is expected."""
 
     def __init__(self) -> None:
         self.base_reserve, self.seq, self.close = 5_000_000, 2, 0
-        self.source, self.tx_seq, self.place = bytes(36), 0, 0
+        self.source, self.tx_seq, self.index = bytes(36), 0, 0
         self.open: List[Tuple[str, str]] = []
-        self.entries: Dict[Place, bytes] = {}
+        self.entries: Dict[Rank, bytes] = {}
 
     def take(self, words: List[str]) -> None:
         if words[0] == "ledger":
@@ -195,17 +195,17 @@ class Ledger:
         elif words[0] == "close":
             self.close = int(words[1])
         elif words[0] == "transaction":
-            self.source, self.tx_seq, self.place = account_id(words[1]), int(words[2]), int(words[3])
+            self.source, self.tx_seq, self.index = account_id(words[1]), int(words[2]), int(words[3])
         elif words[0] == "open":
             assert words[2] == "by", words
             self.open.append((words[1], words[3]))
         else:
             encoded = ENTRIES[words[0]](*words[1:])
-            assert place_of(encoded) not in self.entries, words
-            self.entries[place_of(encoded)] = encoded
+            assert rank_of_entry(encoded) not in self.entries, words
+            self.entries[rank_of_entry(encoded)] = encoded
 
     def encoded(self, source: bytes) -> bytes:
-        ctx = u32(self.seq) + u32(self.base_reserve) + u64(self.close) + self.source + i64(self.tx_seq) + u32(self.place) + source
+        ctx = u32(self.seq) + u32(self.base_reserve) + u64(self.close) + self.source + i64(self.tx_seq) + u32(self.index) + source
         return ctx + u32(len(self.open)) + encoded_open(self.open) + many([*self.entries.values()])
 
 
@@ -213,29 +213,29 @@ def encoded_open(sponsorships: List[Tuple[str, str]]) -> bytes:
     return b"".join(account_id(sponsored) + account_id(sponsor) for sponsored, sponsor in sponsorships)
 
 
-def left_by(ledger: Ledger, wanted: List[str]) -> bytes:
+def left_by(ledger: Ledger, expected: List[str]) -> bytes:
     """The open sponsorships and the entries that are left, by what is stated to have changed."""
     entries, sponsorships = dict(ledger.entries), ledger.open
-    opened = [(it.split()[1], it.split()[3]) for it in wanted if it.startswith("open ")]
-    for it in wanted:
+    opened = [(it.split()[1], it.split()[3]) for it in expected if it.startswith("open ")]
+    for it in expected:
         word, stated = it.split(" ", 1)
         if it == "none open" or word == "open":
             sponsorships = opened
             continue
         encoded = stated_entry(stated, ledger.entries)
-        place = place_of(encoded)
-        assert (place in ledger.entries) == (word != "new"), it
+        rank = rank_of_entry(encoded)
+        assert (rank in ledger.entries) == (word != "new"), it
         if word == "gone":
-            assert entries.pop(place) == encoded, it
+            assert entries.pop(rank) == encoded, it
         else:
-            assert word in ("new", "changed") and entries.get(place) != encoded, it
-            entries[place] = encoded
+            assert word in ("new", "changed") and entries.get(rank) != encoded, it
+            entries[rank] = encoded
     return encoded_open(sponsorships) + b"".join(entries[it] for it in sorted(entries))
 
 
 def case_of(block: str) -> Case:
     lines = block.split("\n")
-    wanted = [it[2:] for it in lines if it.startswith("= ")]
+    expected = [it[2:] for it in lines if it.startswith("= ")]
     words = [it.split() for it in lines if not it.startswith("= ")]
     assert words[0][0] == "case" and words[-1][0] == "op", block
     ledger = Ledger()
@@ -243,8 +243,8 @@ def case_of(block: str) -> Case:
         ledger.take(it)
     _, source, name, *rest = words[-1]
     # (an operation without a source of its own)
-    encoded = ledger.encoded(account_id(source)) + maybe(None) + OPERATIONS[name](*rest) + left_by(ledger, wanted[1:])
-    return Case(words[0][1], "operation", encoded, answer_of(wanted[0]))
+    encoded = ledger.encoded(account_id(source)) + maybe(None) + OPERATIONS[name](*rest) + left_by(ledger, expected[1:])
+    return Case(words[0][1], "operation", encoded, answer_of(expected[0]))
 
 
 def cases() -> List[Case]:

@@ -1,5 +1,5 @@
 #!/usr/bin/env python3
-"""Writes the cases of crates/probe, data/cases, and what is wanted of them, stdout, from tables that were made by hand beside this script.
+"""Writes the cases of crates/probe, data/cases, and what is expected of them, stdout, from tables made by hand beside this script.
 
     probe_cases.py            writes both
     probe_cases.py --check    ends with status 1 where they aren't those of the tables
@@ -25,10 +25,10 @@ def files() -> Dict[str, str]:
     ledgers = operation_cases.cases() + sponsor_cases.cases()
     parts = [*map_cases.sheets(), *level_cases.boards(), stream_cases.cases(), call_cases.cases()]
     blocks = [["ledgers", *(f"{it.made} {it.name} {it.encoded.hex()}" for it in ledgers)], *(it.lines for it in parts)]
-    wanted = [f"{it.made} {it.name}: {it.wanted}" for it in ledgers] + [line for it in parts for line in it.wanted]
+    expected = [f"{it.made} {it.name}: {it.expected}" for it in ledgers] + [line for it in parts for line in it.expected]
     return {
         "data/cases": "\n\n".join("\n".join(it) for it in blocks) + "\n",
-        "stdout": "".join(f"{it}\n" for it in wanted),
+        "stdout": "".join(f"{it}\n" for it in expected),
     }
 
 

@@ -1,9 +1,9 @@
 """Cases of entries and signers that are added, moved to other payers and removed, each step a case of its own.
 
-What is wanted stands in sponsorships.txt beside this script, worked out by hand from CAP-0033: after the name of a step what it
+What is expected is in sponsorships.txt beside this script, worked out by hand from CAP-0033: after the name of a step what it
 answers, and in stories what is counted then for the owner, the sponsor and the other payer: subentries, reserves that the
-account pays as a sponsor, and its own reserves that others pay; and a line each signer with its payer. Here stand the ledgers, which
-follow from it: what each step counts is compared with the table as they are written.
+account pays as a sponsor, and its own reserves that others pay; and a line each signer with its payer. The ledgers here follow from
+it: what each step counts is compared with the table as they are written.
 
 Stellar-ledger-entries.x of protocol 18, over RFC 4506. Python 3.9 or later and its standard library.
 """
@@ -12,7 +12,7 @@ import os
 import re
 from typing import Dict, List, NamedTuple, Optional, Tuple
 
-from operation_cases import Case, place_of
+from operation_cases import Case, rank_of_entry
 from xdr_words import i32, i64, many, maybe, u32, u64, var
 
 HERE = os.path.dirname(os.path.abspath(__file__))
@@ -70,7 +70,7 @@ THINGS = {
 
 
 class Account:
-    """What an account has; its extension for counts stands from its first count of sponsorship on."""
+    """What an account has; its extension for counts exists from its first count of sponsorship on."""
 
     def __init__(self, balance: int, subentries: int = 0, sponsoring: int = 0):
         self.balance, self.subentries, self.sponsoring, self.sponsored = balance, subentries, sponsoring, 0
@@ -90,12 +90,12 @@ class Account:
 
     def body(self, name: str) -> bytes:
         signers = many([signer + u32(1) for signer, _ in self.signers])
-        means = i64(self.balance) + i64(0) + u32(self.subentries) + u32(0) + u32(0) + var(b"") + bytes([1, 0, 0, 0]) + signers
+        core = i64(self.balance) + i64(0) + u32(self.subentries) + u32(0) + u32(0) + var(b"") + bytes([1, 0, 0, 0]) + signers
         if not self.is_extended:
-            return u32(0) + account_id(name) + means + u32(0)
+            return u32(0) + account_id(name) + core + u32(0)
         sponsors = many([maybe(account_id(sponsor) if sponsor else None) for _, sponsor in self.signers])
         counts = u32(self.sponsored) + u32(self.sponsoring) + sponsors
-        return u32(0) + account_id(name) + means + u32(1) + i64(0) + i64(0) + u32(2) + counts + u32(0)
+        return u32(0) + account_id(name) + core + u32(1) + i64(0) + i64(0) + u32(2) + counts + u32(0)
 
 
 class Ledger:
@@ -116,7 +116,7 @@ class Ledger:
     def entries(self) -> List[bytes]:
         found = [self.entry("Account" if it == "new" else "", self.accounts[it].body(it)) for it in self.accounts]
         found += [self.entry(it, THINGS[it].body) for it in self.things if it != "Account"]
-        return sorted(found, key=place_of)
+        return sorted(found, key=rank_of_entry)
 
     def encoded_open(self) -> bytes:
         return b"".join(account_id(sponsored) + account_id(sponsor) for sponsored, sponsor in self.open)
@@ -170,7 +170,7 @@ class Ledger:
         if name == "Account":
             del self.accounts["new"]
 
-    def place(self, signer: bytes) -> Optional[int]:
+    def index_of(self, signer: bytes) -> Optional[int]:
         return next((at for at, it in enumerate(self.accounts["owner"].signers) if it[0] == signer), None)
 
     def add_signer(self, signer: bytes) -> None:
@@ -180,14 +180,14 @@ class Ledger:
         owner.signers = sorted(owner.signers + [(signer, payer)])
 
     def move_signer(self, signer: bytes, payer: Optional[str]) -> None:
-        owner, at = self.accounts["owner"], self.place(signer)
+        owner, at = self.accounts["owner"], self.index_of(signer)
         assert at is not None
         if owner.signers[at][1] or payer:
             self.pay("owner", owner.signers[at][1], payer, 1)
             owner.signers[at] = (signer, payer)
 
     def remove_signer(self, signer: bytes) -> None:
-        owner, at = self.accounts["owner"], self.place(signer)
+        owner, at = self.accounts["owner"], self.index_of(signer)
         if at is not None:
             self.pay("owner", owner.signers[at][1], None, 1)
             owner.signers.pop(at)
@@ -222,7 +222,7 @@ def table() -> List[Row]:
 
 
 class Story:
-    """Cases with the rows of the table that are wanted of them, in its order."""
+    """Cases with the rows of the table that are expected of them, in its order."""
 
     def __init__(self) -> None:
         self.rows = table()
@@ -240,7 +240,7 @@ class Story:
             assert [it.counts() if it else (0, 0, 0) for it in accounts] == row.counts, (name, row)
         found = [f"{SIGNERS[signer]}, paid by {PAYERS[payer]}" for signer, payer in ledger.accounts["owner"].signers]
         assert not row.counts or owner == "new" or found == row.signers, (name, found)
-        words = re.findall(r"[a-z_]+|[A-Z][a-z]+|\d+", name.replace("Means", ""))
+        words = re.findall(r"[a-z_]+|[A-Z][a-z]+|\d+", name)
         word = "_".join(it.lower() for it in words)
         self.cases.append(Case(f"{word}_{len(self.cases)}", made, before + arguments + ledger.left(), row.answer))
 
@@ -297,9 +297,9 @@ def things(story: Story) -> None:
 NONE, ENOUGH = (0,), (1_000_000_000,)
 
 
-def means(of: Tuple[int, ...]) -> str:
+def fields(of: Tuple[int, ...]) -> str:
     balance, subentries, sponsoring = (*of, 0, 0)[:3]
-    return f"Means {{ balance: {balance}, sub_entries: {subentries}, sponsoring: {sponsoring} }}"
+    return f"{{ balance: {balance}, sub_entries: {subentries}, sponsoring: {sponsoring} }}"
 
 
 def owners(story: Story) -> None:
@@ -310,13 +310,13 @@ def owners(story: Story) -> None:
     ]
     shares = [(0, 999), (5_010_000_000, 998), (19_999_999,), (20_000_000,)]
     for name, of in [*(("Data", it) for it in data), *(("ShareLine", it) for it in shares)]:
-        story.add(f"{name} of {means(of)}", Ledger(owner=Account(*of), sponsor=Account(*NONE)), name)
+        story.add(f"{name} of {fields(of)}", Ledger(owner=Account(*of), sponsor=Account(*NONE)), name)
 
 
 def paid(story: Story, name: str, owner: Tuple[int, ...], sponsor: Tuple[int, ...]) -> None:
     ledger = Ledger(owner=Account(*owner), sponsor=Account(*sponsor))
     ledger.open = OPEN
-    story.add(f"{name} of {means(owner)}, paid by {means(sponsor)}", ledger, name)
+    story.add(f"{name} of {fields(owner)}, paid by {fields(sponsor)}", ledger, name)
 
 
 def sponsors(story: Story) -> None:
@@ -342,7 +342,7 @@ def new_accounts(story: Story) -> None:
 def new_signers(story: Story) -> None:
     """A signer is a subentry and takes a reserve."""
     for of in [(10_000_000_000, 1000), (5_010_000_000, 999), (14_999_999,), (15_000_000,)]:
-        story.signer(f"a signer of {means(of)}", Ledger(owner=Account(*of)), "add_signer", LOW)
+        story.signer(f"a signer of {fields(of)}", Ledger(owner=Account(*of)), "add_signer", LOW)
 
 
 def moved(story: Story, text: str, owner: Tuple[int, ...], other: Tuple[int, ...], payer: Optional[str]) -> None:
@@ -357,16 +357,16 @@ def moves(story: Story) -> None:
     """The new payer alone is tested where something moves. The sponsor pays for the data, so the owner keeps 10,000,000 until it
     moves."""
     for of in [(14_999_999,), (0, 0, MOST), (0, 0, MOST - 1), (15_000_000,)]:
-        moved(story, f"data moved to {means(of)}", NONE, of, "other")
+        moved(story, f"data moved to {fields(of)}", NONE, of, "other")
     for of in [(14_999_999,), (15_000_000,)]:
-        moved(story, f"data moved to its owner with {means(of)}", of, of, None)
+        moved(story, f"data moved to its owner with {fields(of)}", of, of, None)
     # (the owner's count of subentries isn't asked for)
     stays = Ledger(owner=Account(*NONE))
     stays.things["Data"] = None
-    story.move(f"data that its owner pays for, moved to its owner with {means(NONE)}", stays, "Data", None)
+    story.move(f"data that its owner pays for, moved to its owner with {fields(NONE)}", stays, "Data", None)
 
 
-# ---- signers: they stand in the order of their keys with their sponsors, one moves to other payers and back, and a pre-authorised
+# ---- signers: they are in the order of their keys with their sponsors, one moves to other payers and back, and a pre-authorised
 # one goes with its transaction
 
 LOW, HIGH = (u32(2) + bytes([it] * 32) for it in (5, 6))

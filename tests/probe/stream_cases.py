@@ -1,6 +1,6 @@
 """Cases of streams: texts that are read to a limit and written, with reads and writes that give and take little, or fail.
 
-What is wanted follows from what each call gives: six bytes at two a read are four reads, of which the last one finds the end, and at
+What is expected follows from what each call gives: six bytes at two a read are four reads, of which the last one finds the end, and at
 two a write three writes.
 """
 
@@ -17,17 +17,17 @@ def hexadecimal(data: bytes) -> str:
 
 
 class Streams:
-    """The lines of cases, and what is wanted of them."""
+    """The lines of cases, and what is expected of them."""
 
     def __init__(self) -> None:
         self.lines = ["streams"]
-        self.wanted: List[str] = []
+        self.expected: List[str] = []
 
     def read(self, text: bytes, limit: int, most: int, failing: int = 0, is_read: bool = True) -> None:
         """From a source in memory, and from three that don't fail."""
-        whole = hexadecimal(text) if len(text) <= limit else "TooLong"
+        entire = hexadecimal(text) if len(text) <= limit else "TooLong"
         self.lines.append(f"read {(var(text) + u32(limit) + u32(most) + u32(failing)).hex()}")
-        self.wanted.append(f"read: {whole + ' 0' if is_read else 'Failed 1'} {whole} {whole} {whole}")
+        self.expected.append(f"read: {entire + ' 0' if is_read else 'Failed 1'} {entire} {entire} {entire}")
 
     def write(self, text: bytes, most: int, failing: int, left: bytes, faults: int) -> None:
         """To a sink in memory, and then nothing, which never fails; to one that takes all; twice to a vector; and to two bytes."""
@@ -35,12 +35,12 @@ class Streams:
         room = "done" if len(text) <= 2 else "Failed"
         others = f"done done done {hexadecimal(text * 2)} {room} {(text + bytes(2))[:2].hex()}"
         self.lines.append(f"write {(var(text) + u32(0) + u32(most) + u32(failing)).hex()}")
-        self.wanted.append(f"write: {in_memory} {others}")
+        self.expected.append(f"write: {in_memory} {others}")
 
 
 def cases() -> Streams:
     streams = Streams()
-    # a source that gives few bytes a read is read whole, with a fault at none of its reads
+    # a source that gives few bytes a read is read completely, with a fault at none of its reads
     for most in (1, 2, 7, 100):
         streams.read(TEXT, 26, most)
     for failing in (1, 2, 3, 4):

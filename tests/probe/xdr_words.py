@@ -1,6 +1,6 @@
 """Entries and operations in words, encoded as XDR.
 
-Accounts and keys are named by a letter, which stands for 32 times that letter, and ids of claimable balances by a letter or by 64
+Accounts and keys are named by a letter, which represents 32 times that letter, and ids of claimable balances by a letter or by 64
 hexadecimal digits; `_` is the empty text, and `#NUMBER` the text of one byte.
 
     account ID BALANCE [seq= subentries= flags= sponsoring= sponsored= buying= selling= by=NUMBER] [signer= key= preauth=X[,SPONSOR]]
@@ -82,7 +82,7 @@ def line_asset(word):
 
 
 def predicate(words):
-    """The predicate at the front of words, which it takes from there."""
+    """The predicate that words begin with, which it takes from there."""
     word = words.pop(0)
     name, _, number = word.partition("=")
     parts = {"and": 2, "and0": 0, "and1": 1, "or": 2, "or0": 0, "or1": 1}

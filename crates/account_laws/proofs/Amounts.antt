@@ -1,31 +1,15 @@
--- Amounts that are given and taken, and liabilities that are bound and released, leave each account that stood.
-use Rattle.std.proofs.Common.{Bool, None, Ok, Option, Some, false, if◌then◌else◌, true}
-use Rattle.std.specs.Option.{ok_or}
-use Rattle.std.specs.Prelude.{ℤ}
-use Rattle.close_laws.specs.ledger_types.declared.account.AccountEntry.{AccountEntry}
-use Rattle.close_laws.specs.ledger_types.declared.asset.Asset.{Asset}
+-- Amounts that are given and taken, and liabilities that are bound and released, keep each account that existed.
+use Rattle.account_laws.proofs.Prelude.{Bool, None, Ok, Option, Some, false, if◌then◌else◌, true, ok_or, ℤ}
+use Rattle.account_laws.proofs.Prelude.{AccountEntry, Asset, TrustLineAsset, AccountId, LedgerKey, OfferEntry}
+use Rattle.account_laws.proofs.Prelude.{TrustLineEntry, EntryMap, account_at, line_at, Ctx, acquiring, binding}
+use Rattle.account_laws.proofs.Prelude.{bound_account, bound_line, releasing, paid, holder, map_after_cancelling}
+use Rattle.account_laws.proofs.Prelude.{offer_key, line_paid, paying, is_issued_by, line_asset_of, if_either}
 use Rattle.close_laws.specs.ledger_types.declared.asset.Asset.TheVariants as asset
-use Rattle.close_laws.specs.ledger_types.declared.asset.TrustLineAsset.{TrustLineAsset}
-use Rattle.close_laws.specs.ledger_types.declared.ids.AccountId.{AccountId}
-use Rattle.close_laws.specs.ledger_types.declared.key.LedgerKey.{LedgerKey}
 use Rattle.close_laws.specs.ledger_types.declared.key.LedgerKey.TheVariants as key
-use Rattle.close_laws.specs.ledger_types.declared.offer.OfferEntry.{OfferEntry}
-use Rattle.close_laws.specs.ledger_types.declared.trust_line.TrustLineEntry.{TrustLineEntry}
-use Rattle.close_laws.specs.entry_map.EntryMap.{EntryMap}
-use Rattle.close_laws.specs.entry_slots.Accounts.{account_at}
-use Rattle.close_laws.specs.entry_slots.Lines.{line_at}
-use Rattle.close_laws.specs.sponsor_rules.declared.context.Ctx.{Ctx}
-use Rattle.close_laws.specs.legal_rules.Binding.{acquiring, binding, bound_account, bound_line, releasing}
-use Rattle.close_laws.specs.legal_rules.Payments.{paid}
-use Rattle.close_laws.specs.legal_rules.Trades.{holder}
-use Rattle.close_laws.specs.trade_cross.Cancelling.{map_after_cancelling}
-use Rattle.close_laws.specs.trade_cross.Crossing.{offer_key}
-use Rattle.close_laws.specs.trade_cross.Holdings.{line_paid, paying}
 use Rattle.close_laws.specs.op_form.Amounts as amounts
-use Rattle.close_laws.specs.op_form.Assets.{is_issued_by, line_asset_of}
 use Rattle.close_laws.specs.op_form.Lumens as lumens
 use Rattle.account_laws.proofs.Sponsored.{removing_keeps}
-use Rattle.account_laws.proofs.Standing.{Keeps, either_way, with_account_keeps, with_line_keeps}
+use Rattle.account_laws.proofs.Existing.{Keeps, with_account_keeps, with_line_keeps}
 use Rattle.account_laws.proofs.Steps.{Gives, KeepsIf, KeepsIfSome, unless_keeps}
 
 -- ---- lumens
@@ -74,18 +58,18 @@ line_given id held amount (Some line) keeps =
     unless_keeps _ (with_line_keeps id held (amounts.with_less amount) keeps)
 
 module _ {old m : EntryMap} (id : AccountId) (held : Asset) (amount : ℤ) (keeps : Keeps old m) where
-  abbrev place : TrustLineAsset
-  place = line_asset_of held
+  abbrev index : TrustLineAsset
+  index = line_asset_of held
 
   issued_taken : KeepsIf old (amounts.map_after_issued_credit id held amount m)
   issued_taken =
-      either_way (Gives (Keeps old)) (is_issued_by held id) (Ok m) (amounts.map_after_line_credit id place amount m)
-      (record { gives = keeps }) (line_taken id place amount (line_at m id place) keeps)
+      if_either (Gives (Keeps old)) (is_issued_by held id) (Ok m) (amounts.map_after_line_credit id index amount m)
+      (record { gives = keeps }) (line_taken id index amount (line_at m id index) keeps)
 
   issued_given : KeepsIf old (amounts.map_after_issued_debit id held amount m)
   issued_given =
-      either_way (Gives (Keeps old)) (is_issued_by held id) (Ok m) (amounts.map_after_line_debit id place amount m)
-      (record { gives = keeps }) (line_given id place amount (line_at m id place) keeps)
+      if_either (Gives (Keeps old)) (is_issued_by held id) (Ok m) (amounts.map_after_line_debit id index amount m)
+      (record { gives = keeps }) (line_given id index amount (line_at m id index) keeps)
 
 pub credit_keeps : {old m : EntryMap} (id : AccountId) (held : Asset) (amount : ℤ) → Keeps old m
     → KeepsIf old (amounts.map_after_credit id held amount m)
@@ -103,7 +87,7 @@ debit_keeps ctx id (asset.Alphanum4 code issuer) amount keeps =
 debit_keeps ctx id (asset.Alphanum12 code issuer) amount keeps =
     issued_given id (asset.Alphanum12 code issuer) amount keeps
 
--- ---- what stands under a key
+-- ---- what exists under a key
 
 pub paying_keeps : {old m : EntryMap} (o : Option LedgerKey) (n : ℤ) → Keeps old m → Keeps old (paying o n m)
 paying_keeps (Some (key.Account id)) n keeps = with_account_keeps id (paid n) keeps

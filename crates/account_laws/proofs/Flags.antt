@@ -1,42 +1,24 @@
--- Flags of lines that issuers change, and what goes with an authorisation, leave each account that stood.
-use Rattle.std.proofs.Common.{Bool, List, None, Option, Some, [], false, is_some, pos, suc, true, zero, ℕ, ◌∷◌}
-use Rattle.std.specs.List.{filter}
-use Rattle.std.specs.Prelude.{neg_ℤ}
-use Rattle.close_laws.specs.ledger_types.declared.asset.Asset.{Asset}
+-- Flags of lines that issuers change, and what goes with an authorisation, keep each account that existed.
+use Rattle.account_laws.proofs.Prelude as prelude
+use prelude.{Bool, List, None, Option, Some, [], false, is_some, pos, suc, true, zero, ℕ, ◌∷◌, filter, neg_ℤ, Asset}
+use prelude.{AccountId, Hash, LiquidityPoolEntry, OfferEntry, TrustLineEntry, OperationResult, NoAccount, NotSupported}
+use prelude.{EntryMap, account_at, balance_at, line_at, pool_at, Ctx, map_after_adding, offers_by, map_after_cancelling}
+use prelude.{part_of, is_issued_by, line_asset_of, line_of_asset, Given, Revoked, map_after_cancelling_all}
+use prelude.{map_without_offers, trades_in, if_either}
 use Rattle.close_laws.specs.ledger_types.declared.asset.TrustLineAsset.TheVariants as line
-use Rattle.close_laws.specs.ledger_types.declared.ids.AccountId.{AccountId}
-use Rattle.close_laws.specs.ledger_types.declared.ids.Hash.{Hash}
-use Rattle.close_laws.specs.ledger_types.declared.liquidity_pool.LiquidityPoolEntry.{LiquidityPoolEntry}
-use Rattle.close_laws.specs.ledger_types.declared.offer.OfferEntry.{OfferEntry}
-use Rattle.close_laws.specs.ledger_types.declared.trust_line.TrustLineEntry.{TrustLineEntry}
-use Rattle.close_laws.specs.op_types.declared.operation_result.OperationResult.{OperationResult}
-use Rattle.close_laws.specs.op_types.declared.operation_result.OperationResult.TheVariants.{NoAccount, NotSupported}
 use Rattle.close_laws.specs.op_types.declared.trust_ops.AllowTrustOp.{AllowTrustOp}
 use Rattle.close_laws.specs.op_types.declared.trust_ops.SetTrustLineFlagsOp.{SetTrustLineFlagsOp}
 use Rattle.close_laws.specs.op_types.declared.trust_results.AllowTrustResult.TheVariants as allow
 use Rattle.close_laws.specs.op_types.declared.trust_results.SetTrustLineFlagsResult.TheVariants as set
-use Rattle.close_laws.specs.entry_map.EntryMap.{EntryMap}
-use Rattle.close_laws.specs.entry_slots.Accounts.{account_at}
-use Rattle.close_laws.specs.entry_slots.Balances.{balance_at}
-use Rattle.close_laws.specs.entry_slots.Lines.{line_at}
-use Rattle.close_laws.specs.entry_slots.Pools.{pool_at}
-use Rattle.close_laws.specs.sponsor_rules.declared.context.Ctx.{Ctx}
-use Rattle.close_laws.specs.sponsor_rules.Adding.{map_after_adding}
-use Rattle.close_laws.specs.offer_book.Book.{offers_by}
-use Rattle.close_laws.specs.trade_cross.Cancelling.{map_after_cancelling}
-use Rattle.close_laws.specs.pool_shares.Withdrawing.{part_of}
-use Rattle.close_laws.specs.op_form.Assets.{is_issued_by, line_asset_of, line_of_asset}
 use Rattle.close_laws.specs.op_flags.AllowTrust as allowing
 use Rattle.close_laws.specs.op_flags.LineFlags as flagging
-use Rattle.close_laws.specs.op_flags.RevokedShares.{Given, Revoked}
 use Rattle.close_laws.specs.op_flags.RevokedShares as revoking
-use Rattle.close_laws.specs.op_flags.Revoking.{map_after_cancelling_all, map_without_offers, trades_in}
 use Rattle.close_laws.specs.op_flags.SetTrustLineFlags as setting
 use Rattle.account_laws.proofs.Amounts.{cancelling_keeps}
 use Rattle.account_laws.proofs.Pools.{shares_keep, without_share_line_keeps}
 use Rattle.account_laws.proofs.Sponsored.{adding_keeps}
-use Rattle.account_laws.proofs.Standing.{Keeps, either_way, with_line_keeps}
-use Rattle.account_laws.proofs.Steps.{Gives, Leaves, Work, behind, behind_charge, behind_some, behind_step}
+use Rattle.account_laws.proofs.Existing.{Keeps, with_line_keeps}
+use Rattle.account_laws.proofs.Steps.{Gives, Leaves, Work, past, past_charge, past_some, past_step}
 
 -- ---- offers
 
@@ -67,21 +49,21 @@ module _ {old : EntryMap} (ctx : Ctx) (low : OperationResult) where
   balance_added {m = m} given keeps =
       let alone = revoking.alone ctx in
       let e = revoking.revoked_balance ctx given m in
-      behind (Revokes old) ((is_some (balance_at m (revoking.revoked_id ctx given)), NotSupported) ∷ []) _
-      (behind_charge (Revokes old) (map_after_adding alone given.payer e m) low _
+      past (Revokes old) ((is_some (balance_at m (revoking.revoked_id ctx given)), NotSupported) ∷ []) _
+      (past_charge (Revokes old) (map_after_adding alone given.payer e m) low _
       (adding_keeps alone given.payer e keeps) (λ added after. record { gives = after }))
 
   amount_left : {m : EntryMap} (given : Given) (amount : ℕ) → Keeps old m
       → Gives (Revokes old) (revoking.left_by ctx low given m amount)
   amount_left given zero keeps = record { gives = keeps }
   amount_left {m = m} given (suc n) keeps =
-      either_way (Gives (Revokes old)) (is_issued_by given.asset given.trustor) _
+      if_either (Gives (Revokes old)) (is_issued_by given.asset given.trustor) _
       (revoking.balance_added ctx low given m) (record { gives = keeps }) (balance_added given keeps)
 
   both_left : {m : EntryMap} (a b : Given) → Keeps old m → Gives (Revokes old) (revoking.both_left ctx low a b m)
   both_left {m = m} a b keeps =
-      behind_step (Revokes old) (Revokes old) (revoking.left ctx low a m) _ (amount_left a a.amount keeps)
-      (λ first after. behind_step (Revokes old) (Revokes old) (revoking.left ctx low b first.entries) _
+      past_step (Revokes old) (Revokes old) (revoking.left ctx low a m) _ (amount_left a a.amount keeps)
+      (λ first after. past_step (Revokes old) (Revokes old) (revoking.left ctx low b first.entries) _
       (amount_left b b.amount after) (λ second last. record { gives = last }))
 
   -- ---- all pools with the asset
@@ -103,9 +85,9 @@ module _ {old : EntryMap} (ctx : Ctx) (low : OperationResult) where
       → Gives (Revokes old) (revoking.all_revoked ctx low trustor ids m)
   all_revoked trustor [] m keeps = record { gives = keeps }
   all_revoked trustor (id ∷ ids) m keeps =
-      behind_step (Revokes old) (Revokes old) (revoking.share_revoked ctx low trustor id m) _
+      past_step (Revokes old) (Revokes old) (revoking.share_revoked ctx low trustor id m) _
       (one_revoked trustor id (line_at m trustor (line.PoolShare id)) (pool_at m id) keeps)
-      (λ first after. behind_step (Revokes old) (Revokes old)
+      (λ first after. past_step (Revokes old) (Revokes old)
       (revoking.all_revoked ctx low trustor ids first.entries) _ (all_revoked trustor ids first.entries after)
       (λ second last. record { gives = last }))
 
@@ -126,7 +108,7 @@ flagged_keeps : {old m : EntryMap} (ctx : Ctx) (trustor : AccountId) (held : Ass
     → Leaves old (flagging.flagged ctx trustor held flags low succeeded line m)
 flagged_keeps {old = old} {m = m} ctx trustor held flags low succeeded line keeps =
     let revoked = flagging.is_revoked line flags in
-    behind_step (Revokes old) (Work old)
+    past_step (Revokes old) (Work old)
     (flagging.shares_left ctx low trustor held revoked (flagging.map_after_flagging trustor held flags revoked m)) _
     (shares_left ctx low trustor held revoked
     (with_line_keeps trustor (line_asset_of held) (flagging.with_flags flags)
@@ -137,19 +119,19 @@ pub allow_trust_keeps : {old m : EntryMap} (ctx : Ctx) (op : AllowTrustOp) → K
     → Leaves old (allowing.allow_trust ctx op m)
 allow_trust_keeps {old = old} {m = m} ctx op keeps =
     let held = allowing.asset_allowed ctx op in
-    behind (Work old) (allowing.allow_tests ctx op) _
-    (behind_some (Work old) (line_of_asset m op.trustor held) (allowing.answer allow.NoTrustLine) _
-    (λ line. behind_some (Work old) (account_at m ctx.op_source) NoAccount _
-    (λ source. behind (Work old) (allowing.revoke_tests op source line) _
+    past (Work old) (allowing.allow_tests ctx op) _
+    (past_some (Work old) (line_of_asset m op.trustor held) (allowing.answer allow.NoTrustLine) _
+    (λ line. past_some (Work old) (account_at m ctx.op_source) NoAccount _
+    (λ source. past (Work old) (allowing.revoke_tests op source line) _
     (flagged_keeps ctx op.trustor held (allowing.allowed_flags op line) (allowing.answer allow.LowReserve)
     (allowing.answer allow.Success) line keeps))))
 
 pub set_flags_keeps : {old m : EntryMap} (ctx : Ctx) (op : SetTrustLineFlagsOp) → Keeps old m
     → Leaves old (setting.set_trust_line_flags ctx op m)
 set_flags_keeps {old = old} {m = m} ctx op keeps =
-    behind (Work old) (setting.set_tests ctx op) _
-    (behind_some (Work old) (line_of_asset m op.trustor op.asset) (setting.answer set.NoTrustLine) _
-    (λ line. behind_some (Work old) (account_at m ctx.op_source) NoAccount _
-    (λ source. behind (Work old) (setting.flag_tests source line (setting.new_flags op line)) _
+    past (Work old) (setting.set_tests ctx op) _
+    (past_some (Work old) (line_of_asset m op.trustor op.asset) (setting.answer set.NoTrustLine) _
+    (λ line. past_some (Work old) (account_at m ctx.op_source) NoAccount _
+    (λ source. past (Work old) (setting.flag_tests source line (setting.new_flags op line)) _
     (flagged_keeps ctx op.trustor op.asset (setting.new_flags op line) (setting.answer set.LowReserve)
     (setting.answer set.Success) line keeps))))

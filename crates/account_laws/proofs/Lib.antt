@@ -1,4 +1,4 @@
-pub mod Standing
+pub mod Existing
 pub mod Steps
 pub mod Sponsored
 pub mod Amounts
@@ -11,3 +11,4 @@ pub mod Accounts
 pub mod Payments
 pub mod Operations
 pub mod Sets
+pub mod Prelude

@@ -1,43 +1,25 @@
--- Operations on offers leave each account that stood.
-use Rattle.std.proofs.Common.{Err, None, Ok, Option, Result, Some, if◌then◌else◌, pos, suc, zero, ℕ, ◌+◌}
-use Rattle.std.specs.FinMap.{get}
-use Rattle.std.specs.Ordering.{int_eq}
-use Rattle.std.specs.Prelude.{neg_ℤ}
-use Rattle.close_laws.specs.ledger_types.declared.entry.LedgerEntry.{LedgerEntry}
-use Rattle.close_laws.specs.ledger_types.declared.entry.LedgerEntryBody.{LedgerEntryBody}
+-- Operations on offers keep each account that existed.
+use Rattle.account_laws.proofs.Prelude as prelude
+use prelude.{Err, None, Ok, Option, Result, Some, if◌then◌else◌, pos, suc, zero, ℕ, ◌+◌, get, int_eq, neg_ℤ}
+use prelude.{LedgerEntry, LedgerEntryBody, AccountId, OfferEntry, EntryMap, sponsor_of, first_fault, unless_fault, Ctx}
+use prelude.{AddFault, map_after_counting_subentry, holder, CrossEnd, CrossSelf, TooMany, Trade, map_after_cancelling}
+use prelude.{converted, offer_key, is_malformed, Answer, attempt_of_managed, Asked, Sold, map_after_keeping}
+use prelude.{map_without_offer, offer_left, settled, sold, source_gives_at, source_takes_at, trade_of, if_either}
 use Rattle.close_laws.specs.ledger_types.declared.entry.LedgerEntryBody.TheVariants as body
-use Rattle.close_laws.specs.ledger_types.declared.ids.AccountId.{AccountId}
 use Rattle.close_laws.specs.ledger_types.declared.key.LedgerKey.TheVariants as key
-use Rattle.close_laws.specs.ledger_types.declared.offer.OfferEntry.{OfferEntry}
-use Rattle.close_laws.specs.entry_map.EntryMap.{EntryMap}
-use Rattle.close_laws.specs.entry_slots.EntrySponsor.{sponsor_of}
-use Rattle.close_laws.specs.entry_slots.Tests.{first_fault, unless_fault}
-use Rattle.close_laws.specs.sponsor_rules.declared.context.Ctx.{Ctx}
-use Rattle.close_laws.specs.sponsor_rules.declared.fault.AddFault.{AddFault}
-use Rattle.close_laws.specs.sponsor_rules.Adding.{map_after_counting_subentry}
-use Rattle.close_laws.specs.legal_rules.Trades.{holder}
-use Rattle.close_laws.specs.trade_cross.declared.crossed.CrossEnd.{CrossEnd}
-use Rattle.close_laws.specs.trade_cross.declared.crossed.CrossEnd.TheVariants.{CrossSelf, TooMany}
-use Rattle.close_laws.specs.trade_cross.declared.trade.Trade.{Trade}
-use Rattle.close_laws.specs.trade_cross.Cancelling.{map_after_cancelling}
-use Rattle.close_laws.specs.trade_cross.Crossing.{converted, offer_key}
 use Rattle.close_laws.specs.op_offers.declared.ask.Ask.{Ask}
 use Rattle.close_laws.specs.op_offers.declared.fault.OfferFault.{OfferFault}
 use Rattle.close_laws.specs.op_offers.declared.fault.OfferFault.TheVariants as fault
-use Rattle.close_laws.specs.op_offers.Asked.{is_malformed}
 use Rattle.close_laws.specs.op_offers.Managing.{Changed, Effect, Made, Managed, Removed, Traded, buy_fault, changed}
 use Rattle.close_laws.specs.op_offers.Managing.{made, managed}
 use Rattle.close_laws.specs.op_offers.Managing.{managed_at, managed_old, new_asked, of_sold, old_asked, sell_fault}
 use Rattle.close_laws.specs.op_offers.Managing.{unless_lines}
 use Rattle.close_laws.specs.op_offers.Managing.{unless_some, with_reserve}
-use Rattle.close_laws.specs.op_offers.Operations.{Answer, attempt_of_managed}
-use Rattle.close_laws.specs.op_offers.Selling.{Asked, Sold, after_tests, by_end, crossed_by, left_of, map_after_keeping}
-use Rattle.close_laws.specs.op_offers.Selling.{map_without_offer, offer_left, settled, sold, source_gives_at}
-use Rattle.close_laws.specs.op_offers.Selling.{source_takes_at}
-use Rattle.close_laws.specs.op_offers.Selling.{trade_of, wanted_tests}
+use Rattle.close_laws.specs.op_offers.Selling.{after_tests, by_end, crossed_by, left_of}
+use Rattle.close_laws.specs.op_offers.Selling.{wanted_tests}
 use Rattle.account_laws.proofs.Amounts.{acquiring_keeps, cancelling_keeps, paying_keeps, releasing_offer_keeps}
 use Rattle.account_laws.proofs.Sponsored.{counting_keeps, discounting_keeps}
-use Rattle.account_laws.proofs.Standing.{Keeps, either_way, erase_keeps, put_keeps}
+use Rattle.account_laws.proofs.Existing.{Keeps, erase_keeps, put_keeps}
 use Rattle.account_laws.proofs.Steps.{Gives, KeepsIf, Leaves}
 use Rattle.account_laws.proofs.Trades.{converted_keeps}
 
@@ -72,17 +54,17 @@ module _ {old m : EntryMap} (reserve : ℕ) (asked : Asked) (keeps : Keeps old m
       let paid = settled asked done in
       record { gives = kept_keeps asked (left_of reserve asked done done.end paid) settled_keeps }
 
-  behind_wanted : (found : Option OfferFault)
+  past_wanted : (found : Option OfferFault)
       → Gives (Sells old) (after_tests (unless_fault found m) (λ now.
       let done = crossed_by reserve asked now in by_end reserve asked done done.end))
-  behind_wanted None = by_its_end (converted reserve trade m).end
-  behind_wanted (Some other) = record { gives = tt }
+  past_wanted None = by_its_end (converted reserve trade m).end
+  past_wanted (Some other) = record { gives = tt }
 
 sold_keeps : {old m : EntryMap} (reserve : ℕ) (asked : Asked) → Keeps old m
     → Gives (Sells old) (sold reserve asked m)
 unfolding sold
 sold_keeps {m = m} reserve asked keeps =
-    behind_wanted reserve asked keeps (first_fault (wanted_tests reserve asked m))
+    past_wanted reserve asked keeps (first_fault (wanted_tests reserve asked m))
 
 -- ---- what is done
 
@@ -132,7 +114,7 @@ changed_keeps {m = m} ctx ask was e keeps =
 old_keeps : {old m : EntryMap} (ctx : Ctx) (ask : Ask) (e : LedgerEntry) (of : LedgerEntryBody) → Keeps old m
     → Gives (Manages old) (managed_old ctx ask e of m)
 old_keeps {old = old} {m = m} ctx ask e (body.Offer was) keeps =
-    either_way (Gives (Manages old)) (int_eq ask.amount (pos 0)) (Ok (Removed (map_after_cancelling was m)))
+    if_either (Gives (Manages old)) (int_eq ask.amount (pos 0)) (Ok (Removed (map_after_cancelling was m)))
     (changed ctx ask was e m) (record { gives = cancelling_keeps was keeps }) (changed_keeps ctx ask was e keeps)
 old_keeps ctx ask e other keeps = record { gives = tt }
 
@@ -144,9 +126,9 @@ at_keeps ctx ask (Some e) keeps = old_keeps ctx ask e e.body keeps
 managed_keeps : {old m : EntryMap} (ctx : Ctx) (ask : Ask) → Keeps old m → Gives (Manages old) (managed ctx ask m)
 managed_keeps {old = old} {m = m} ctx ask keeps =
     let at = managed_at ctx ask (get m (key.Offer ctx.op_source ask.offer_id)) m in
-    either_way (Gives (Manages old)) (is_malformed ask) (Err fault.Malformed)
+    if_either (Gives (Manages old)) (is_malformed ask) (Err fault.Malformed)
     (if int_eq ask.offer_id (pos 0) then made ctx ask m else at) (record { gives = tt })
-    (either_way (Gives (Manages old)) (int_eq ask.offer_id (pos 0)) (made ctx ask m) at (made_keeps ctx ask keeps)
+    (if_either (Gives (Manages old)) (int_eq ask.offer_id (pos 0)) (made ctx ask m) at (made_keeps ctx ask keeps)
     (at_keeps ctx ask (get m (key.Offer ctx.op_source ask.offer_id)) keeps))
 
 -- ---- the operations

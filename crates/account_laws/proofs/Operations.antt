@@ -1,40 +1,30 @@
--- An operation that isn't ACCOUNT_MERGE leaves each account that stood.
-use Rattle.std.proofs.Common.{false, ◌≡◌}
+-- An operation that isn't ACCOUNT_MERGE keeps each account that existed.
+use Rattle.account_laws.proofs.Prelude.{false, ◌≡◌, EntryMap, Ctx, account_operation, options_operation}
+use Rattle.account_laws.proofs.Prelude.{payment_operation, change_trust, trust_operation, ask_passively, ask_to_buy}
+use Rattle.account_laws.proofs.Prelude.{ask_to_sell, answer_of, attempt_of, offers_operation, flags_operation}
+use Rattle.account_laws.proofs.Prelude.{claim_operation, pool_operation, sponsor_operation, any_operation}
+use Rattle.account_laws.proofs.Prelude.{OperationsKeepAccounts, is_merge}
 use Rattle.close_laws.specs.op_types.declared.operation.OperationBody.{OperationBody}
 use Rattle.close_laws.specs.op_types.declared.operation.OperationBody.TheVariants as body
-use Rattle.close_laws.specs.entry_map.EntryMap.{EntryMap}
-use Rattle.close_laws.specs.sponsor_rules.declared.context.Ctx.{Ctx}
 use Rattle.close_laws.specs.op_account.BumpSequence.{bump_sequence}
 use Rattle.close_laws.specs.op_account.CreateAccount.{create_account}
-use Rattle.close_laws.specs.op_account.Operations.{account_operation}
 use Rattle.close_laws.specs.op_options.ManageData.{manage_data}
-use Rattle.close_laws.specs.op_options.Operations.{options_operation}
 use Rattle.close_laws.specs.op_options.SetOptions.{set_options}
-use Rattle.close_laws.specs.op_payment.Operations.{payment_operation}
 use Rattle.close_laws.specs.op_payment.PathReceive.{path_payment_strict_receive}
 use Rattle.close_laws.specs.op_payment.PathSend.{path_payment_strict_send}
 use Rattle.close_laws.specs.op_payment.Payment.{payment}
-use Rattle.close_laws.specs.op_trust.Operations.{change_trust, trust_operation}
 use Rattle.close_laws.specs.op_offers.declared.answers.Kind.TheVariants as kind
-use Rattle.close_laws.specs.op_offers.Asked.{ask_passively, ask_to_buy, ask_to_sell}
-use Rattle.close_laws.specs.op_offers.Operations.{answer_of, attempt_of, offers_operation}
 use Rattle.close_laws.specs.op_flags.AllowTrust.{allow_trust}
-use Rattle.close_laws.specs.op_flags.Operations.{flags_operation}
 use Rattle.close_laws.specs.op_flags.SetTrustLineFlags.{set_trust_line_flags}
 use Rattle.close_laws.specs.op_claim.ClaimClaimableBalance.{claim_claimable_balance}
 use Rattle.close_laws.specs.op_claim.Clawback.{clawback}
 use Rattle.close_laws.specs.op_claim.ClawbackClaimableBalance.{clawback_claimable_balance}
 use Rattle.close_laws.specs.op_claim.CreateClaimableBalance.{create_claimable_balance}
-use Rattle.close_laws.specs.op_claim.Operations.{claim_operation}
 use Rattle.close_laws.specs.op_pool.Deposit.{liquidity_pool_deposit}
-use Rattle.close_laws.specs.op_pool.Operations.{pool_operation}
 use Rattle.close_laws.specs.op_pool.Withdraw.{liquidity_pool_withdraw}
 use Rattle.close_laws.specs.op_sponsor.BeginSponsoringFutureReserves.{begin_sponsoring}
 use Rattle.close_laws.specs.op_sponsor.EndSponsoringFutureReserves.{end_sponsoring}
-use Rattle.close_laws.specs.op_sponsor.Operations.{sponsor_operation}
 use Rattle.close_laws.specs.op_sponsor.RevokeSponsorship.{revoke_sponsorship}
-use Rattle.close_laws.specs.op_laws.AnyOperation.{any_operation}
-use Rattle.account_laws.specs.Standing.{OperationsKeepAccounts, is_merge}
 use Rattle.account_laws.proofs.Accounts.{begin_keeps, bump_sequence_keeps, create_account_keeps, end_keeps}
 use Rattle.account_laws.proofs.Accounts.{manage_data_keeps, revoke_keeps, set_options_keeps}
 use Rattle.account_laws.proofs.Flags.{allow_trust_keeps, set_flags_keeps}
@@ -42,7 +32,7 @@ use Rattle.account_laws.proofs.Offers.{offer_keeps}
 use Rattle.account_laws.proofs.Payments.{claim_balance_keeps, clawback_balance_keeps, clawback_keeps}
 use Rattle.account_laws.proofs.Payments.{create_balance_keeps, path_receive_keeps, path_send_keeps, payment_keeps}
 use Rattle.account_laws.proofs.Pools.{deposit_keeps, withdraw_keeps}
-use Rattle.account_laws.proofs.Standing.{Keeps, keeps_itself}
+use Rattle.account_laws.proofs.Existing.{Keeps, keeps_itself}
 use Rattle.account_laws.proofs.Steps.{done_keeps}
 use Rattle.account_laws.proofs.Trust.{change_trust_keeps}
 

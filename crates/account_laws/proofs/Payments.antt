@@ -1,32 +1,23 @@
--- Payments, also along paths, claimable balances and clawbacks leave each account that stood.
-use Rattle.std.proofs.Common.{Err, Ok, Result, [], is_some, pos, ◌∷◌}
+-- Payments, also along paths, claimable balances and clawbacks keep each account that existed.
+use Rattle.account_laws.proofs.Prelude.{Err, Ok, Result, [], is_some, pos, ◌∷◌, account_of, NotSupported, EntryMap}
+use Rattle.account_laws.proofs.Prelude.{balance_at, Ctx, map_after_adding, map_after_removing, map_after_credit}
+use Rattle.account_laws.proofs.Prelude.{map_after_debit, line_asset_of, line_of_asset, Attempt, unless_refused}
+use Rattle.account_laws.proofs.Prelude.{PathFault, Carried, received, sent, set_out, if_either}
 use Rattle.close_laws.specs.ledger_types.declared.key.LedgerKey.TheVariants as key
-use Rattle.close_laws.specs.ledger_types.Ids.{account_of}
 use Rattle.close_laws.specs.op_types.declared.balance_ops.ClaimClaimableBalanceOp.{ClaimClaimableBalanceOp}
 use Rattle.close_laws.specs.op_types.declared.balance_ops.ClawbackClaimableBalanceOp.{ClawbackClaimableBalanceOp}
 use Rattle.close_laws.specs.op_types.declared.balance_ops.CreateClaimableBalanceOp.{CreateClaimableBalanceOp}
 use Rattle.close_laws.specs.op_types.declared.balance_results.ClaimClaimableBalanceResult.TheVariants as claim
 use Rattle.close_laws.specs.op_types.declared.balance_results.ClawbackClaimableBalanceResult.TheVariants as reclaim
 use Rattle.close_laws.specs.op_types.declared.balance_results.CreateClaimableBalanceResult.TheVariants as create
-use Rattle.close_laws.specs.op_types.declared.operation_result.OperationResult.TheVariants.{NotSupported}
 use Rattle.close_laws.specs.op_types.declared.payment_ops.PathPaymentStrictReceiveOp.{PathPaymentStrictReceiveOp}
 use Rattle.close_laws.specs.op_types.declared.payment_ops.PathPaymentStrictSendOp.{PathPaymentStrictSendOp}
 use Rattle.close_laws.specs.op_types.declared.payment_ops.PaymentOp.{PaymentOp}
 use Rattle.close_laws.specs.op_types.declared.trust_ops.ClawbackOp.{ClawbackOp}
 use Rattle.close_laws.specs.op_types.declared.trust_results.ClawbackResult.TheVariants as claw
-use Rattle.close_laws.specs.entry_map.EntryMap.{EntryMap}
-use Rattle.close_laws.specs.entry_slots.Balances.{balance_at}
-use Rattle.close_laws.specs.sponsor_rules.declared.context.Ctx.{Ctx}
-use Rattle.close_laws.specs.sponsor_rules.Adding.{map_after_adding}
-use Rattle.close_laws.specs.sponsor_rules.Removing.{map_after_removing}
-use Rattle.close_laws.specs.op_form.Amounts.{map_after_credit, map_after_debit, with_less}
-use Rattle.close_laws.specs.op_form.Assets.{line_asset_of, line_of_asset}
-use Rattle.close_laws.specs.op_form.Done.{Attempt}
-use Rattle.close_laws.specs.op_form.Steps.{unless_refused}
-use Rattle.close_laws.specs.op_payment.declared.path_fault.PathFault.{PathFault}
+use Rattle.close_laws.specs.op_form.Amounts.{with_less}
 use Rattle.close_laws.specs.op_payment.PathReceive as receiving
 use Rattle.close_laws.specs.op_payment.PathSend as sending
-use Rattle.close_laws.specs.op_payment.Paths.{Carried, received, sent, set_out}
 use Rattle.close_laws.specs.op_payment.Payment as paying
 use Rattle.close_laws.specs.op_claim.ClaimClaimableBalance as claiming
 use Rattle.close_laws.specs.op_claim.Clawback as clawing
@@ -34,8 +25,8 @@ use Rattle.close_laws.specs.op_claim.ClawbackClaimableBalance as taking
 use Rattle.close_laws.specs.op_claim.CreateClaimableBalance as balances
 use Rattle.account_laws.proofs.Amounts.{credit_keeps, debit_keeps}
 use Rattle.account_laws.proofs.Sponsored.{adding_keeps, removing_keeps}
-use Rattle.account_laws.proofs.Standing.{Keeps, either_way, with_line_keeps}
-use Rattle.account_laws.proofs.Steps.{Gives, Leaves, Work, behind, behind_change, behind_charge, behind_some}
+use Rattle.account_laws.proofs.Existing.{Keeps, with_line_keeps}
+use Rattle.account_laws.proofs.Steps.{Gives, Leaves, Work, past, past_change, past_charge, past_some}
 use Rattle.account_laws.proofs.Trades.{OnWay, received_keeps, sent_keeps}
 
 -- ---- PAYMENT
@@ -44,13 +35,13 @@ pub payment_keeps : {old m : EntryMap} (ctx : Ctx) (op : PaymentOp) → Keeps ol
     → Leaves old (paying.payment ctx op m)
 payment_keeps {old = old} {m = m} ctx op keeps =
     let to = account_of op.destination in
-    behind (Work old) (paying.payment_tests op) _
-    (either_way (Gives (Work old)) (paying.is_to_itself ctx op) (paying.paid ctx op m)
+    past (Work old) (paying.payment_tests op) _
+    (if_either (Gives (Work old)) (paying.is_to_itself ctx op) (paying.paid ctx op m)
     (unless_refused (paying.destination_tests op m) (paying.taken_and_given ctx op m)) (record { gives = keeps })
-    (behind (Work old) (paying.destination_tests op m) (paying.taken_and_given ctx op m)
-    (behind_change (Work old) (map_after_credit to op.asset op.amount m) paying.credit_result _
+    (past (Work old) (paying.destination_tests op m) (paying.taken_and_given ctx op m)
+    (past_change (Work old) (map_after_credit to op.asset op.amount m) paying.credit_result _
     (credit_keeps to op.asset op.amount keeps)
-    (λ taken after. behind_change (Work old) (map_after_debit ctx ctx.op_source op.asset op.amount taken)
+    (λ taken after. past_change (Work old) (map_after_debit ctx ctx.op_source op.asset op.amount taken)
     paying.debit_result _ (debit_keeps ctx ctx.op_source op.asset op.amount after)
     (λ given last. record { gives = last })))))
 
@@ -66,16 +57,16 @@ pub path_receive_keeps : {old m : EntryMap} (ctx : Ctx) (op : PathPaymentStrictR
     → Leaves old (receiving.path_payment_strict_receive ctx op m)
 path_receive_keeps {old = old} {m = m} ctx op keeps =
     let to = account_of op.destination in
-    behind (Work old) (receiving.asked_tests op) _
-    (behind (Work old) (receiving.destination_tests op m) _
-    (behind_change (Work old) (map_after_credit to op.dest_asset op.dest_amount m) receiving.credit_result _
+    past (Work old) (receiving.asked_tests op) _
+    (past (Work old) (receiving.destination_tests op m) _
+    (past_change (Work old) (map_after_credit to op.dest_asset op.dest_amount m) receiving.credit_result _
     (credit_keeps to op.dest_asset op.dest_amount keeps)
     (λ taken after.
     received_then (received ctx op.send_asset op.path op.dest_asset (set_out op.dest_amount taken))
     (receiving.given ctx op)
     (received_keeps ctx op.send_asset op.path op.dest_asset (set_out op.dest_amount taken) after)
-    (λ carried so_far. behind (Work old) (receiving.cost_tests op carried.amount) _
-    (behind_change (Work old)
+    (λ carried so_far. past (Work old) (receiving.cost_tests op carried.amount) _
+    (past_change (Work old)
     (map_after_debit ctx ctx.op_source op.send_asset (pos carried.amount) carried.entries) receiving.debit_result
     (receiving.done ctx op carried) (debit_keeps ctx ctx.op_source op.send_asset (pos carried.amount) so_far)
     (λ given last. record { gives = last }))))))
@@ -92,15 +83,15 @@ pub path_send_keeps : {old m : EntryMap} (ctx : Ctx) (op : PathPaymentStrictSend
     → Leaves old (sending.path_payment_strict_send ctx op m)
 path_send_keeps {old = old} {m = m} ctx op keeps =
     let to = account_of op.destination in
-    behind (Work old) (sending.asked_tests op) _
-    (behind (Work old) (sending.destination_tests op m) _
-    (behind_change (Work old) (map_after_debit ctx ctx.op_source op.send_asset op.send_amount m) sending.debit_result _
+    past (Work old) (sending.asked_tests op) _
+    (past (Work old) (sending.destination_tests op m) _
+    (past_change (Work old) (map_after_debit ctx ctx.op_source op.send_asset op.send_amount m) sending.debit_result _
     (debit_keeps ctx ctx.op_source op.send_asset op.send_amount keeps)
     (λ given after.
     sent_then (sent ctx op.send_asset op.path op.dest_asset (set_out op.send_amount given)) (sending.taken ctx op)
     (sent_keeps ctx op.send_asset op.path op.dest_asset (set_out op.send_amount given) after)
-    (λ carried so_far. behind (Work old) (sending.least_tests op carried.amount) _
-    (behind_change (Work old) (map_after_credit to op.dest_asset (pos carried.amount) carried.entries)
+    (λ carried so_far. past (Work old) (sending.least_tests op carried.amount) _
+    (past_change (Work old) (map_after_credit to op.dest_asset (pos carried.amount) carried.entries)
     sending.credit_result (sending.done ctx op carried) (credit_keeps to op.dest_asset (pos carried.amount) so_far)
     (λ taken last. record { gives = last }))))))
 
@@ -110,11 +101,11 @@ pub create_balance_keeps : {old m : EntryMap} (ctx : Ctx) (op : CreateClaimableB
     → Leaves old (balances.create_claimable_balance ctx op m)
 create_balance_keeps {old = old} {m = m} ctx op keeps =
     let e = balances.new_balance ctx op (balances.can_claw_back ctx op m) in
-    behind (Work old) (balances.create_tests op) _
-    (behind (Work old) ((is_some (balance_at m (balances.new_id ctx)), NotSupported) ∷ []) _
-    (behind_change (Work old) (map_after_debit ctx ctx.op_source op.asset op.amount m) balances.debit_result _
+    past (Work old) (balances.create_tests op) _
+    (past (Work old) ((is_some (balance_at m (balances.new_id ctx)), NotSupported) ∷ []) _
+    (past_change (Work old) (map_after_debit ctx ctx.op_source op.asset op.amount m) balances.debit_result _
     (debit_keeps ctx ctx.op_source op.asset op.amount keeps)
-    (λ given after. behind_charge (Work old) (map_after_adding ctx ctx.op_source e given)
+    (λ given after. past_charge (Work old) (map_after_adding ctx ctx.op_source e given)
     (balances.answer create.LowReserve) _ (adding_keeps ctx ctx.op_source e after)
     (λ added last. record { gives = last }))))
 
@@ -122,9 +113,9 @@ pub claim_balance_keeps : {old m : EntryMap} (ctx : Ctx) (op : ClaimClaimableBal
     → Leaves old (claiming.claim_claimable_balance ctx op m)
 claim_balance_keeps {old = old} {m = m} ctx op keeps =
     let k = key.ClaimableBalance op.balance_id in
-    behind_some (Work old) (balance_at m op.balance_id) (claiming.answer claim.DoesNotExist) _
-    (λ balance. behind (Work old) (claiming.claim_tests ctx balance) _
-    (behind_change (Work old)
+    past_some (Work old) (balance_at m op.balance_id) (claiming.answer claim.DoesNotExist) _
+    (λ balance. past (Work old) (claiming.claim_tests ctx balance) _
+    (past_change (Work old)
     (map_after_credit ctx.op_source balance.asset balance.amount (map_after_removing k m)) claiming.credit_result _
     (credit_keeps ctx.op_source balance.asset balance.amount (removing_keeps k tt keeps))
     (λ taken last. record { gives = last })))
@@ -135,14 +126,14 @@ pub clawback_keeps : {old m : EntryMap} (ctx : Ctx) (op : ClawbackOp) → Keeps 
     → Leaves old (clawing.clawback ctx op m)
 clawback_keeps {old = old} {m = m} ctx op keeps =
     let from = account_of op.from in
-    behind (Work old) (clawing.clawback_tests ctx op) _
-    (behind_some (Work old) (line_of_asset m from op.asset) (clawing.answer claw.NoTrust) _
-    (λ line. behind (Work old) (clawing.line_tests op.amount line) _
+    past (Work old) (clawing.clawback_tests ctx op) _
+    (past_some (Work old) (line_of_asset m from op.asset) (clawing.answer claw.NoTrust) _
+    (λ line. past (Work old) (clawing.line_tests op.amount line) _
     (record { gives = with_line_keeps from (line_asset_of op.asset) (with_less op.amount) keeps })))
 
 pub clawback_balance_keeps : {old m : EntryMap} (ctx : Ctx) (op : ClawbackClaimableBalanceOp) → Keeps old m
     → Leaves old (taking.clawback_claimable_balance ctx op m)
 clawback_balance_keeps {old = old} {m = m} ctx op keeps =
-    behind_some (Work old) (balance_at m op.balance_id) (taking.answer reclaim.DoesNotExist) _
-    (λ balance. behind (Work old) (taking.balance_tests ctx balance) _
+    past_some (Work old) (balance_at m op.balance_id) (taking.answer reclaim.DoesNotExist) _
+    (λ balance. past (Work old) (taking.balance_tests ctx balance) _
     (record { gives = removing_keeps (key.ClaimableBalance op.balance_id) tt keeps }))

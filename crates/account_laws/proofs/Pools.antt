@@ -1,34 +1,21 @@
--- Pools and lines of their shares, which come, change and go, leave each account that stood.
-use Rattle.std.proofs.Common.{None, Option, Some, pos, ℕ}
-use Rattle.std.specs.Prelude.{neg_ℤ, ℤ}
-use Rattle.close_laws.specs.ledger_types.declared.asset.PoolParams.{PoolParams}
+-- Pools and lines of their shares, which come, change and go, keep each account that existed.
+use Rattle.account_laws.proofs.Prelude as prelude
+use prelude.{None, Option, Some, pos, ℕ, neg_ℤ, ℤ, PoolParams, AccountId, Hash, LedgerKey, LiquidityPoolEntry, EntryMap}
+use prelude.{erase, line_at, pool_at, Ctx, new_pool, needed_line, map_with_share_lines, map_with_uses_at, with_lines}
+use prelude.{with_uses, holder, empty_pool, has_no_line, map_with_pool_by, map_without_bare_pool}
+use prelude.{map_without_share_line, map_with_shares, part_of, share_key, with_change, if_either}
 use Rattle.close_laws.specs.ledger_types.declared.asset.TrustLineAsset.TheVariants as line
-use Rattle.close_laws.specs.ledger_types.declared.ids.AccountId.{AccountId}
-use Rattle.close_laws.specs.ledger_types.declared.ids.Hash.{Hash}
-use Rattle.close_laws.specs.ledger_types.declared.key.LedgerKey.{LedgerKey}
 use Rattle.close_laws.specs.ledger_types.declared.key.LedgerKey.TheVariants as key
-use Rattle.close_laws.specs.ledger_types.declared.liquidity_pool.LiquidityPoolEntry.{LiquidityPoolEntry}
 use Rattle.close_laws.specs.op_types.declared.pool_ops.LiquidityPoolDepositOp.{LiquidityPoolDepositOp}
 use Rattle.close_laws.specs.op_types.declared.pool_ops.LiquidityPoolWithdrawOp.{LiquidityPoolWithdrawOp}
 use Rattle.close_laws.specs.op_types.declared.pool_results.LiquidityPoolDepositResult.TheVariants as deposit
 use Rattle.close_laws.specs.op_types.declared.pool_results.LiquidityPoolWithdrawResult.TheVariants as withdraw
-use Rattle.close_laws.specs.entry_map.EntryMap.{EntryMap, erase}
-use Rattle.close_laws.specs.entry_slots.Lines.{line_at}
-use Rattle.close_laws.specs.entry_slots.Pools.{pool_at}
-use Rattle.close_laws.specs.sponsor_rules.declared.context.Ctx.{Ctx}
-use Rattle.close_laws.specs.legal_rules.PoolLaws.{new_pool}
-use Rattle.close_laws.specs.legal_rules.PoolShares.{needed_line}
-use Rattle.close_laws.specs.legal_rules.ShareLaws.{map_with_share_lines, map_with_uses_at, with_lines, with_uses}
-use Rattle.close_laws.specs.legal_rules.Trades.{holder}
-use Rattle.close_laws.specs.pool_shares.ShareLines.{empty_pool, has_no_line, map_with_pool_by, map_without_bare_pool}
-use Rattle.close_laws.specs.pool_shares.ShareLines.{map_without_share_line}
-use Rattle.close_laws.specs.pool_shares.Withdrawing.{map_with_shares, part_of, share_key, with_change}
 use Rattle.close_laws.specs.op_pool.Deposit as depositing
 use Rattle.close_laws.specs.op_pool.Withdraw as withdrawing
 use Rattle.account_laws.proofs.Amounts.{paying_keeps}
 use Rattle.account_laws.proofs.Sponsored.{removing_keeps}
-use Rattle.account_laws.proofs.Standing.{Keeps, either_way, erase_keeps, put_keeps, with_line_keeps, with_pool_keeps}
-use Rattle.account_laws.proofs.Steps.{Leaves, Work, behind, behind_some}
+use Rattle.account_laws.proofs.Existing.{Keeps, erase_keeps, put_keeps, with_line_keeps, with_pool_keeps}
+use Rattle.account_laws.proofs.Steps.{Leaves, Work, past, past_some}
 
 -- ---- shares
 
@@ -51,7 +38,7 @@ share_lines_keep n id pool params keeps =
 
 bare_pool_keeps : {old m : EntryMap} (pool : Hash) → Keeps old m → Keeps old (map_without_bare_pool pool m)
 bare_pool_keeps {old = old} {m = m} pool keeps =
-    either_way (Keeps old) (has_no_line (pool_at m pool)) (erase m (key.LiquidityPool pool)) m
+    if_either (Keeps old) (has_no_line (pool_at m pool)) (erase m (key.LiquidityPool pool)) m
     (erase_keeps (key.LiquidityPool pool) tt keeps) keeps
 
 -- a line of shares goes, and its pool with the last one
@@ -73,13 +60,13 @@ pub deposit_keeps : {old m : EntryMap} (ctx : Ctx) (op : LiquidityPoolDepositOp)
     → Leaves old (depositing.liquidity_pool_deposit ctx op m)
 deposit_keeps {old = old} {m = m} ctx op keeps =
     let held = line_at m ctx.op_source (line.PoolShare op.pool_id) in
-    behind (Work old) (depositing.disabled_tests ctx) _
-    (behind (Work old) (depositing.deposit_tests op) _
-    (behind_some (Work old) held (depositing.answer deposit.NoTrust) _
-    (λ share. behind_some (Work old) (pool_at m op.pool_id) (depositing.answer deposit.NoTrust) _
+    past (Work old) (depositing.disabled_tests ctx) _
+    (past (Work old) (depositing.deposit_tests op) _
+    (past_some (Work old) held (depositing.answer deposit.NoTrust) _
+    (λ share. past_some (Work old) (pool_at m op.pool_id) (depositing.answer deposit.NoTrust) _
     (λ pool.
     let d = depositing.deposit_by op pool in
-    behind (Work old) (depositing.given_tests ctx op share pool d m) _ (record {
+    past (Work old) (depositing.given_tests ctx op share pool d m) _ (record {
       gives = paying_keeps (holder ctx.op_source pool.params.asset_b) (neg_ℤ (pos d.b))
           (paying_keeps (holder ctx.op_source pool.params.asset_a) (neg_ℤ (pos d.a))
           (shares_keep ctx.op_source op.pool_id (pos d.a) (pos d.b) (pos d.shares) keeps));
@@ -91,14 +78,14 @@ pub withdraw_keeps : {old m : EntryMap} (ctx : Ctx) (op : LiquidityPoolWithdrawO
     → Leaves old (withdrawing.liquidity_pool_withdraw ctx op m)
 withdraw_keeps {old = old} {m = m} ctx op keeps =
     let held = line_at m ctx.op_source (line.PoolShare op.pool_id) in
-    behind (Work old) (withdrawing.disabled_tests ctx) _
-    (behind (Work old) (withdrawing.withdraw_tests op) _
-    (behind_some (Work old) held (withdrawing.answer withdraw.NoTrust) _
-    (λ share. behind (Work old) (withdrawing.share_tests op share) _
-    (behind_some (Work old) (pool_at m op.pool_id) (withdrawing.answer withdraw.NoTrust) _
+    past (Work old) (withdrawing.disabled_tests ctx) _
+    (past (Work old) (withdrawing.withdraw_tests op) _
+    (past_some (Work old) held (withdrawing.answer withdraw.NoTrust) _
+    (λ share. past (Work old) (withdrawing.share_tests op share) _
+    (past_some (Work old) (pool_at m op.pool_id) (withdrawing.answer withdraw.NoTrust) _
     (λ pool.
     let part = part_of pool op.amount in
-    behind (Work old) (withdrawing.taken_tests ctx op pool part m) _ (record {
+    past (Work old) (withdrawing.taken_tests ctx op pool part m) _ (record {
       gives = paying_keeps (holder ctx.op_source pool.params.asset_b) (pos part.b)
           (paying_keeps (holder ctx.op_source pool.params.asset_a) (pos part.a)
           (shares_keep ctx.op_source op.pool_id (neg_ℤ (pos part.a)) (neg_ℤ (pos part.b)) (neg_ℤ op.amount) keeps));

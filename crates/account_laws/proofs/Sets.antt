@@ -1,13 +1,13 @@
--- A set without ACCOUNT_MERGE leaves each account that stood, and so does a close.
-use Rattle.std.proofs.Common.{All, Bool, List, None, Option, Some, [], ap, false, if◌then◌else◌, length, nat_eq, not}
-use Rattle.std.proofs.Common.{sym, true, ℕ, ◌+◌, ◌∙◌, ◌∷◌, ◌≡◌}
-use Rattle.std.proofs.lemmas.List.Elements.{All-head, All-tail}
-use Rattle.std.specs.FinMap.{get}
-use Rattle.std.specs.Prelude.{neg_ℤ, ℤ}
-use Rattle.close_laws.specs.ledger_types.declared.account.AccountEntry.{AccountEntry}
-use Rattle.close_laws.specs.ledger_types.declared.entry.LedgerEntry.{LedgerEntry}
-use Rattle.close_laws.specs.ledger_types.declared.ids.AccountId.{AccountId}
-use Rattle.close_laws.specs.ledger_types.declared.ids.Hash.{Hash}
+-- A set without ACCOUNT_MERGE keeps each account that existed, and so does a close.
+use Rattle.account_laws.proofs.Prelude as prelude
+use prelude.{All, Bool, List, None, Option, Some, [], ap, false, if◌then◌else◌, length, nat_eq, not, sym, true, ℕ, ◌+◌}
+use prelude.{◌∙◌, ◌∷◌, ◌≡◌, All-head, All-tail, get, neg_ℤ, ℤ, AccountEntry, LedgerEntry, AccountId, Hash}
+use prelude.{signed_hash_of, transaction_hash_of, EntryMap, account_at, account_in, first_fault, Ctx}
+use prelude.{map_after_removing_preauth, numbered, paid, apply_order_of, fee_of, fees_taken, map_after_fee}
+use prelude.{operations_of, Ran, done_at, done_by, inserted, run, Setting, all_applied, all_held, ctx_in}
+use prelude.{envelope_applied, envelopes_in_order, fees_taken_of, set_done, Auth, are_used, auth_of, source_of, all_at}
+use prelude.{applied_in, setting_in, ClosesKeepAccounts, DoAccountsExist, MergesNone, SetsKeepAccounts, is_merge}
+use prelude.{if_either}
 use Rattle.close_laws.specs.ledger_types.declared.key.LedgerKey.TheVariants as key
 use Rattle.close_laws.specs.ledger_types.declared.signer.SignerKey.TheVariants.{PreAuthTx}
 use Rattle.close_laws.specs.op_types.declared.operation.Operation.{Operation}
@@ -18,34 +18,18 @@ use Rattle.close_laws.specs.op_types.declared.transaction.TransactionEnvelope.Th
 use Rattle.close_laws.specs.op_types.declared.transaction.TransactionSet.{TransactionSet}
 use Rattle.close_laws.specs.op_types.declared.transaction_result.TransactionOutcome.{TransactionOutcome}
 use Rattle.close_laws.specs.op_types.declared.transaction_result.TransactionOutcome.TheVariants as outcome
-use Rattle.close_laws.specs.value_hashes.Hashes.{signed_hash_of, transaction_hash_of}
-use Rattle.close_laws.specs.entry_map.EntryMap.{EntryMap}
-use Rattle.close_laws.specs.entry_slots.Accounts.{account_at, account_in, account_of}
-use Rattle.close_laws.specs.entry_slots.Tests.{first_fault}
-use Rattle.close_laws.specs.sponsor_rules.declared.context.Ctx.{Ctx}
-use Rattle.close_laws.specs.sponsor_rules.Signers.{map_after_removing_preauth}
-use Rattle.close_laws.specs.legal_rules.Payments.{numbered, paid}
+use Rattle.close_laws.specs.entry_slots.Accounts.{account_of}
 use Rattle.close_laws.specs.signer_check.declared.held.HeldSignature.{HeldSignature}
 use Rattle.close_laws.specs.fee_rules.Envelopes.{fee_source_of}
 use Rattle.close_laws.specs.fee_rules.Fees.{set_base_fee}
-use Rattle.close_laws.specs.fee_rules.Turns.{apply_order_of}
 use Rattle.close_laws.specs.op_form.declared.levels.ThresholdLevel.TheVariants.{Low}
 use Rattle.close_laws.specs.tx_apply.Checks as checks
 use Rattle.close_laws.specs.tx_apply.FeeBump as bump
-use Rattle.close_laws.specs.tx_apply.Fees.{fee_of, fees_taken, map_after_fee}
-use Rattle.close_laws.specs.tx_apply.Operations.{operations_of}
-use Rattle.close_laws.specs.tx_apply.Running.{Ran, done_at, done_by, placed, run}
-use Rattle.close_laws.specs.tx_apply.Set.{Setting, all_applied, all_held, ctx_in, envelope_applied, envelopes_in_order}
-use Rattle.close_laws.specs.tx_apply.Set.{fees_taken_of, set_done}
-use Rattle.close_laws.specs.tx_apply.Signing.{Auth, are_used, auth_of, source_of}
 use Rattle.close_laws.specs.tx_apply.Transaction as spec
-use Rattle.close_laws.proofs.tx_apply_proofs.Conserving.{all_at}
-use Rattle.close_laws.specs.close_rules.Close.{applied_in, setting_in}
 use Rattle.close_laws.proofs.Unmarked.{AreAlike, AreMapsAlike, next_alike}
-use Rattle.account_laws.specs.Standing.{ClosesKeepAccounts, DoAccountsStand, MergesNone, SetsKeepAccounts, is_merge}
 use Rattle.account_laws.proofs.Operations.{any_keeps}
 use Rattle.account_laws.proofs.Sponsored.{removing_signer_keeps}
-use Rattle.account_laws.proofs.Standing.{Keeps, either_way, keeps_itself, with_account_keeps}
+use Rattle.account_laws.proofs.Existing.{Keeps, keeps_itself, with_account_keeps}
 
 -- ---- operations
 
@@ -58,15 +42,15 @@ done_by_keeps : {old m : EntryMap} (ctx : Ctx) (of : Operation) (found : Option 
 done_by_keeps ctx of None plain keeps = keeps
 done_by_keeps ctx of (Some account) plain keeps = any_keeps ctx of.body plain keeps
 
-run_keeps : {old : EntryMap} (ctx : Ctx) (source : AccountId) (place : ℕ) (operations : List Operation)
-    (m : EntryMap) → All IsPlain operations → Keeps old m → Keeps old (run ctx source place operations m).entries
+run_keeps : {old : EntryMap} (ctx : Ctx) (source : AccountId) (index : ℕ) (operations : List Operation)
+    (m : EntryMap) → All IsPlain operations → Keeps old m → Keeps old (run ctx source index operations m).entries
 unfolding run
-run_keeps ctx source place [] m plain keeps = keeps
-run_keeps ctx source place (of ∷ operations) m plain keeps =
-    let first = done_at ctx source place of m in
-    run_keeps first.ctx source (place + 1) operations first.entries
+run_keeps ctx source index [] m plain keeps = keeps
+run_keeps ctx source index (of ∷ operations) m plain keeps =
+    let first = done_at ctx source index of m in
+    run_keeps first.ctx source (index + 1) operations first.entries
     (All-tail IsPlain of operations plain)
-    (done_by_keeps (placed ctx place (source_of source of)) of (account_at m (source_of source of))
+    (done_by_keeps (inserted ctx index (source_of source of)) of (account_at m (source_of source of))
     (All-head IsPlain of operations plain) keeps)
 
 -- ---- transactions
@@ -98,9 +82,9 @@ Applies old applied = Keeps old applied.entries
 settled_keeps : {old m : EntryMap} (ctx : Ctx) (ran : Ran) → Keeps old m → Keeps old ran.entries
     → Keeps old (spec.settled ctx m ran).entries
 settled_keeps {old = old} {m = m} ctx ran keeps left =
-    either_way (Applies old) ran.succeeds (spec.succeeded ctx m ran)
+    if_either (Applies old) ran.succeeds (spec.succeeded ctx m ran)
     (spec.undone (outcome.Failed ran.results) ctx m ran.steps)
-    (either_way (Applies old) (nat_eq (length ran.ctx.sponsorships) 0) _
+    (if_either (Applies old) (nat_eq (length ran.ctx.sponsorships) 0) _
     (spec.undone outcome.BadSponsorship ctx m ran.steps) left keeps) keeps
 
 applied_keeps : {old m : EntryMap} (ctx : Ctx) (tx : Transaction) (end : Option TransactionOutcome)
@@ -122,14 +106,14 @@ transaction_keeps {m = m} pays base_fee ctx hash signatures tx plain keeps =
 
 module _ {old : EntryMap} (base_fee : ℕ) (ctx : Ctx) (signed : bump.BumpSigned) (tx : FeeBumpTransaction)
     (plain : All IsPlain tx.inner_tx.tx.operations) where
-  behind_auth : {m : EntryMap} (after : List HeldSignature) → Keeps old m
-      → Keeps old (bump.applied_behind_auth base_fee ctx signed tx after m).entries
-  behind_auth {m = m} after keeps =
-      either_way (Applies old) (checks.is_poor ctx (account_at m (bump.payer_of tx)))
+  past_auth : {m : EntryMap} (after : List HeldSignature) → Keeps old m
+      → Keeps old (bump.applied_after_auth base_fee ctx signed tx after m).entries
+  past_auth {m = m} after keeps =
+      if_either (Applies old) (checks.is_poor ctx (account_at m (bump.payer_of tx)))
       (spec.ended outcome.InsufficientBalance ctx m)
       (if are_used after then bump.inner_applied base_fee ctx signed tx m else spec.ended outcome.BadAuthExtra ctx m)
       keeps
-      (either_way (Applies old) (are_used after) (bump.inner_applied base_fee ctx signed tx m)
+      (if_either (Applies old) (are_used after) (bump.inner_applied base_fee ctx signed tx m)
       (spec.ended outcome.BadAuthExtra ctx m)
       (transaction_keeps false base_fee ctx signed.inner_hash signed.inner_signatures tx.inner_tx.tx plain keeps)
       keeps)
@@ -137,10 +121,10 @@ module _ {old : EntryMap} (base_fee : ℕ) (ctx : Ctx) (signed : bump.BumpSigned
   by_auth : {m : EntryMap} (auth : Auth) → Keeps old m
       → Keeps old (bump.applied_by_auth base_fee ctx signed tx m auth).entries
   by_auth {m = m} auth keeps =
-      either_way (Applies old) (not auth.passes) (spec.ended outcome.BadAuth ctx m)
-      (bump.applied_behind_auth base_fee ctx signed tx auth.signatures
+      if_either (Applies old) (not auth.passes) (spec.ended outcome.BadAuth ctx m)
+      (bump.applied_after_auth base_fee ctx signed tx auth.signatures
       (map_after_removing_preauth (bump.payer_of tx) signed.hash m)) keeps
-      (behind_auth auth.signatures (removing_signer_keeps (bump.payer_of tx) (PreAuthTx signed.hash) keeps))
+      (past_auth auth.signatures (removing_signer_keeps (bump.payer_of tx) (PreAuthTx signed.hash) keeps))
 
   by_fault : {m : EntryMap} (fault : Option TransactionOutcome) → Keeps old m
       → Keeps old (bump.applied_by_fault base_fee ctx signed tx m fault).entries
@@ -155,10 +139,10 @@ module _ {old : EntryMap} (base_fee : ℕ) (ctx : Ctx) (signed : bump.BumpSigned
 
 -- none of its operations is one
 abbrev HasPlain : TransactionEnvelope → Type 0
-HasPlain whole = All IsPlain (operations_of whole)
+HasPlain entire = All IsPlain (operations_of entire)
 
-envelope_keeps : {old m : EntryMap} (setting : Setting) (id_pool : ℕ) (whole : TransactionEnvelope)
-    → HasPlain whole → Keeps old m → Keeps old (envelope_applied setting id_pool whole m).entries
+envelope_keeps : {old m : EntryMap} (setting : Setting) (id_pool : ℕ) (entire : TransactionEnvelope)
+    → HasPlain entire → Keeps old m → Keeps old (envelope_applied setting id_pool entire m).entries
 unfolding envelope_applied
 envelope_keeps setting id_pool (envelope.V0 signed) plain keeps =
     without_used_keeps (signed_hash_of setting.network (envelope.V0 signed))
@@ -177,12 +161,12 @@ all_keep : {old : EntryMap} (setting : Setting) (id_pool : ℕ) (envelopes : Lis
     → Keeps old (all_applied setting id_pool envelopes fees m).entries
 unfolding all_applied
 all_keep setting id_pool [] fees m plain keeps = keeps
-all_keep setting id_pool (whole ∷ others) [] m plain keeps = keeps
-all_keep setting id_pool (whole ∷ others) (fee ∷ fees) m plain keeps =
-    let first = envelope_applied setting id_pool whole m in
+all_keep setting id_pool (entire ∷ others) [] m plain keeps = keeps
+all_keep setting id_pool (entire ∷ others) (fee ∷ fees) m plain keeps =
+    let first = envelope_applied setting id_pool entire m in
     all_keep setting first.id_pool others fees first.entries
-    (All-tail HasPlain whole others plain)
-    (envelope_keeps setting id_pool whole (All-head HasPlain whole others plain)
+    (All-tail HasPlain entire others plain)
+    (envelope_keeps setting id_pool entire (All-head HasPlain entire others plain)
     keeps)
 
 -- ---- fees
@@ -191,9 +175,9 @@ fees_keep : {old : EntryMap} (base_fee : ℕ) (envelopes : List TransactionEnvel
     → Keeps old (fees_taken base_fee envelopes m).entries
 unfolding fees_taken
 fees_keep base_fee [] m keeps = keeps
-fees_keep base_fee (whole ∷ others) m keeps =
-    fees_keep base_fee others (map_after_fee base_fee whole m)
-    (with_account_keeps (fee_source_of whole) (paid (neg_ℤ (fee_of base_fee whole m))) keeps)
+fees_keep base_fee (entire ∷ others) m keeps =
+    fees_keep base_fee others (map_after_fee base_fee entire m)
+    (with_account_keeps (fee_source_of entire) (paid (neg_ℤ (fee_of base_fee entire m))) keeps)
 
 -- ---- sets
 
@@ -218,14 +202,14 @@ still_account (Some a) (Some b) account alike is = sym (ap (λ parts. account_in
 still_account None (Some b) account alike is = absurd alike
 still_account (Some a) None account alike is = absurd alike
 
-alike_stand : (m after : EntryMap) → AreMapsAlike m after → DoAccountsStand m after
+alike_exist : (m after : EntryMap) → AreMapsAlike m after → DoAccountsExist m after
 unfolding account_at
-alike_stand m after alike id stands =
+alike_exist m after alike id exists =
     let k = key.Account id in
-    (stands.0, still_account (get m k) (get after k) stands.0 (alike k) stands.1)
+    (exists.0, still_account (get m k) (get after k) exists.0 (alike k) exists.1)
 
 pub closes_keep_accounts : ClosesKeepAccounts
-closes_keep_accounts s closing after plain closed id stands =
+closes_keep_accounts s closing after plain closed id exists =
     let worked = (applied_in s closing).entries in
-    alike_stand worked after (next_alike _ s.entries worked after closed) id
-    ((set_keeps (setting_in s closing) closing.tx_set plain (keeps_itself s.entries)).each id stands)
+    alike_exist worked after (next_alike _ s.entries worked after closed) id
+    ((set_keeps (setting_in s closing) closing.tx_set plain (keeps_itself s.entries)).each id exists)

@@ -1,32 +1,17 @@
--- Adding, removing and moving leave each account that stood, where no account is removed.
-use Rattle.std.proofs.Common.{None, Option, Some, ℕ}
-use Rattle.std.specs.FinMap.{get}
-use Rattle.close_laws.specs.ledger_types.declared.account.AccountEntry.{AccountEntry}
-use Rattle.close_laws.specs.ledger_types.declared.entry.LedgerEntry.{LedgerEntry}
-use Rattle.close_laws.specs.ledger_types.declared.ids.AccountId.{AccountId}
-use Rattle.close_laws.specs.ledger_types.declared.key.LedgerKey.{LedgerKey}
-use Rattle.close_laws.specs.ledger_types.declared.signer.Signer.{Signer}
-use Rattle.close_laws.specs.ledger_types.declared.signer.SignerKey.{SignerKey}
-use Rattle.close_laws.specs.entry_map.EntryMap.{EntryMap}
-use Rattle.close_laws.specs.entry_slots.Accounts.{account_at, account_in, with_account}
-use Rattle.close_laws.specs.entry_slots.EntrySponsor.{sponsor_of, with_sponsor}
+-- Adding, removing and moving keep each account that existed, where no account is removed.
+use Rattle.account_laws.proofs.Prelude as prelude
+use prelude.{None, Option, Some, ℕ, get, AccountEntry, LedgerEntry, AccountId, LedgerKey, Signer, SignerKey, EntryMap}
+use prelude.{account_at, account_in, with_account, sponsor_of, with_sponsor, Ctx, FoundSigner, charge_of, with_less}
+use prelude.{with_more, open_sponsor, payer_of, payer_other_than, map_after_charging, map_after_exchange}
+use prelude.{map_after_releasing, with_other_payer, with_subentry, without_subentry, found_signer}
 use Rattle.close_laws.specs.sponsor_rules.declared.charge.Charge.{Charge}
 use Rattle.close_laws.specs.sponsor_rules.declared.charge.Charge.TheVariants as charge
-use Rattle.close_laws.specs.sponsor_rules.declared.context.Ctx.{Ctx}
 use Rattle.close_laws.specs.sponsor_rules.declared.count.Count.TheVariants.{Sponsoring}
-use Rattle.close_laws.specs.sponsor_rules.declared.signer_place.FoundSigner.{FoundSigner}
 use Rattle.close_laws.specs.sponsor_rules.Adding as adding
-use Rattle.close_laws.specs.sponsor_rules.Charge.{charge_of}
-use Rattle.close_laws.specs.sponsor_rules.Counting.{with_less, with_more}
 use Rattle.close_laws.specs.sponsor_rules.Moving as moving
-use Rattle.close_laws.specs.sponsor_rules.Payers.{open_sponsor, payer_of, payer_other_than}
-use Rattle.close_laws.specs.sponsor_rules.Paying.{map_after_charging, map_after_exchange, map_after_releasing}
-use Rattle.close_laws.specs.sponsor_rules.Paying.{with_other_payer}
-use Rattle.close_laws.specs.sponsor_rules.Paying.{with_subentry, without_subentry}
 use Rattle.close_laws.specs.sponsor_rules.Removing as removing
-use Rattle.close_laws.specs.sponsor_rules.SignerPlace.{found_signer}
 use Rattle.close_laws.specs.sponsor_rules.Signers as signing
-use Rattle.account_laws.proofs.Standing.{IsOther, Keeps, erase_keeps, put_keeps, with_account_keeps}
+use Rattle.account_laws.proofs.Existing.{IsOther, Keeps, erase_keeps, put_keeps, with_account_keeps}
 use Rattle.account_laws.proofs.Steps.{KeepsIf, unless_keeps}
 
 -- ---- who pays
@@ -174,22 +159,22 @@ pub removing_signer_keeps : {old m : EntryMap} (id : AccountId) (k : SignerKey) 
     → Keeps old (signing.map_after_removing_signer id k m)
 removing_signer_keeps {m = m} id k keeps = signer_removed id (found_signer k (account_at m id)) keeps
 
-signer_moved : {old m : EntryMap} (id : AccountId) (place : ℕ) (from to : Option AccountId) → Keeps old m
-    → Keeps old (with_account (map_after_exchange 1 from to m) id (signing.with_moved_signer place from to))
-signer_moved id place from to keeps =
-    with_account_keeps id (signing.with_moved_signer place from to) (exchange_keeps 1 from to keeps)
+signer_moved : {old m : EntryMap} (id : AccountId) (index : ℕ) (from to : Option AccountId) → Keeps old m
+    → Keeps old (with_account (map_after_exchange 1 from to m) id (signing.with_moved_signer index from to))
+signer_moved id index from to keeps =
+    with_account_keeps id (signing.with_moved_signer index from to) (exchange_keeps 1 from to keeps)
 
-signer_moved_between : {old m : EntryMap} (ctx : Ctx) (id : AccountId) (place : ℕ) (from to : Option AccountId)
-    → Keeps old m → KeepsIf old (signing.map_after_moving_signer_between ctx id place from to m)
-signer_moved_between ctx id place None None keeps = record { gives = keeps }
-signer_moved_between ctx id place None (Some to) keeps = unless_keeps _ (signer_moved id place None (Some to) keeps)
-signer_moved_between ctx id place (Some from) to keeps = unless_keeps _ (signer_moved id place (Some from) to keeps)
+signer_moved_between : {old m : EntryMap} (ctx : Ctx) (id : AccountId) (index : ℕ) (from to : Option AccountId)
+    → Keeps old m → KeepsIf old (signing.map_after_moving_signer_between ctx id index from to m)
+signer_moved_between ctx id index None None keeps = record { gives = keeps }
+signer_moved_between ctx id index None (Some to) keeps = unless_keeps _ (signer_moved id index None (Some to) keeps)
+signer_moved_between ctx id index (Some from) to keeps = unless_keeps _ (signer_moved id index (Some from) to keeps)
 
 found_moved : {old m : EntryMap} (ctx : Ctx) (id : AccountId) (payer : Option AccountId) (found : Option FoundSigner)
     → Keeps old m → KeepsIf old (signing.map_after_moving_found ctx id payer m found)
 found_moved ctx id payer None keeps = record { gives = keeps }
 found_moved ctx id payer (Some found) keeps =
-    signer_moved_between ctx id found.place found.sponsor (payer_other_than id payer) keeps
+    signer_moved_between ctx id found.index found.sponsor (payer_other_than id payer) keeps
 
 pub moving_signer_keeps : {old m : EntryMap} (ctx : Ctx) (id : AccountId) (k : SignerKey) (payer : Option AccountId)
     → Keeps old m → KeepsIf old (signing.map_after_moving_signer ctx id k payer m)

@@ -1,13 +1,8 @@
--- What the steps of an operation give, where each leaves the accounts that stood.
-use Rattle.std.proofs.Common.{Err, IfOk, IfSome, None, Ok, Option, Result, Some}
-use Rattle.close_laws.specs.op_types.declared.operation_result.OperationResult.{OperationResult}
-use Rattle.close_laws.specs.entry_map.EntryMap.{EntryMap}
-use Rattle.close_laws.specs.entry_slots.Tests.{Tests, first_fault, unless_fault}
-use Rattle.close_laws.specs.sponsor_rules.declared.context.Ctx.{Ctx}
-use Rattle.close_laws.specs.sponsor_rules.declared.fault.AddFault.{AddFault}
-use Rattle.close_laws.specs.op_form.Done.{Attempt, Done, done_of}
-use Rattle.close_laws.specs.op_form.Steps.{after, after_charge, after_some, after_step, unless_refused, unless_result}
-use Rattle.account_laws.proofs.Standing.{Keeps}
+-- What the steps of an operation give, where each keeps the accounts that existed.
+use Rattle.account_laws.proofs.Prelude.{Err, IfOk, IfSome, None, Ok, Option, Result, Some, OperationResult, EntryMap}
+use Rattle.account_laws.proofs.Prelude.{Tests, first_fault, unless_fault, Ctx, AddFault, Attempt, Done, done_of, after}
+use Rattle.account_laws.proofs.Prelude.{after_charge, after_some, after_step, unless_refused, unless_result}
+use Rattle.account_laws.proofs.Existing.{Keeps}
 
 -- what holds of what a step gives, if it gives something
 pub record Gives {A F : Type 0} (P : A → Type 0) (made : Result A F) : Type 0 where
@@ -33,46 +28,46 @@ pub unless_keeps : {old m : EntryMap} {F : Type 0} (found : Option F) → Keeps 
 unless_keeps None keeps = record { gives = keeps }
 unless_keeps (Some fault) keeps = record { gives = tt }
 
--- ---- steps, one behind another
+-- ---- steps, one after another
 
-behind_none : {A : Type 0} (P : A → Type 0) (found : Option OperationResult) (next : Result A OperationResult)
+past_none : {A : Type 0} (P : A → Type 0) (found : Option OperationResult) (next : Result A OperationResult)
     → Gives P next → Gives P (unless_result found next)
-behind_none P None next holds = holds
-behind_none P (Some result) next holds = record { gives = tt }
+past_none P None next holds = holds
+past_none P (Some result) next holds = record { gives = tt }
 
-pub behind : {A : Type 0} (P : A → Type 0) (tests : Tests OperationResult) (next : Result A OperationResult)
+pub past : {A : Type 0} (P : A → Type 0) (tests : Tests OperationResult) (next : Result A OperationResult)
     → Gives P next → Gives P (unless_refused tests next)
-behind P tests next holds = behind_none P (first_fault tests) next holds
+past P tests next holds = past_none P (first_fault tests) next holds
 
-pub behind_some : {A B : Type 0} (P : B → Type 0) (found : Option A) (result : OperationResult)
+pub past_some : {A B : Type 0} (P : B → Type 0) (found : Option A) (result : OperationResult)
     (next : A → Result B OperationResult) → ((a : A) → Gives P (next a)) → Gives P (after_some found result next)
-behind_some P None result next holds = record { gives = tt }
-behind_some P (Some a) result next holds = holds a
+past_some P None result next holds = record { gives = tt }
+past_some P (Some a) result next holds = holds a
 
 -- by a map that may be there
-pub behind_found : {old : EntryMap} {B : Type 0} (P : B → Type 0) (found : Option EntryMap) (result : OperationResult)
+pub past_found : {old : EntryMap} {B : Type 0} (P : B → Type 0) (found : Option EntryMap) (result : OperationResult)
     (next : EntryMap → Result B OperationResult) → KeepsIfSome old found
     → ((m : EntryMap) → Keeps old m → Gives P (next m)) → Gives P (after_some found result next)
-behind_found P None result next found holds = record { gives = tt }
-behind_found P (Some m) result next found holds = holds m found.finds
+past_found P None result next found holds = record { gives = tt }
+past_found P (Some m) result next found holds = holds m found.finds
 
-pub behind_charge : {old : EntryMap} {B : Type 0} (P : B → Type 0) (made : Result EntryMap AddFault)
+pub past_charge : {old : EntryMap} {B : Type 0} (P : B → Type 0) (made : Result EntryMap AddFault)
     (low : OperationResult) (next : EntryMap → Result B OperationResult) → KeepsIf old made
     → ((m : EntryMap) → Keeps old m → Gives P (next m)) → Gives P (after_charge made low next)
-behind_charge P (Err fault) low next made holds = record { gives = tt }
-behind_charge P (Ok m) low next made holds = holds m made.gives
+past_charge P (Err fault) low next made holds = record { gives = tt }
+past_charge P (Ok m) low next made holds = holds m made.gives
 
-pub behind_change : {old : EntryMap} {B F : Type 0} (P : B → Type 0) (made : Result EntryMap F)
+pub past_change : {old : EntryMap} {B F : Type 0} (P : B → Type 0) (made : Result EntryMap F)
     (answers : F → OperationResult) (next : EntryMap → Result B OperationResult) → KeepsIf old made
     → ((m : EntryMap) → Keeps old m → Gives P (next m)) → Gives P (after_step made answers next)
-behind_change P (Err fault) answers next made holds = record { gives = tt }
-behind_change P (Ok m) answers next made holds = holds m made.gives
+past_change P (Err fault) answers next made holds = record { gives = tt }
+past_change P (Ok m) answers next made holds = holds m made.gives
 
-pub behind_step : {A B : Type 0} (Q : A → Type 0) (P : B → Type 0) (made : Result A OperationResult)
+pub past_step : {A B : Type 0} (Q : A → Type 0) (P : B → Type 0) (made : Result A OperationResult)
     (next : A → Result B OperationResult) → Gives Q made → ((a : A) → Q a → Gives P (next a))
     → Gives P (after made next)
-behind_step Q P (Err result) next made holds = record { gives = tt }
-behind_step Q P (Ok a) next made holds = holds a made.gives
+past_step Q P (Err result) next made holds = record { gives = tt }
+past_step Q P (Ok a) next made holds = holds a made.gives
 
 -- an operation that fails leaves the entries
 pub done_keeps : {old m : EntryMap} (ctx : Ctx) (attempt : Attempt) → Keeps old m → Leaves old attempt

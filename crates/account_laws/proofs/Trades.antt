@@ -1,33 +1,20 @@
--- Trades leave each account that stood: offers that are crossed, hops and paths.
-use Rattle.std.proofs.Common.{Bool, Err, List, None, Ok, Option, Result, Some, [], false, if◌then◌else◌, pos, suc, true}
-use Rattle.std.proofs.Common.{zero, ℕ, ◌&&◌, ◌-◌, ◌∷◌}
-use Rattle.std.specs.Prelude.{neg_ℤ, unsigned_abs}
-use Rattle.close_laws.specs.ledger_types.declared.asset.Asset.{Asset}
-use Rattle.close_laws.specs.ledger_types.declared.offer.OfferEntry.{OfferEntry}
+-- Trades keep each account that existed: offers that are crossed, hops and paths.
+use Rattle.account_laws.proofs.Prelude as prelude
+use prelude.{Bool, Err, List, None, Ok, Option, Result, Some, [], false, if◌then◌else◌, pos, suc, true, zero, ℕ, ◌&&◌}
+use prelude.{◌-◌, ◌∷◌, neg_ℤ, unsigned_abs, Asset, OfferEntry, Amounts, Bounds, exchanged, wheat_stays, EntryMap, Ctx}
+use prelude.{releasing, CrossEnd, Converted, CrossSelf, TooMany, Trade, Crossing, Left, amount_at, at_limit, converted}
+use prelude.{crossed, ended, joined, left_after, left_of, map_after_rest, meeting, offer_key, seller_gives_at}
+use prelude.{seller_takes_at, step, step_by, turn, with_amount, hop, is_served, pool_of_pair, swapped, with_swap}
+use prelude.{PathFault, Carried, after_hop, and_then, by_end, carried_on, hopped, is_same_asset, needed_before}
+use prelude.{received, received_hop, receiving, sending, sent, sent_hop, if_either}
 use Rattle.close_laws.specs.offer_exchange.declared.rounding.Rounding.{Rounding}
-use Rattle.close_laws.specs.offer_exchange.Exchange.{Amounts, Bounds, exchanged, wheat_stays}
-use Rattle.close_laws.specs.entry_map.EntryMap.{EntryMap}
-use Rattle.close_laws.specs.sponsor_rules.declared.context.Ctx.{Ctx}
-use Rattle.close_laws.specs.legal_rules.Binding.{releasing}
-use Rattle.close_laws.specs.trade_cross.declared.crossed.CrossEnd.{CrossEnd}
-use Rattle.close_laws.specs.trade_cross.declared.crossed.CrossEnd.TheVariants.{Converted, CrossSelf, TooMany}
-use Rattle.close_laws.specs.trade_cross.declared.trade.Trade.{Trade}
 use Rattle.close_laws.specs.trade_cross.declared.turn.Turn.{Turn}
 use Rattle.close_laws.specs.trade_cross.declared.turn.Turn.TheVariants.{Ends, Meets}
-use Rattle.close_laws.specs.trade_cross.Crossing.{Crossing, Left, amount_at, at_limit, converted, crossed, ended}
-use Rattle.close_laws.specs.trade_cross.Crossing.{joined}
-use Rattle.close_laws.specs.trade_cross.Crossing.{left_after, left_of, map_after_rest, meeting, offer_key}
-use Rattle.close_laws.specs.trade_cross.Crossing.{seller_gives_at}
-use Rattle.close_laws.specs.trade_cross.Crossing.{seller_takes_at, step, step_by, turn, with_amount}
-use Rattle.close_laws.specs.trade_cross.Hop.{better_of, hop, is_cheaper, is_served, pool_of_pair, swap_of, swapped}
-use Rattle.close_laws.specs.trade_cross.Hop.{with_swap}
-use Rattle.close_laws.specs.op_payment.declared.path_fault.PathFault.{PathFault}
+use Rattle.close_laws.specs.trade_cross.Hop.{better_of, is_cheaper, swap_of}
 use Rattle.close_laws.specs.op_payment.declared.path_fault.PathFault.TheVariants as fault
-use Rattle.close_laws.specs.op_payment.Paths.{Carried, after_hop, and_then, by_end, carried_on, hopped, is_same_asset}
-use Rattle.close_laws.specs.op_payment.Paths.{needed_before, received, received_hop, receiving, sending, sent, sent_hop}
 use Rattle.account_laws.proofs.Amounts.{acquiring_keeps, paying_keeps, releasing_offer_keeps}
 use Rattle.account_laws.proofs.Sponsored.{removing_keeps}
-use Rattle.account_laws.proofs.Standing.{Keeps, either_way, with_offer_keeps, with_pool_keeps}
+use Rattle.account_laws.proofs.Existing.{Keeps, with_offer_keeps, with_pool_keeps}
 use Rattle.account_laws.proofs.Steps.{Gives}
 
 -- ---- one offer
@@ -82,7 +69,7 @@ module _ {old : EntryMap} (reserve : ℕ) (trade : Trade) where
       let x = step reserve trade.rounding left o m in
       let next = left_after left x.amounts in
       let keeps_step = step_keeps reserve trade.rounding left o keeps in
-      either_way (Crosses old) x.stays (ended x.entries Converted) (crossed reserve trade k next x.entries) keeps_step
+      if_either (Crosses old) x.stays (ended x.entries Converted) (crossed reserve trade k next x.entries) keeps_step
       (rest next x.entries keeps_step)
 
   crossed_keeps : (k : ℕ) (left : Left) (m : EntryMap) → Keeps old m
@@ -102,7 +89,7 @@ better_keeps : {old m : EntryMap} (trade : Trade) (book : Crossing) (pool : Opti
     → Keeps old m → Keeps old (better_of trade book pool m).entries
 better_keeps trade book None crossed keeps = crossed
 better_keeps {old = old} {m = m} trade book (Some amounts) crossed keeps =
-    either_way (Crosses old) (is_served trade book && is_cheaper trade.rounding book amounts) book
+    if_either (Crosses old) (is_served trade book && is_cheaper trade.rounding book amounts) book
     (swapped trade amounts m) crossed (with_pool_keeps (pool_of_pair trade) (with_swap trade amounts) keeps)
 
 hop_keeps : {old m : EntryMap} (ctx : Ctx) (trade : Trade) → Keeps old m → Keeps old (hop ctx trade m).entries
@@ -133,7 +120,7 @@ module _ {old : EntryMap} (ctx : Ctx) (sheep wheat : Asset) (carried : Carried) 
   received_hop_keeps =
       let trade = receiving ctx sheep wheat carried in
       let done = hop ctx trade carried.entries in
-      either_way (Gives (OnWay old)) (is_same_asset sheep wheat) (Ok carried)
+      if_either (Gives (OnWay old)) (is_same_asset sheep wheat) (Ok carried)
       (after_hop (hopped ctx trade carried.entries) (needed_before carried)) (record { gives = keeps })
       (by_its_end trade (needed_before carried) done done.end (hop_keeps ctx trade keeps))
 
@@ -141,7 +128,7 @@ module _ {old : EntryMap} (ctx : Ctx) (sheep wheat : Asset) (carried : Carried) 
   sent_hop_keeps =
       let trade = sending ctx sheep wheat carried in
       let done = hop ctx trade carried.entries in
-      either_way (Gives (OnWay old)) (is_same_asset sheep wheat) (Ok carried)
+      if_either (Gives (OnWay old)) (is_same_asset sheep wheat) (Ok carried)
       (after_hop (hopped ctx trade carried.entries) (carried_on carried)) (record { gives = keeps })
       (by_its_end trade (carried_on carried) done done.end (hop_keeps ctx trade keeps))
 

@@ -1,72 +1,58 @@
--- CHANGE_TRUST leaves each account that stood.
-use Rattle.std.proofs.Common.{None, Option, Some, [], is_some, not, pos, ◌+◌, ◌∷◌}
-use Rattle.std.specs.Ordering.{int_eq}
-use Rattle.std.specs.Prelude.{ℤ}
-use Rattle.close_laws.specs.ledger_types.declared.account.AccountEntry.{AccountEntry}
-use Rattle.close_laws.specs.ledger_types.declared.asset.Asset.{Asset}
+-- CHANGE_TRUST keeps each account that existed.
+use Rattle.account_laws.proofs.Prelude.{None, Option, Some, [], is_some, not, pos, ◌+◌, ◌∷◌, int_eq, ℤ, AccountEntry}
+use Rattle.account_laws.proofs.Prelude.{Asset, PoolParams, TrustLineEntry, EntryMap, use_count, line_at, pool_at, Ctx}
+use Rattle.account_laws.proofs.Prelude.{map_after_adding, needed_line, share_line, map_with_pool, issuer_at}
+use Rattle.account_laws.proofs.Prelude.{line_asset_of, line_of_asset, change_trust, trust_in, if_either}
 use Rattle.close_laws.specs.ledger_types.declared.asset.Asset.TheVariants as asset
 use Rattle.close_laws.specs.ledger_types.declared.asset.ChangeTrustAsset.{ChangeTrustAsset}
 use Rattle.close_laws.specs.ledger_types.declared.asset.ChangeTrustAsset.TheVariants as asked
-use Rattle.close_laws.specs.ledger_types.declared.asset.PoolParams.{PoolParams}
 use Rattle.close_laws.specs.ledger_types.declared.asset.TrustLineAsset.TheVariants as line
 use Rattle.close_laws.specs.ledger_types.declared.key.LedgerKey.TheVariants as key
-use Rattle.close_laws.specs.ledger_types.declared.trust_line.TrustLineEntry.{TrustLineEntry}
 use Rattle.close_laws.specs.op_types.declared.trust_ops.ChangeTrustOp.{ChangeTrustOp}
 use Rattle.close_laws.specs.op_types.declared.trust_results.ChangeTrustResult.TheVariants as trust
-use Rattle.close_laws.specs.entry_map.EntryMap.{EntryMap}
-use Rattle.close_laws.specs.entry_slots.LineExtensions.{use_count}
-use Rattle.close_laws.specs.entry_slots.Lines.{line_at}
-use Rattle.close_laws.specs.entry_slots.Pools.{pool_at}
-use Rattle.close_laws.specs.sponsor_rules.declared.context.Ctx.{Ctx}
-use Rattle.close_laws.specs.sponsor_rules.Adding.{map_after_adding}
-use Rattle.close_laws.specs.legal_rules.PoolShares.{needed_line}
-use Rattle.close_laws.specs.legal_rules.ShareLaws.{share_line}
-use Rattle.close_laws.specs.pool_shares.ShareLines.{map_with_pool}
-use Rattle.close_laws.specs.op_form.Assets.{issuer_at, line_asset_of, line_of_asset}
 use Rattle.close_laws.specs.op_trust.ChangeTrust as trusting
-use Rattle.close_laws.specs.op_trust.Operations.{change_trust, trust_in}
 use Rattle.close_laws.specs.op_trust.ShareTrust as sharing
 use Rattle.account_laws.proofs.Pools.{share_lines_keep, with_new_pool_keeps, without_share_line_keeps}
 use Rattle.account_laws.proofs.Sponsored.{adding_keeps, removing_keeps}
-use Rattle.account_laws.proofs.Standing.{Keeps, either_way, with_line_keeps}
-use Rattle.account_laws.proofs.Steps.{Gives, Leaves, Work, behind, behind_charge, behind_some}
+use Rattle.account_laws.proofs.Existing.{Keeps, with_line_keeps}
+use Rattle.account_laws.proofs.Steps.{Gives, Leaves, Work, past, past_charge, past_some}
 
 -- ---- lines of assets
 
 line_limited : {old m : EntryMap} (ctx : Ctx) (held : Asset) (limit : ℤ) → Keeps old m
     → Leaves old (trusting.limited ctx held limit m)
 line_limited {old = old} {m = m} ctx held limit keeps =
-    behind (Work old) ((not (is_some (issuer_at m held)), trusting.answer trust.NoIssuer) ∷ []) _
+    past (Work old) ((not (is_some (issuer_at m held)), trusting.answer trust.NoIssuer) ∷ []) _
     (record { gives = with_line_keeps ctx.op_source (line_asset_of held) (trusting.with_limit limit) keeps })
 
 line_removed : {old m : EntryMap} (ctx : Ctx) (held : Asset) (line : TrustLineEntry) → Keeps old m
     → Leaves old (trusting.removed ctx held line m)
 line_removed {old = old} ctx held line keeps =
-    behind (Work old) ((not (int_eq (use_count line) (pos 0)), trusting.answer trust.CannotDelete) ∷ []) _
+    past (Work old) ((not (int_eq (use_count line) (pos 0)), trusting.answer trust.CannotDelete) ∷ []) _
     (record { gives = removing_keeps (key.TrustLine ctx.op_source (line_asset_of held)) tt keeps })
 
 line_added : {old m : EntryMap} (ctx : Ctx) (held : Asset) (limit : ℤ) (issuer : AccountEntry) → Keeps old m
     → Leaves old (trusting.added ctx held limit issuer m)
 line_added {old = old} {m = m} ctx held limit issuer keeps =
     let e = trusting.new_line ctx held limit issuer in
-    behind_charge (Work old) (map_after_adding ctx ctx.op_source e m) (trusting.answer trust.LowReserve) _
+    past_charge (Work old) (map_after_adding ctx ctx.op_source e m) (trusting.answer trust.LowReserve) _
     (adding_keeps ctx ctx.op_source e keeps) (λ added after. record { gives = after })
 
 line_changed : {old m : EntryMap} (ctx : Ctx) (held : Asset) (limit : ℤ) (found : Option TrustLineEntry)
     → Keeps old m → Leaves old (trusting.changed ctx held limit m found)
 line_changed {old = old} {m = m} ctx held limit (Some line) keeps =
-    behind (Work old) (trusting.limit_tests limit line) _
-    (either_way (Gives (Work old)) (int_eq limit (pos 0)) (trusting.removed ctx held line m)
+    past (Work old) (trusting.limit_tests limit line) _
+    (if_either (Gives (Work old)) (int_eq limit (pos 0)) (trusting.removed ctx held line m)
     (trusting.limited ctx held limit m) (line_removed ctx held line keeps) (line_limited ctx held limit keeps))
 line_changed {old = old} {m = m} ctx held limit None keeps =
-    behind (Work old) ((int_eq limit (pos 0), trusting.answer trust.InvalidLimit) ∷ []) _
-    (behind_some (Work old) (issuer_at m held) (trusting.answer trust.NoIssuer) _
+    past (Work old) ((int_eq limit (pos 0), trusting.answer trust.InvalidLimit) ∷ []) _
+    (past_some (Work old) (issuer_at m held) (trusting.answer trust.NoIssuer) _
     (λ issuer. line_added ctx held limit issuer keeps))
 
 asset_trusted : {old m : EntryMap} (ctx : Ctx) (held : Asset) (limit : ℤ) → Keeps old m
     → Leaves old (trusting.asset_trust ctx held limit m)
 asset_trusted {old = old} {m = m} ctx held limit keeps =
-    behind (Work old) (trusting.asked_tests ctx held limit) _
+    past (Work old) (trusting.asked_tests ctx held limit) _
     (line_changed ctx held limit (line_of_asset m ctx.op_source held) keeps)
 
 -- ---- lines of pool shares
@@ -74,7 +60,7 @@ asset_trusted {old = old} {m = m} ctx held limit keeps =
 share_removed : {old m : EntryMap} (ctx : Ctx) (params : PoolParams) (share : TrustLineEntry) → Keeps old m
     → Leaves old (sharing.share_removed ctx params share m)
 share_removed {old = old} ctx params share keeps =
-    behind (Work old) ((not (int_eq (use_count share) (pos 0)), trusting.answer trust.CannotDelete) ∷ []) _
+    past (Work old) ((not (int_eq (use_count share) (pos 0)), trusting.answer trust.CannotDelete) ∷ []) _
     (record { gives = without_share_line_keeps ctx.op_source (sharing.pool_named_by params) params keeps })
 
 share_added : {old m : EntryMap} (ctx : Ctx) (params : PoolParams) (limit : ℤ) → Keeps old m
@@ -83,7 +69,7 @@ share_added {old = old} {m = m} ctx params limit keeps =
     let id = ctx.op_source in
     let pool = sharing.pool_named_by params in
     let e = share_line (ctx.seq + 1) None id pool (pos 0) limit in
-    behind_charge (Work old) (map_after_adding ctx id e (map_with_pool (ctx.seq + 1) pool params m))
+    past_charge (Work old) (map_after_adding ctx id e (map_with_pool (ctx.seq + 1) pool params m))
     (trusting.answer trust.LowReserve) _
     (adding_keeps ctx id e (with_new_pool_keeps (ctx.seq + 1) pool params (pool_at m pool) keeps))
     (λ added after. record { gives = share_lines_keep (pos 1) id pool params after })
@@ -92,24 +78,24 @@ share_changed : {old m : EntryMap} (ctx : Ctx) (params : PoolParams) (limit : �
     → Keeps old m → Leaves old (sharing.share_changed ctx params limit m found)
 share_changed {old = old} {m = m} ctx params limit (Some share) keeps =
     let pool = sharing.pool_named_by params in
-    behind (Work old) (trusting.limit_tests limit share) _
-    (either_way (Gives (Work old)) (int_eq limit (pos 0)) (sharing.share_removed ctx params share m)
+    past (Work old) (trusting.limit_tests limit share) _
+    (if_either (Gives (Work old)) (int_eq limit (pos 0)) (sharing.share_removed ctx params share m)
     (sharing.share_limited ctx pool limit m) (share_removed ctx params share keeps)
     (record { gives = with_line_keeps ctx.op_source (line.PoolShare pool) (trusting.with_limit limit) keeps }))
 share_changed {old = old} {m = m} ctx params limit None keeps =
     let a = needed_line ctx.op_source params.asset_a in
     let b = needed_line ctx.op_source params.asset_b in
-    behind (Work old) (sharing.zero_tests limit) _
-    (behind (Work old) (sharing.needed_tests_at m a) _
-    (behind (Work old) (sharing.needed_tests_at m b) _
-    (behind (Work old) (sharing.count_tests a b (sharing.pool_named_by params) m) _
+    past (Work old) (sharing.zero_tests limit) _
+    (past (Work old) (sharing.needed_tests_at m a) _
+    (past (Work old) (sharing.needed_tests_at m b) _
+    (past (Work old) (sharing.count_tests a b (sharing.pool_named_by params) m) _
     (share_added ctx params limit keeps))))
 
 share_trusted : {old m : EntryMap} (ctx : Ctx) (params : PoolParams) (limit : ℤ) → Keeps old m
     → Leaves old (sharing.share_trust ctx params limit m)
 share_trusted {old = old} {m = m} ctx params limit keeps =
-    behind (Work old) (sharing.share_tests params limit) _
-    (behind (Work old) (sharing.pool_tests params m) _
+    past (Work old) (sharing.share_tests params limit) _
+    (past (Work old) (sharing.pool_tests params m) _
     (share_changed ctx params limit (line_at m ctx.op_source (line.PoolShare (sharing.pool_named_by params))) keeps))
 
 -- ---- the operation

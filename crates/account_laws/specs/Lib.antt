@@ -1,4 +1,4 @@
-pub mod Standing
+pub mod Existing
 pub use Rattle.close_laws.specs.bucket_items
 pub use Rattle.close_laws.specs as close_laws
 pub use Rattle.close_laws.specs.entry_changes

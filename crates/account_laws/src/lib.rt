@@ -1,16 +1,16 @@
 //! That an account goes by ACCOUNT_MERGE alone: by operations, by sets and by closes, over their definitions.
 #![tactic(auto)]
 
-ghost use Rattle.account_laws.specs.Standing as spec;
+ghost use Rattle.account_laws.specs.Existing as spec;
 
 pub use close_laws;
 
-/// An operation that isn't ACCOUNT_MERGE leaves each account that stood.
+/// An operation that isn't ACCOUNT_MERGE keeps each account that existed.
 pub fn operations_keep_accounts()
     ensures { spec.OperationsKeepAccounts }
 {}
 
-/// A set without ACCOUNT_MERGE leaves each account that stood.
+/// A set without ACCOUNT_MERGE keeps each account that existed.
 pub fn sets_keep_accounts()
     ensures { spec.SetsKeepAccounts }
 {}

@@ -4,12 +4,12 @@ ghost use Rattle.std.specs.Prelude.{◌≡◌, ◌≤◌, ◌<◌, IfOk};
 ghost use denote.Param.Send.{IsSync};
 ghost use Rattle.std.specs.List.{AllByRecursion};
 ghost use Rattle.merge_board.specs.Parts.{IsBoardIn, IsCollectorIn, IsWorkerEndOf, board_parts, collector_parts};
-ghost use Rattle.board_tests.specs.Places.{IsPlaceIn, IsFrontOf};
+ghost use Rattle.board_tests.specs.WorkerSlots.{IsSlotIn, IsSideOf};
 
 use crate::alone::numbers;
 use crate::hold::Hold;
 use crate::jobs::job;
-use crate::places::{Front, Place};
+use crate::slots::{ClosingSide, WorkerSlot};
 use merge_board::*;
 use outside::Steps;
 use std::alloc::{AllocError, Global};
@@ -19,25 +19,31 @@ use std::sync::ledger::{Blank, Ledger};
 use std::thread::{self, Threads, join_mut};
 
 /// The worker of a place runs, and what is left of it stays there.
-fn work_on<R: Wait, L: Ledger>(rt: &R, room: &Room, gate: &Hold, place: &mut Place, blank: Blank)
+fn work_on<R: Wait, L: Ledger>(
+    rt: &R,
+    room: &Room,
+    gate: &Hold,
+    slot: &mut WorkerSlot,
+    blank: Blank,
+)
     requires name { blank.name ≡ L.name }
     requires parts { blank.parts ≡ L.parts }
     requires some { 0 < L.parts }
-    requires place { IsPlaceIn room.now place.old }
-    ensures { IsPlaceIn room.now place.new }
+    requires slot { IsSlotIn room.now slot.old }
+    ensures { IsSlotIn room.now slot.new }
 {
     let mut steps: Steps<L> = Steps::new(blank);
-    if let Some(worker) = place.worker.take() {
-        place.end = Some(worker.run(rt, room, gate, &mut steps));
+    if let Some(worker) = slot.worker.take() {
+        slot.end = Some(worker.run(rt, room, gate, &mut steps));
     }
 }
 
 /// The same, with a count of steps of its own.
-fn work<R: Wait>(rt: &R, room: &Room, gate: &Hold, place: &mut Place)
-    requires { IsPlaceIn room.now place.old }
-    ensures { IsPlaceIn room.now place.new }
+fn work<R: Wait>(rt: &R, room: &Room, gate: &Hold, slot: &mut WorkerSlot)
+    requires { IsSlotIn room.now slot.old }
+    ensures { IsSlotIn room.now slot.new }
 {
-    work_on::<R, Brand>(rt, room, gate, place, Blank::new(1));
+    work_on::<R, Brand>(rt, room, gate, slot, Blank::new(1));
 }
 
 /// Two workers run side by side.
@@ -45,28 +51,28 @@ fn work_both<R: Threads + Wait + Sync>(
     rt: &R,
     room: &Room,
     gate: &Hold,
-    first: &mut Place,
-    second: &mut Place,
+    first: &mut WorkerSlot,
+    second: &mut WorkerSlot,
 )
-    requires first { IsPlaceIn room.now first.old }
-    requires second { IsPlaceIn room.now second.old }
-    ensures first { IsPlaceIn room.now first.new }
-    ensures second { IsPlaceIn room.now second.new }
+    requires first { IsSlotIn room.now first.old }
+    requires second { IsSlotIn room.now second.old }
+    ensures first { IsSlotIn room.now first.new }
+    ensures second { IsSlotIn room.now second.new }
 {
     join_mut(
         rt,
         &mut ||
-            requires { IsPlaceIn room.now first.now }
-            ensures { IsPlaceIn room.entry.now first.exit.now }
+            requires { IsSlotIn room.now first.now }
+            ensures { IsSlotIn room.entry.now first.exit.now }
         { work(rt, room, gate, first) },
         &mut ||
-            requires { IsPlaceIn room.now second.now }
-            ensures { IsPlaceIn room.entry.now second.exit.now }
+            requires { IsSlotIn room.now second.now }
+            ensures { IsSlotIn room.entry.now second.exit.now }
         { work(rt, room, gate, second) },
     );
 }
 
-/// Posts one job, as soon as there is a place for it.
+/// Posts one job, as soon as there is a slot for it.
 fn post_one<R: Wait>(rt: &R, alloc: Global, room: &Room, board: &mut Board, seq: u32)
     requires { IsBoardIn room.now board.old }
     ensures room { IsBoardIn room.now board.new }
@@ -116,21 +122,21 @@ fn serve<R: Wait>(
     alloc: Global,
     room: &Room,
     gate: &Hold,
-    front: &mut Front,
+    side: &mut ClosingSide,
     jobs: u32,
     collects: bool,
 )
-    requires { IsFrontOf room.now front.old }
-    ensures { IsFrontOf room.now front.new }
+    requires { IsSideOf room.now side.old }
+    ensures { IsSideOf room.now side.new }
 {
-    if let Some(mut board) = front.board.take() {
+    if let Some(mut board) = side.board.take() {
         post_each(rt, alloc, room, &mut board, jobs);
         gate.await_worker();
         if collects {
-            front.seen = collect_all(rt, room, &mut front.collector);
+            side.seen = collect_all(rt, room, &mut side.collector);
         }
         gate.let_go();
-        front.board_end = Some(board.close(rt, room));
+        side.board_end = Some(board.close(rt, room));
     }
 }
 
@@ -140,29 +146,29 @@ fn beside<R: Threads + Wait + Sync>(
     alloc: Global,
     room: &Room,
     gate: &Hold,
-    first: &mut Place,
-    second: &mut Place,
-    front: &mut Front,
+    first: &mut WorkerSlot,
+    second: &mut WorkerSlot,
+    side: &mut ClosingSide,
     jobs: u32,
     collects: bool,
 )
-    requires first { IsPlaceIn room.now first.old }
-    requires second { IsPlaceIn room.now second.old }
-    requires front { IsFrontOf room.now front.old }
-    ensures first { IsPlaceIn room.now first.new }
-    ensures second { IsPlaceIn room.now second.new }
-    ensures front { IsFrontOf room.now front.new }
+    requires first { IsSlotIn room.now first.old }
+    requires second { IsSlotIn room.now second.old }
+    requires side { IsSideOf room.now side.old }
+    ensures first { IsSlotIn room.now first.new }
+    ensures second { IsSlotIn room.now second.new }
+    ensures side { IsSideOf room.now side.new }
 {
     join_mut(
         rt,
         &mut ||
-            requires { IsSync R.row × IsPlaceIn room.now first.now × IsPlaceIn room.now second.now }
-            ensures { IsPlaceIn room.entry.now first.exit.now × IsPlaceIn room.entry.now second.exit.now }
+            requires { IsSync R.row × IsSlotIn room.now first.now × IsSlotIn room.now second.now }
+            ensures { IsSlotIn room.entry.now first.exit.now × IsSlotIn room.entry.now second.exit.now }
         { work_both(rt, room, gate, first, second) },
         &mut ||
-            requires { IsFrontOf room.now front.now }
-            ensures { IsFrontOf room.entry.now front.exit.now }
-        { serve(rt, alloc, room, gate, front, jobs, collects) },
+            requires { IsSideOf room.now side.now }
+            ensures { IsSideOf room.entry.now side.exit.now }
+        { serve(rt, alloc, room, gate, side, jobs, collects) },
     );
 }
 
@@ -170,18 +176,18 @@ fn beside<R: Threads + Wait + Sync>(
 fn gather(
     alloc: Global,
     room: &Room,
-    first: Place,
-    second: Place,
+    first: WorkerSlot,
+    second: WorkerSlot,
 ) -> Result<Vec<WorkerEnd>, AllocError>
-    requires first { IsPlaceIn room.now first }
-    requires second { IsPlaceIn room.now second }
+    requires first { IsSlotIn room.now first }
+    requires second { IsSlotIn room.now second }
     ensures { IfOk result (λ ends. AllByRecursion (IsWorkerEndOf room.now) ends.items) }
 {
-    let Place {
+    let WorkerSlot {
         worker: _,
         end: first,
     } = first;
-    let Place {
+    let WorkerSlot {
         worker: _,
         end: second,
     } = second;
@@ -200,19 +206,19 @@ fn account<R: Wait>(
     rt: &R,
     alloc: Global,
     room: Room,
-    front: Front,
+    side: ClosingSide,
     ends: Vec<WorkerEnd>,
 ) -> Result<[u64; 6], AllocError>
-    requires front { IsFrontOf room front }
+    requires side { IsSideOf room side }
     requires ends { AllByRecursion (IsWorkerEndOf room) ends.items }
 {
-    let Front {
+    let ClosingSide {
         workers,
         board: _,
         board_end,
         collector,
         seen: _,
-    } = front;
+    } = side;
     if ends.len() != workers as usize {
         return Err(AllocError);
     }
@@ -243,15 +249,15 @@ fn played<R: Threads + Wait + Sync>(
         workers: mut all,
         collector,
     } = parts;
-    let mut second = Place {
+    let mut second = WorkerSlot {
         worker: all.pop(),
         end: None,
     };
-    let mut first = Place {
+    let mut first = WorkerSlot {
         worker: all.pop(),
         end: None,
     };
-    let mut front = Front {
+    let mut side = ClosingSide {
         workers,
         board: Some(board),
         board_end: None,
@@ -266,17 +272,17 @@ fn played<R: Threads + Wait + Sync>(
         &gate,
         &mut first,
         &mut second,
-        &mut front,
+        &mut side,
         jobs,
         collects,
     );
-    let seen = front.seen;
+    let seen = side.seen;
     let ends = gather(alloc, &room, first, second)?;
-    Ok((account(rt, alloc, room, front, ends)?, seen))
+    Ok((account(rt, alloc, room, side, ends)?, seen))
 }
 
 #[test]
-fn a_worker_leaves_what_finds_no_place(rt: HostRuntime) {
+fn a_worker_leaves_what_finds_no_room(rt: HostRuntime) {
     let account = played(&rt, rt.alloc(), 1, 0, 128, false).ok();
     assert!(rt; account == Some(([128, 128, 0, 64, 0, 64], 0)));
 }

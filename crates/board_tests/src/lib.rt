@@ -7,4 +7,4 @@ mod beside;
 #[cfg(test)]
 mod hold;
 mod jobs;
-pub mod places;
+pub mod slots;

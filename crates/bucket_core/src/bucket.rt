@@ -182,7 +182,7 @@ fn hash_of_file(file: &[u8]) -> Hash
     hash(file)
 }
 
-/// The version that META tells, from its text.
+/// The version that META states, from its text.
 fn version_in(text: &[u8]) -> Option<u32>
     ensures { (v : ℕ) → IsItemText text.now (item.Meta v) → result ≡ Some v }
 {

@@ -1,15 +1,11 @@
 -- Where the order of big-endian numbers is that of their bytes, and that of texts goes part by part.
-use Rattle.std.proofs.Common.{◌≡◌, ℕ, zero, suc, ◌+◌, ◌*◌, ◌/◌, ◌%◌, ◌^◌, ◌<◌, ◌≤◌, List, [], ◌∷◌, ◌++◌, length, refl}
-use Rattle.std.proofs.Common.{sym, ap, ◌∙◌, arith}
+use Rattle.bucket_items.proofs.Prelude.{◌≡◌, ℕ, zero, suc, ◌+◌, ◌*◌, ◌/◌, ◌%◌, ◌^◌, ◌<◌, ◌≤◌, List, [], ◌∷◌, ◌++◌}
+use Rattle.bucket_items.proofs.Prelude.{length, refl, sym, ap, ◌∙◌, arith, Ordering, nat_cmp, ordering_then}
+use Rattle.bucket_items.proofs.Prelude.{MatchOrdering, byte_at, bytes_high_first, big_bytes, bytes_cmp}
 use Rattle.std.proofs.Math.Nat.{add-mul, add_assoc, div-add-mod', mod-eq_of_lt, mod-lt, mul-add-mod_self_right}
 use Rattle.std.proofs.Math.Nat.{mul-le-mul_right, mul_assoc, one-le-pow, pow-succ', div-one}
-use Rattle.std.specs.declared.cmp.Ordering.{Ordering}
 use Rattle.std.specs.declared.cmp.Ordering.TheVariants.{Less, Equal, Greater}
-use Rattle.std.specs.Ordering.{nat_cmp, ordering_then, MatchOrdering}
 use Rattle.std.specs.Cmp.{nat_cmp_is, ranks}
-use Rattle.std.specs.Int.{byte_at, bytes_high_first}
-use Rattle.byteorder.specs.Endian.{big_bytes}
-use Rattle.ledger_types.specs.KeyOrder.{bytes_cmp}
 
 -- ---- orderings
 
@@ -39,8 +35,8 @@ same_long (a ∷ v) (b ∷ w) x y e =
     ap (ordering_then (nat_cmp a b)) others ∙ sym (then_assoc (nat_cmp a b) (bytes_cmp v w) (bytes_cmp x y))
 
 -- texts that begin alike
-pub same_front : (v x y : List ℕ) → bytes_cmp (v ++ x) (v ++ y) ≡ bytes_cmp x y
-same_front v x y =
+pub same_prefix : (v x y : List ℕ) → bytes_cmp (v ++ x) (v ++ y) ≡ bytes_cmp x y
+same_prefix v x y =
     same_long v v x y refl ∙ ap (λ (o : Ordering). ordering_then o (bytes_cmp x y)) (bytes_same v)
 
 -- ---- numbers

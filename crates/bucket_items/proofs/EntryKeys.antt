@@ -1,10 +1,12 @@
--- The key of an entry stands in the entry's spelling as one piece, behind the number of its last change.
-use Rattle.std.proofs.Common.{◌≡◌, ℕ, ℤ, pos, List, ◌++◌, sym, ap, ◌∙◌, append_assoc}
-use Rattle.std.specs.Prelude.{Option}
-use Rattle.xdr_core.specs.Leaves.{u32, i32, i64, var}
-use Rattle.xdr_core.specs.Combinators.{◌⨾◌, closed}
-use Rattle.xdr_core.specs.Xdr.{Xdr, tag, optional, list_of, extension_of}
-use Rattle.ledger_types.specs.declared.ids.AccountId.{AccountId}
+-- The key of an entry lies in the entry's encoding as one piece, after the number of its last change.
+use Rattle.bucket_items.proofs.Prelude as prelude
+use prelude.{◌≡◌, ℕ, ℤ, pos, List, ◌++◌, sym, ap, ◌∙◌, append_assoc, Option, u32, i32, i64, var, ◌⨾◌, closed, Xdr, tag}
+use prelude.{optional, list_of, extension_of, AccountId, LedgerEntry, key_of, key_of_body, account_id, hash}
+use prelude.{claimable_balance_id, asset, trust_line_asset, price, pool_params, ledger_key, account_head, account_tail}
+use prelude.{account_entry, trust_line_entry, offer_entry, data_entry, claimable_balance_entry, liquidity_pool_entry}
+use prelude.{ledger_entry_body, ledger_entry, ledger_entry_extension_v1, trust_line_extension_v1, claimant}
+use prelude.{claimable_balance_extension_v1, account_fields, line_fields, offer_fields, data_fields, balance_fields}
+use prelude.{pool_fields}
 use Rattle.ledger_types.specs.declared.asset.Asset.{Asset}
 use Rattle.ledger_types.specs.declared.asset.PoolParams.{PoolParams}
 use Rattle.ledger_types.specs.declared.price.Price.{Price}
@@ -13,33 +15,24 @@ use Rattle.ledger_types.specs.declared.claimable_balance.Claimant.{Claimant}
 use Rattle.ledger_types.specs.declared.claimable_balance.ClaimableBalanceEntryExtensionV1.{
   ClaimableBalanceEntryExtensionV1,
 }
-use Rattle.ledger_types.specs.declared.entry.LedgerEntry.{LedgerEntry}
 use Rattle.ledger_types.specs.declared.entry.LedgerEntryBody.{LedgerEntryBody}
 use Rattle.ledger_types.specs.declared.entry.LedgerEntryBody.TheVariants as body
-use Rattle.ledger_types.specs.Keys.{key_of, key_of_body}
-use Rattle.xdr_entries.specs.Basic.{account_id, hash, claimable_balance_id, asset, trust_line_asset, price, pool_params}
-use Rattle.xdr_entries.specs.Keys.{ledger_key}
-use Rattle.xdr_entries.specs.Entries.{account_head, account_tail, account_entry, trust_line_entry, offer_entry}
-use Rattle.xdr_entries.specs.Entries.{data_entry, claimable_balance_entry, liquidity_pool_entry, ledger_entry_body}
-use Rattle.xdr_entries.specs.Entries.{ledger_entry, ledger_entry_extension_v1, trust_line_extension_v1, claimant}
-use Rattle.xdr_entries.specs.Entries.{claimable_balance_extension_v1, account_fields, line_fields, offer_fields}
-use Rattle.xdr_entries.specs.Entries.{data_fields, balance_fields, pool_fields}
 
--- the first part, or the first two, of what stands behind a discriminant
+-- the first part, or the first two, of what comes after a discriminant
 one_after : {A B : Type 0} (mark : ℤ) (f : Xdr A) (g : Xdr B) (v : A × B)
-    → (t : List ℕ) × (i32.spell mark ++ (f ⨾ g).spell v ≡ (i32.spell mark ++ f.spell v.0) ++ t)
-one_after mark f g v = (g.spell v.1, sym (append_assoc (i32.spell mark) (f.spell v.0) (g.spell v.1)))
+    → (t : List ℕ) × (i32.encoding mark ++ (f ⨾ g).encoding v ≡ (i32.encoding mark ++ f.encoding v.0) ++ t)
+one_after mark f g v = (g.encoding v.1, sym (append_assoc (i32.encoding mark) (f.encoding v.0) (g.encoding v.1)))
 
 two_after : {A B C : Type 0} (mark : ℤ) (f : Xdr A) (g : Xdr B) (h : Xdr C) (v : A × (B × C))
-    → (t : List ℕ) × (i32.spell mark ++ (f ⨾ g ⨾ h).spell v ≡ (i32.spell mark ++ (f ⨾ g).spell (v.0, v.1.0)) ++ t)
-two_after mark f g h v = (h.spell v.1.1, simp append_assoc)
+    → (t : List ℕ) × (i32.encoding mark ++ (f ⨾ g ⨾ h).encoding v ≡ (i32.encoding mark ++ (f ⨾ g).encoding (v.0, v.1.0)) ++ t)
+two_after mark f g h v = (h.encoding v.1.1, simp append_assoc)
 
 -- the first part of the first of two
 one_of_head : {A B C : Type 0} (mark : ℤ) (f : Xdr A) (g : Xdr B) (h : Xdr C) (v : (A × B) × C)
-    → (t : List ℕ) × (i32.spell mark ++ ((f ⨾ g) ⨾ h).spell v ≡ (i32.spell mark ++ f.spell v.0.0) ++ t)
-one_of_head mark f g h v = (g.spell v.0.1 ++ h.spell v.1, simp append_assoc)
+    → (t : List ℕ) × (i32.encoding mark ++ ((f ⨾ g) ⨾ h).encoding v ≡ (i32.encoding mark ++ f.encoding v.0.0) ++ t)
+one_of_head mark f g h v = (g.encoding v.0.1 ++ h.encoding v.1, simp append_assoc)
 
--- ---- what stands behind each kind of key
+-- ---- what comes after each kind of key
 
 abbrev account_rest : Xdr (ℤ × (ℤ × (ℕ × (Option AccountId × ℕ))))
 account_rest = i64 ⨾ i64 ⨾ u32 ⨾ optional account_id ⨾ u32
@@ -60,7 +53,7 @@ abbrev pool_rest : Xdr (PoolParams × (ℤ × (ℤ × (ℤ × ℤ))))
 pool_rest = pool_params ⨾ i64 ⨾ i64 ⨾ i64 ⨾ i64
 
 body_holds_key : (b : LedgerEntryBody)
-    → (tail : List ℕ) × (ledger_entry_body.spell b ≡ ledger_key.spell (key_of_body b) ++ tail)
+    → (tail : List ℕ) × (ledger_entry_body.encoding b ≡ ledger_key.encoding (key_of_body b) ++ tail)
 unfolding ledger_entry_body account_entry account_head trust_line_entry offer_entry data_entry claimable_balance_entry
     liquidity_pool_entry ledger_key
 body_holds_key (body.Account e) = one_of_head (pos 0) account_id account_rest account_tail (account_fields.from e)
@@ -91,15 +84,15 @@ body_key_sized (body.ClaimableBalance e) h = h.0
 body_key_sized (body.LiquidityPool e) h = h.0
 
 pub entry_holds_key : (e : LedgerEntry) → (tail : List ℕ)
-    × (ledger_entry.spell e ≡ u32.spell e.last_modified_ledger_seq ++ (ledger_key.spell (key_of e) ++ tail))
+    × (ledger_entry.encoding e ≡ u32.encoding e.last_modified_ledger_seq ++ (ledger_key.encoding (key_of e) ++ tail))
 unfolding ledger_entry
 entry_holds_key e =
     let b = body_holds_key e.body in
-    let seq : List ℕ = u32.spell e.last_modified_ledger_seq in
-    let ext : List ℕ = (extension_of (pos 1) ledger_entry_extension_v1).spell e.ext in (
+    let seq : List ℕ = u32.encoding e.last_modified_ledger_seq in
+    let ext : List ℕ = (extension_of (pos 1) ledger_entry_extension_v1).encoding e.ext in (
       b.0 ++ ext,
       ap (λ (t : List ℕ). seq ++ (t ++ ext)) b.1
-          ∙ ap (λ (t : List ℕ). seq ++ t) (append_assoc (ledger_key.spell (key_of e)) b.0 ext),
+          ∙ ap (λ (t : List ℕ). seq ++ t) (append_assoc (ledger_key.encoding (key_of e)) b.0 ext),
     )
 
 pub entry_key_within : (e : LedgerEntry) → ledger_entry.within e → ledger_key.within (key_of e)

@@ -1,29 +1,20 @@
--- Keys whose spellings stand in their order.
-use Rattle.std.proofs.Common.{◌≡◌, ℕ, pos, List, [], ◌++◌, slice_index, refl, sym, ap, ◌∙◌}
-use Rattle.std.proofs.lemmas.List.{append-nil}
-use Rattle.std.specs.declared.cmp.Ordering.{Ordering}
-use Rattle.std.specs.declared.cmp.Ordering.TheVariants.{Less, Equal, Greater}
-use Rattle.std.specs.Ordering.{ordering_then}
-use Rattle.xdr_core.specs.Leaves.{i32}
-use Rattle.xdr_core.specs.Combinators.{◌⨾◌}
-use Rattle.ledger_types.specs.declared.ids.AccountId.{AccountId}
-use Rattle.ledger_types.specs.declared.asset.TrustLineAsset.{TrustLineAsset}
-use Rattle.ledger_types.specs.declared.key.LedgerKey.{LedgerKey}
+-- Keys whose encodings are in their order.
+use Rattle.bucket_items.proofs.Prelude.{◌≡◌, ℕ, pos, List, [], ◌++◌, slice_index, refl, sym, ap, ◌∙◌, append-nil}
+use Rattle.bucket_items.proofs.Prelude.{Ordering, ordering_then, i32, ◌⨾◌, AccountId, TrustLineAsset, LedgerKey}
+use Rattle.bucket_items.proofs.Prelude.{bytes_cmp, account_cmp, hash_cmp, line_cmp, key_cmp, key_kind, account_id, hash}
+use Rattle.bucket_items.proofs.Prelude.{claimable_balance_id, trust_line_asset, ledger_key, IsKeyText, AreByBytes}
 use Rattle.ledger_types.specs.declared.key.LedgerKey.TheVariants as key
-use Rattle.ledger_types.specs.KeyOrder.{bytes_cmp, account_cmp, hash_cmp, line_cmp, key_cmp, key_kind}
-use Rattle.xdr_entries.specs.Basic.{account_id, hash, claimable_balance_id, trust_line_asset}
-use Rattle.xdr_entries.specs.Keys.{ledger_key}
-use Rattle.bucket_items.specs.KeyText.{IsKeyText, AreByBytes}
 use Rattle.bucket_items.proofs.OrderLaws.{both_ordered, account_ordered, hash_ordered, balance_ordered, line_ordered}
 use Rattle.bucket_items.proofs.OrderLaws.{same_arm}
+use Rattle.ledger_types.proofs.Booleans.{then_Equal}
 
--- how two lines' keys stand to each other
+-- how two lines' keys compare
 abbrev line_key_cmp : AccountId × TrustLineAsset → AccountId × TrustLineAsset → Ordering
 line_key_cmp v w = ordering_then (account_cmp v.0 w.0) (line_cmp v.1 w.1)
 
 key_decides : (v w : LedgerKey) (x y : List ℕ) → AreByBytes v w → ledger_key.within v → ledger_key.within w
     → ledger_key.sized v → ledger_key.sized w
-    → bytes_cmp (ledger_key.spell v ++ x) (ledger_key.spell w ++ y) ≡ ordering_then (key_cmp v w) (bytes_cmp x y)
+    → bytes_cmp (ledger_key.encoding v ++ x) (ledger_key.encoding w ++ y) ≡ ordering_then (key_cmp v w) (bytes_cmp x y)
 unfolding ledger_key i32
 key_decides (key.Account a) (key.Account b) x y d wv ww sv sw =
     same_arm (pos 0) account_id account_cmp account_ordered a b x y wv ww sv sw
@@ -38,32 +29,27 @@ key_decides (key.LiquidityPool a) (key.LiquidityPool b) x y d wv ww sv sw =
     same_arm (pos 5) hash hash_cmp hash_ordered a b x y wv ww sv sw
 key_decides v w x y d wv ww sv sw = refl
 
-then_equal : (o : Ordering) → ordering_then o Equal ≡ o
-then_equal Less = refl
-then_equal Equal = refl
-then_equal Greater = refl
-
 pub bytes_are_ordered : (a b : List ℕ) (k m : LedgerKey) → AreByBytes k m → IsKeyText a k → IsKeyText b m
     → bytes_cmp a b ≡ key_cmp k m
 bytes_are_ordered a b k m d h g =
-    let whole_a : a ≡ ledger_key.spell k ++ [] = h.spelled ∙ sym (append-nil (ledger_key.spell k)) in
-    let whole_b : b ≡ ledger_key.spell m ++ [] = g.spelled ∙ sym (append-nil (ledger_key.spell m)) in
-    (λ i. bytes_cmp (whole_a i) (whole_b i))
+    let entire_a : a ≡ ledger_key.encoding k ++ [] = h.encoded ∙ sym (append-nil (ledger_key.encoding k)) in
+    let entire_b : b ≡ ledger_key.encoding m ++ [] = g.encoded ∙ sym (append-nil (ledger_key.encoding m)) in
+    (λ i. bytes_cmp (entire_a i) (entire_b i))
     ∙ key_decides k m [] [] d h.within g.within h.sized g.sized
-    ∙ then_equal (key_cmp k m)
+    ∙ then_Equal (key_cmp k m)
 
-kind_of_spelling : (k : LedgerKey) → slice_index (ledger_key.spell k) 3 ≡ key_kind k
+kind_of_encoding : (k : LedgerKey) → slice_index (ledger_key.encoding k) 3 ≡ key_kind k
 unfolding ledger_key i32
-kind_of_spelling (key.Account a) = refl
-kind_of_spelling (key.TrustLine a l) = refl
-kind_of_spelling (key.Offer a n) = refl
-kind_of_spelling (key.Data a n) = refl
-kind_of_spelling (key.ClaimableBalance b) = refl
-kind_of_spelling (key.LiquidityPool p) = refl
+kind_of_encoding (key.Account a) = refl
+kind_of_encoding (key.TrustLine a l) = refl
+kind_of_encoding (key.Offer a n) = refl
+kind_of_encoding (key.Data a n) = refl
+kind_of_encoding (key.ClaimableBalance b) = refl
+kind_of_encoding (key.LiquidityPool p) = refl
 
--- the kind of a key stands in the fourth byte
-pub kind_stands : (text : List ℕ) (k : LedgerKey) → IsKeyText text k → slice_index text 3 ≡ key_kind k
-kind_stands text k h = ap (λ (t : List ℕ). slice_index t 3) h.spelled ∙ kind_of_spelling k
+-- the kind of a key is in the fourth byte
+pub kind_is_there : (text : List ℕ) (k : LedgerKey) → IsKeyText text k → slice_index text 3 ≡ key_kind k
+kind_is_there text k h = ap (λ (t : List ℕ). slice_index t 3) h.encoded ∙ kind_of_encoding k
 
 pub by_bytes : (k m : LedgerKey) → ((key_kind k ≡ 2) × (key_kind m ≡ 2) → ⊥)
     → ((key_kind k ≡ 3) × (key_kind m ≡ 3) → ⊥) → AreByBytes k m

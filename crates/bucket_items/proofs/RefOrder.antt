@@ -1,18 +1,10 @@
--- Keys that stand in texts are ordered as the keys that they are, and a key's text reads as the key.
-use Rattle.std.proofs.Common.{◌≡◌, ℕ, ◌+◌, List, [], length, Ok, Err, refl, sym, ap, subst, ◌∙◌}
-use Rattle.std.proofs.lemmas.List.{append-nil}
-use Rattle.std.specs.Ordering.{ordering_then}
-use Rattle.xdr_core.specs.declared.fault.XdrFault.{XdrFault}
-use Rattle.xdr_core.specs.Place.{Place, start_of}
-use Rattle.ledger_types.specs.declared.key.LedgerKey.{LedgerKey}
-use Rattle.ledger_types.specs.KeyOrder.{account_cmp, key_cmp}
+-- Keys in texts are ordered as the keys that they are, and a key's text reads as the key.
+use Rattle.bucket_items.proofs.Prelude.{◌≡◌, ℕ, ◌+◌, List, [], length, Ok, Err, refl, sym, ap, subst, ◌∙◌, append-nil}
+use Rattle.bucket_items.proofs.Prelude.{ordering_then, XdrFault, Position, start_of, LedgerKey, account_cmp, key_cmp}
+use Rattle.bucket_items.proofs.Prelude.{ledger_key, ledger_key_laws, key_seen, IsKeyText}
 use Rattle.ledger_types.proofs.KeyOrdering.{lines_compared}
-use Rattle.xdr_entries.specs.Keys.{ledger_key}
-use Rattle.xdr_entries.proofs.KeyLaws.{ledger_key_laws}
 use Rattle.bucket_items.specs.declared.key_ref.KeyRef.{KeyRef}
 use Rattle.bucket_items.specs.declared.key_ref.KeyRef.TheVariants as here
-use Rattle.bucket_items.specs.KeyRef.{key_seen}
-use Rattle.bucket_items.specs.KeyText.{IsKeyText}
 use Rattle.bucket_items.specs.contracts.key_ref.KeyRefOrd.TheImpl as refs
 
 pub refs_compared : (a b : KeyRef) → (refs.cmp-value).it a b ≡ key_cmp (key_seen a) (key_seen b)
@@ -25,24 +17,24 @@ refs_compared (here.LiquidityPool a) (here.LiquidityPool b) = refl
 refs_compared a b = refl
 
 -- where reading a key's text ends
-abbrev behind : LedgerKey → Place
-behind k = record { at = 0 + length (ledger_key.spell k); rest = [] }
+abbrev after : LedgerKey → Position
+after k = record { at = 0 + length (ledger_key.encoding k); rest = [] }
 
 key_is_read : (text : List ℕ) (k : LedgerKey) → IsKeyText text k
-    → ledger_key.read (start_of text) ≡ Ok (k, behind k)
+    → ledger_key.read (start_of text) ≡ Ok (k, after k)
 key_is_read text k h =
-    subst (λ (t : List ℕ). ledger_key.read (start_of t) ≡ Ok (k, behind k))
-    (append-nil (ledger_key.spell k) ∙ sym h.spelled)
+    subst (λ (t : List ℕ). ledger_key.read (start_of t) ≡ Ok (k, after k))
+    (append-nil (ledger_key.encoding k) ∙ sym h.encoded)
     (ledger_key_laws.lawful.again 0 k [] h.within h.sized)
 
 -- what is seen in a key's text is the key
-pub seen_key : (text : List ℕ) (k : LedgerKey) (x : KeyRef) (p q : Place) → IsKeyText text k → p ≡ start_of text
+pub seen_key : (text : List ℕ) (k : LedgerKey) (x : KeyRef) (p q : Position) → IsKeyText text k → p ≡ start_of text
     → ledger_key.read p ≡ Ok (key_seen x, q) → key_seen x ≡ k
 seen_key text k x p q h a e =
-    let t : (key_seen x, q) ≡ (k, behind k) = cc (key_is_read text k h, a, e) in
-    ap (λ (y : LedgerKey × Place). y.0) t
+    let t : (key_seen x, q) ≡ (k, after k) = cc (key_is_read text k h, a, e) in
+    ap (λ (y : LedgerKey × Position). y.0) t
 
 -- a key's text has no fault
-pub no_fault : {A : Type 0} (text : List ℕ) (k : LedgerKey) (f : XdrFault) (p : Place) → IsKeyText text k
+pub no_fault : {A : Type 0} (text : List ℕ) (k : LedgerKey) (f : XdrFault) (p : Position) → IsKeyText text k
     → p ≡ start_of text → ledger_key.read p ≡ Err f → A
 no_fault text k f p h a e = absurd (cc (key_is_read text k h, a, e))

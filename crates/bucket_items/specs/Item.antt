@@ -1,10 +1,10 @@
--- Items of a bucket's file as they stand there (BucketEntry in Stellar-ledger.x; CAP-0020).
+-- Items of a bucket's file as they are there (BucketEntry in Stellar-ledger.x; CAP-0020).
 use Rattle.std.specs.Prelude.{◌≡◌, ℕ, ℤ, pos, negsuc, List, [], ◌∷◌, Option, Some, None, Result, Ok, Err}
 use Rattle.std.specs.Prelude.{if◌then◌else◌}
 use Rattle.std.specs.Ordering.{int_eq}
 use Rattle.xdr_core.specs.declared.fault.XdrFault.{XdrFault}
 use Rattle.xdr_core.specs.declared.fault.XdrKind.TheVariants.{Trailing}
-use Rattle.xdr_core.specs.Place.{Place, fault_at, ◌>>=◌}
+use Rattle.xdr_core.specs.Position.{Position, fault_at, ◌>>=◌}
 use Rattle.ledger_types.specs.declared.bucket.BucketEntry.{BucketEntry}
 use Rattle.ledger_types.specs.declared.bucket.BucketEntry.TheVariants as bucket
 use Rattle.ledger_types.specs.Keys.{key_of}
@@ -29,20 +29,20 @@ type_with d =
     else if int_eq d (pos 2) then Some mark.Init
     else None
 
--- the spelling of an item's key; META has none
+-- the encoding of an item's key; META has none
 abbrev pub item_key_text : BucketEntry → List ℕ
 item_key_text (bucket.Meta version) = []
-item_key_text (bucket.Live entry) = ledger_key.spell (key_of entry)
-item_key_text (bucket.Dead gone) = ledger_key.spell gone
-item_key_text (bucket.Init entry) = ledger_key.spell (key_of entry)
+item_key_text (bucket.Live entry) = ledger_key.encoding (key_of entry)
+item_key_text (bucket.Dead gone) = ledger_key.encoding gone
+item_key_text (bucket.Init entry) = ledger_key.encoding (key_of entry)
 
--- these bytes are the spelling of the item, and nothing else
+-- these bytes are the encoding of the item, and nothing else
 pub record IsItemText (text : List ℕ) (e : BucketEntry) : Type 0 where
-  pub spelled : text ≡ bucket_entry.spell e
+  pub encoded : text ≡ bucket_entry.encoding e
   pub within : bucket_entry.within e
   pub sized : bucket_entry.sized e
 
--- what is told of an item: its type, its key's text and its own
+-- what is shown of an item: its type, its key's text and its own
 pub record Shows (item : BucketItem) (text : List ℕ) (e : BucketEntry) : Type 0 where
   pub reads : IsItemText text e
   pub mark : item.mark ≡ item_type e
@@ -51,13 +51,13 @@ pub record Shows (item : BucketItem) (text : List ℕ) (e : BucketEntry) : Type 
 
 -- ---- an item that is all that is ahead
 
--- the item where nothing is left behind it, or the fault at the first byte left over
-abbrev pub ended_by : List ℕ → Place → BucketEntry → Result BucketEntry XdrFault
+-- the item where nothing is left after it, or the fault at the first byte left over
+abbrev pub ended_by : List ℕ → Position → BucketEntry → Result BucketEntry XdrFault
 ended_by [] q e = Ok e
 ended_by (b ∷ rest) q e = Err (fault_at q Trailing)
 
-abbrev pub ended : BucketEntry × Place → Result BucketEntry XdrFault
+abbrev pub ended : BucketEntry × Position → Result BucketEntry XdrFault
 ended x = ended_by x.1.rest x.1 x.0
 
-abbrev pub whole_at : Place → Result BucketEntry XdrFault
-whole_at p = bucket_entry.read p >>= ended
+abbrev pub entire_at : Position → Result BucketEntry XdrFault
+entire_at p = bucket_entry.read p >>= ended

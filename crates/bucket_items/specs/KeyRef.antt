@@ -1,4 +1,4 @@
--- A key that stands in a text, as the key that it is.
+-- A key in a text, as the key that it is.
 use Rattle.ledger_types.specs.declared.key.LedgerKey.{LedgerKey}
 use Rattle.ledger_types.specs.declared.key.LedgerKey.TheVariants as key
 use Rattle.bucket_items.specs.declared.key_ref.KeyRef.{KeyRef}

@@ -6,18 +6,18 @@ use Rattle.ledger_types.specs.declared.key.LedgerKey.TheVariants as key
 use Rattle.ledger_types.specs.KeyOrder.{key_cmp}
 use Rattle.xdr_entries.specs.Keys.{ledger_key}
 
--- these bytes are the spelling of the key, and nothing else
+-- these bytes are the encoding of the key, and nothing else
 pub record IsKeyText (text : List ℕ) (k : LedgerKey) : Type 0 where
-  pub spelled : text ≡ ledger_key.spell k
+  pub encoded : text ≡ ledger_key.encoding k
   pub within : ledger_key.within k
   pub sized : ledger_key.sized k
 
--- two texts of keys stand to each other as the keys do; nothing is said of other texts
+-- two texts of keys compare as the keys do; nothing is said of other texts
 abbrev pub OrdersKeys : List ℕ → List ℕ → Ordering → Type 0
 OrdersKeys a b answer = (k m : LedgerKey) → IsKeyText a k → IsKeyText b m → answer ≡ key_cmp k m
 
--- two keys whose spellings stand in the keys' order, byte by byte: not two offers, whose ids have signs, nor two names,
--- whose lengths stand first
+-- two keys whose encodings are in the keys' order, byte by byte: not two offers, whose ids have signs, nor two names,
+-- whose lengths come first
 abbrev pub AreByBytes : LedgerKey → LedgerKey → Type 0
 AreByBytes (key.Offer a n) (key.Offer b m) = ⊥
 AreByBytes (key.Data a n) (key.Data b m) = ⊥

@@ -1,9 +1,9 @@
-//! An item of a bucket's file, and its key, where they stand there.
+//! An item of a bucket's file, and its key, where they lie there.
 
 ghost use Rattle.std.specs.Prelude.{◌≡◌, ◌≤◌, ◌++◌, ℕ, List, length, drop};
 ghost use Rattle.ledger_types.specs.declared.bucket.BucketEntry.{BucketEntry as AnItem};
 ghost use Rattle.ledger_types.specs.declared.key.LedgerKey.{LedgerKey};
-ghost use Rattle.xdr_core.specs.Place.{Place};
+ghost use Rattle.xdr_core.specs.Position.{Position};
 ghost use Rattle.xdr_entries.specs.Keys.{ledger_key};
 ghost use Rattle.bucket_items.specs.Item as spec;
 
@@ -24,14 +24,14 @@ pub enum BucketEntryType {
     Init,
 }
 
-/// An item of a bucket's file where it stands.
+/// An item of a bucket's file where it lies.
 #[derive(Clone, Copy)]
 pub struct BucketItem<'a> {
     /// What the item says of its key.
     pub mark: BucketEntryType,
-    /// The spelling of the key (LedgerKey), one piece of `bytes`. It is empty for META.
+    /// The encoding of the key (LedgerKey), one piece of `bytes`. It is empty for META.
     pub key: &'a [u8],
-    /// The spelling of the item (BucketEntry), without its record mark.
+    /// The encoding of the item (BucketEntry), without its record mark.
     pub bytes: &'a [u8],
 }
 
@@ -47,8 +47,8 @@ pub(crate) fn type_of(entry: &BucketEntry) -> BucketEntryType
     }
 }
 
-/// What stands behind the first `n` bytes of a text, or the text where it has fewer.
-fn behind(text: &[u8], n: usize) -> &[u8]
+/// What comes after the first `n` bytes of a text, or the text where it has fewer.
+fn after(text: &[u8], n: usize) -> &[u8]
     ensures { n ≤ length text.now → result.now ≡ drop n text.now }
 {
     if text.len() < n {
@@ -57,11 +57,11 @@ fn behind(text: &[u8], n: usize) -> &[u8]
     text.split_at(n).1
 }
 
-/// The key with whose spelling a text begins, or the text where it begins with none.
-fn front_key(text: &[u8]) -> &[u8]
+/// The key with whose encoding a text begins, or the text where it begins with none.
+fn prefix_key(text: &[u8]) -> &[u8]
     ensures { (k : LedgerKey) (tail : List ℕ)
-        → text.now ≡ ledger_key.spell k ++ tail → ledger_key.within k → ledger_key.sized k
-        → result.now ≡ ledger_key.spell k }
+        → text.now ≡ ledger_key.encoding k ++ tail → ledger_key.within k → ledger_key.sized k
+        → result.now ≡ ledger_key.encoding k }
 {
     let mut ahead = Cursor::new(text);
     match read_key_ref(&mut ahead) {
@@ -70,23 +70,23 @@ fn front_key(text: &[u8]) -> &[u8]
     }
 }
 
-/// Where the key of an item of this type stands in the item's text: behind the discriminant, and in an entry behind the
+/// Where the key of an item of this type lies in the item's text: after the discriminant, and in an entry after the
 /// number of its last change too.
 fn key_in(text: &[u8], mark: BucketEntryType) -> &[u8]
     ensures { (e : AnItem) → spec.IsItemText text.now e → spec.item_type e ≡ mark → result.now ≡ spec.item_key_text e }
 {
     match mark {
         BucketEntryType::Meta => text.split_at(0).0,
-        BucketEntryType::Live => front_key(behind(text, 8)),
-        BucketEntryType::Dead => behind(text, 4),
-        BucketEntryType::Init => front_key(behind(text, 8)),
+        BucketEntryType::Live => prefix_key(after(text, 8)),
+        BucketEntryType::Dead => after(text, 4),
+        BucketEntryType::Init => prefix_key(after(text, 8)),
     }
 }
 
-/// The item of this type that is the whole of a text.
+/// The item of this type that is all of a text.
 pub(crate) fn item_of(text: &[u8], mark: BucketEntryType) -> BucketItem<'_>
-    ensures { (p : Place) (e : AnItem)
-        → p.rest ≡ text.now → spec.whole_at p ≡ Ok e → spec.item_type e ≡ mark → spec.Shows result text.now e }
+    ensures { (p : Position) (e : AnItem)
+        → p.rest ≡ text.now → spec.entire_at p ≡ Ok e → spec.item_type e ≡ mark → spec.Shows result text.now e }
 {
     BucketItem {
         mark,

@@ -1,7 +1,7 @@
-//! A key that stands in a text.
+//! A key in a text.
 
 ghost use Rattle.std.specs.Prelude.{◌≡◌};
-ghost use Rattle.xdr_core.specs.Place.{ReadsBy, itself};
+ghost use Rattle.xdr_core.specs.Position.{ReadsBy, itself};
 ghost use Rattle.xdr_entries.specs.Keys.{ledger_key};
 ghost use Rattle.bucket_items.specs.KeyRef as spec;
 
@@ -11,8 +11,8 @@ use xdr_entries::{
     MAX_DATA_NAME_LEN, read_account_id, read_claimable_balance_id, read_hash, read_trust_line_asset,
 };
 
-/// What names an entry (LedgerKey in Stellar-ledger-entries.x), with a name that stays where it stands in its text. So
-/// it takes no memory. It is ordered as the key is: by type and then by fields, names by their bytes.
+/// What names an entry (LedgerKey in Stellar-ledger-entries.x), with a name that stays where it is in its text. So it
+/// takes no memory. It is ordered as the key is: by type and then by fields, names by their bytes.
 #[derive(PartialEq, Eq, PartialOrd, Ord, Drop)]
 pub enum KeyRef<'a> {
     /// ACCOUNT, 0.
@@ -45,7 +45,7 @@ pub enum KeyRef<'a> {
 }
 
 impl<'a> KeyRef<'a> {
-    /// A key, with its name where it stands.
+    /// A key, with its name where it is.
     pub fn of(key: &'a LedgerKey) -> KeyRef<'a>
         ensures { spec.key_seen result ≡ key.now }
     {
@@ -79,7 +79,7 @@ impl<'a> KeyRef<'a> {
     }
 }
 
-/// Reads a key where it stands.
+/// Reads a key in place.
 #[tactic(auto, unfolding(xdr_entries::specs::Keys::ledger_key))]
 pub fn read_key_ref<'a>(cursor: &mut Cursor<'a>) -> Result<KeyRef<'a>, XdrFault>
     ensures { ReadsBy spec.key_seen itself result cursor.old cursor.new (ledger_key.read cursor.old) }

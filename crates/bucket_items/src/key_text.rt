@@ -1,5 +1,5 @@
 //! The order of keys by their texts. It is not the order of the texts' bytes: an offer's number has a sign, and a
-//! name's length stands before its bytes.
+//! name's length comes before its bytes.
 
 ghost use Rattle.std.specs.Prelude.{◌≡◌, slice_index, true};
 ghost use Rattle.ledger_types.specs.declared.key.LedgerKey.{LedgerKey as AKey};
@@ -11,8 +11,8 @@ use ledger_types::LedgerKey;
 use std::cmp::Ordering;
 use xdr_core::Cursor;
 
-/// The place of the byte in which the kind of a key stands, and no other byte of its discriminant.
-const KIND_PLACE: usize = 3;
+/// The offset of the byte that holds the kind of a key; no other byte of its discriminant does.
+const KIND_OFFSET: usize = 3;
 
 /// The kind of an offer's key (OFFER of LedgerEntryType in Stellar-ledger-entries.x).
 const OFFER: u8 = 2;
@@ -20,8 +20,8 @@ const OFFER: u8 = 2;
 /// The kind of the key of data (DATA of LedgerEntryType in Stellar-ledger-entries.x).
 const DATA: u8 = 3;
 
-/// How two keys stand to each other, as they are read from their texts. Where one text is of no key the answer is
-/// `Equal`, and says nothing.
+/// How two keys compare, as they are read from their texts. Where one text is of no key the answer is `Equal`, and says
+/// nothing.
 pub fn compare(a: &[u8], b: &[u8]) -> Ordering
     ensures { spec.OrdersKeys a.now b.now result }
 {
@@ -33,7 +33,7 @@ pub fn compare(a: &[u8], b: &[u8]) -> Ordering
     }
 }
 
-/// How a key stands to another by the other's text. Where that is the text of no key the answer is `Equal`, and says
+/// How a key compares to another by the other's text. Where that is the text of no key the answer is `Equal`, and says
 /// nothing.
 pub fn compare_with(key: &LedgerKey, text: &[u8]) -> Ordering
     ensures { (k : AKey) → spec.IsKeyText text.now k → result ≡ key_cmp key.now k }
@@ -45,19 +45,19 @@ pub fn compare_with(key: &LedgerKey, text: &[u8]) -> Ordering
     }
 }
 
-/// The byte in which a key's kind stands, or 0.
+/// The byte that holds a key's kind, or 0.
 fn kind_byte(text: &[u8]) -> u8
     ensures { result ≡ slice_index text.now 3 }
 {
-    if text.len() > KIND_PLACE {
-        text[KIND_PLACE]
+    if text.len() > KIND_OFFSET {
+        text[KIND_OFFSET]
     } else {
         0
     }
 }
 
-/// Whether two keys stand to each other as the bytes of their texts do: they aren't two offers, nor two names.
-fn stand_by_bytes(a: &[u8], b: &[u8]) -> bool
+/// Whether two keys compare as the bytes of their texts do: they aren't two offers, nor two names.
+fn agree_with_bytes(a: &[u8], b: &[u8]) -> bool
     ensures { (k : AKey) (m : AKey)
         → spec.IsKeyText a.now k → spec.IsKeyText b.now m → result ≡ true → spec.AreByBytes k m }
 {
@@ -74,12 +74,12 @@ fn stand_by_bytes(a: &[u8], b: &[u8]) -> bool
     true
 }
 
-/// How two keys stand to each other, by their texts. Two offers and two names are read, and any other two keys are
-/// compared by their bytes alone. It takes no memory. Where one text is of no key the answer says nothing.
+/// How two keys compare, by their texts. Two offers and two names are read, and any other two keys are compared by
+/// their bytes alone. It takes no memory. Where one text is of no key the answer says nothing.
 pub fn order(a: &[u8], b: &[u8]) -> Ordering
     ensures { spec.OrdersKeys a.now b.now result }
 {
-    if stand_by_bytes(a, b) {
+    if agree_with_bytes(a, b) {
         a.cmp(b)
     } else {
         compare(a, b)

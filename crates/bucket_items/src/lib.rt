@@ -1,4 +1,4 @@
-//! The items of a bucket's file where they stand there, and their keys in order, without memory for any of them.
+//! The items of a bucket's file where they lie there, and their keys in order, without memory for any of them.
 #![tactic(auto)]
 
 mod item;

@@ -1,8 +1,8 @@
-//! The items of a bucket's file, one behind another, each behind its record mark.
+//! The items of a bucket's file, one after another, each after its record mark.
 
 ghost use Rattle.std.specs.Prelude.{◌≡◌, [], IsSomeAnd};
 ghost use Rattle.ledger_types.specs.declared.bucket.BucketEntry.{BucketEntry as AnItem};
-ghost use Rattle.xdr_core.specs.Place.{Place};
+ghost use Rattle.xdr_core.specs.Position.{Position};
 ghost use Rattle.bucket_items.specs.Item as item;
 ghost use Rattle.bucket_items.specs.MarkedItem as spec;
 
@@ -16,17 +16,17 @@ use xdr_entries::read_bucket_entry;
 const MAX_ITEM_LEN: u32 = 2_147_483_647;
 
 /// Reads an item that is all that is ahead.
-fn read_to_end(alloc: Global, whole: &Cursor<'_>) -> Result<BucketEntry, ReadFault>
-    ensures { spec.ReadsWhole result whole.now }
+fn read_to_end(alloc: Global, entire: &Cursor<'_>) -> Result<BucketEntry, ReadFault>
+    ensures { spec.ReadsEntire result entire.now }
 {
-    let mut ahead = whole.fork();
+    let mut ahead = entire.fork();
     let entry = read_bucket_entry(alloc, &mut ahead)?;
     ahead.end()?;
     Ok(entry)
 }
 
-/// Reads the next item behind its mark, where it stands. The places of faults are those of the whole text, and an item
-/// that is too short for its fields is so at its own end.
+/// Reads the next item after its mark, in place. The offsets of faults are those of the entire text, and an item that
+/// is too short for its fields is so at its own end.
 pub fn read_marked_item<'a>(
     alloc: Global,
     cursor: &mut Cursor<'a>,
@@ -54,9 +54,9 @@ fn type_with(discriminant: i32) -> Option<BucketEntryType>
     }
 }
 
-/// What the item that is the whole of a text says of its key, by its discriminant.
+/// What the item that is all of a text says of its key, by its discriminant.
 fn type_in(text: &[u8]) -> Option<BucketEntryType>
-    ensures { (p : Place) (e : AnItem) → p.rest ≡ text.now → item.whole_at p ≡ Ok e → result ≡ Some (item.item_type e) }
+    ensures { (p : Position) (e : AnItem) → p.rest ≡ text.now → item.entire_at p ≡ Ok e → result ≡ Some (item.item_type e) }
 {
     let mut ahead = Cursor::new(text);
     match ahead.i32() {
@@ -65,10 +65,10 @@ fn type_in(text: &[u8]) -> Option<BucketEntryType>
     }
 }
 
-/// The next item of a text that was read before, where it stands; `None` at the text's end. It takes no memory, and
-/// judges no more of the text than it needs.
+/// The next item of a text that was read before, in place; `None` at the text's end. It takes no memory, and judges no
+/// more of the text than it needs.
 pub fn next_item<'a>(cursor: &mut Cursor<'a>) -> Option<BucketItem<'a>>
-    ensures item { (e : AnItem) (q : Place)
+    ensures item { (e : AnItem) (q : Position)
         → spec.item_at cursor.old ≡ Ok (e, q) → spec.TakesItem result cursor.new e q }
     ensures end { cursor.old.rest ≡ [] → (result ≡ None) × (cursor.new ≡ cursor.old) }
 {
@@ -78,10 +78,10 @@ pub fn next_item<'a>(cursor: &mut Cursor<'a>) -> Option<BucketItem<'a>>
     }
 }
 
-/// The item that is the whole of a text.
+/// The item that is all of a text.
 fn shown(text: &[u8]) -> Option<BucketItem<'_>>
-    ensures { (p : Place) (e : AnItem)
-        → p.rest ≡ text.now → item.whole_at p ≡ Ok e → IsSomeAnd result (λ shown. item.Shows shown text.now e) }
+    ensures { (p : Position) (e : AnItem)
+        → p.rest ≡ text.now → item.entire_at p ≡ Ok e → IsSomeAnd result (λ shown. item.Shows shown text.now e) }
 {
     match type_in(text) {
         Some(mark) => Some(item_of(text, mark)),

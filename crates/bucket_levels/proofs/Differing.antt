@@ -1,15 +1,11 @@
--- The first place at which two texts differ.
-use Rattle.std.proofs.Common.{◌≡◌, ℕ, ◌+◌, ◌<◌, ◌≤◌, min, List, length, take, get_or, sym, ap, ◌∙◌}
-use Rattle.std.proofs.Common.{arith}
-use Rattle.std.proofs.Common.{inl, inr, ◌⊎◌}
-use Rattle.std.specs.Prelude.{slice_get}
-use Rattle.std.proofs.lemmas.Bool.{cases_lt}
-use Rattle.std.proofs.lemmas.Option.{slice_get-get_or, slice_get_past, none-some, same_Some}
+-- The first offset at which two texts differ.
+use Rattle.bucket_levels.proofs.Prelude.{◌≡◌, ℕ, ◌+◌, ◌<◌, ◌≤◌, min, List, length, take, get_or, sym, ap, ◌∙◌, arith}
+use Rattle.bucket_levels.proofs.Prelude.{inl, inr, ◌⊎◌, slice_get, cases_lt, slice_get-get_or, slice_get_past}
+use Rattle.bucket_levels.proofs.Prelude.{none-some, same_Some, DifferAt}
 use Rattle.std.proofs.lemmas.Grind.{common_steps}
-use Rattle.bucket_levels.specs.HandIn.{DifferAt}
 
-all : (at : ℕ) (xs : List ℕ) → length xs ≤ at → take at xs ≡ xs
-all at xs le = grind (arith, common_steps, le)
+take_past_end : (at : ℕ) (xs : List ℕ) → length xs ≤ at → take at xs ≡ xs
+take_past_end at xs le = grind (arith, common_steps, le)
 
 pub differ_inside : (a b : List ℕ) (at : ℕ) → at < length a → at < length b → take at a ≡ take at b
     → (get_or a at 0 ≡ get_or b at 0 → ⊥) → DifferAt at a b
@@ -24,7 +20,7 @@ ended : (a b : List ℕ) (at : ℕ) → length a ≤ at → take at a ≡ take a
 ended a b at past before e = elim (cases_lt at (length b)) [
   | inl within ↦ absurd (none-some (get_or b at 0)
       (sym (slice_get_past a at past) ∙ e ∙ slice_get-get_or b at 0 within))
-  | inr over ↦ sym (all at a past) ∙ before ∙ all at b over
+  | inr over ↦ sym (take_past_end at a past) ∙ before ∙ take_past_end at b over
 ]
 
 pub differ_at_end : (a b : List ℕ) (at : ℕ) → take at a ≡ take at b → at ≡ min (length a) (length b)
@@ -40,8 +36,8 @@ differ_at_end a b at before end other = record {
 
 pub same_at_end : (a b : List ℕ) (at : ℕ) → take at a ≡ take at b → at ≡ min (length a) (length b)
     → length a ≡ length b → a ≡ b
-same_at_end a b at before end same = sym (all at a (omega (arith, end, same))) ∙ before
-    ∙ all at b (omega (arith, end, same))
+same_at_end a b at before end same = sym (take_past_end at a (omega (arith, end, same))) ∙ before
+    ∙ take_past_end at b (omega (arith, end, same))
 
 pub same_so_far : (a b : List ℕ) (at : ℕ) → at < length a → at < length b → take at a ≡ take at b
     → get_or a at 0 ≡ get_or b at 0 → take (at + 1) a ≡ take (at + 1) b

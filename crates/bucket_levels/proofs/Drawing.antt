@@ -1,17 +1,10 @@
 -- A job that is drawn, and an outcome that is handed in, change what is kept of one level.
-use Rattle.std.proofs.Common.{◌≡◌, ℕ, ◌<◌, List, Option, Some, None, length, map, set, get_or, sym, ap, subst}
-use Rattle.std.proofs.Common.{◌∙◌, inl, inr, arith, is_some, true, false, IfSome}
-use Rattle.std.proofs.lemmas.Bool.{cases_eq, cases_lt}
-use Rattle.std.proofs.lemmas.List.{length-map, get_or_past, length-set, get_or-set_same, get_or-set_other, map-set}
-use Rattle.std.proofs.lemmas.Option.{none-some, same_Some}
-use Rattle.bucket_merge.specs.Job.{Job}
-use Rattle.bucket_levels.specs.Spills.{level_count}
-use Rattle.bucket_levels.specs.Pairs.{Pair}
-use Rattle.bucket_levels.specs.Levels.{LevelsAt}
-use Rattle.bucket_levels.specs.Pending.{PendingAt, pending_at, not_pending, IsPending}
-use Rattle.bucket_levels.specs.Held.{pending_of, nothing_pending, IsHeld, AreHeld, NoneWaitsAbove, IsFirstWaiting}
-use Rattle.bucket_levels.specs.HandIn.{drawn, handed_in, Draws, NoneWaits, TakesIn}
-use Rattle.bucket_levels.specs.declared.pending.PendingMerge.{PendingMerge}
+use Rattle.bucket_levels.proofs.Prelude as prelude
+use prelude.{◌≡◌, ℕ, ◌<◌, List, Option, Some, None, length, map, set, get_or, sym, ap, subst, ◌∙◌, inl, inr, arith}
+use prelude.{is_some, true, false, IfSome, cases_eq, cases_lt, length-map, get_or_past, length-set, get_or-set_same}
+use prelude.{get_or-set_other, map-set, none-some, same_Some, Job, level_count, Pair, LevelsAt, PendingAt, pending_at}
+use prelude.{not_pending, IsPending, pending_of, nothing_pending, IsHeld, AreHeld, NoneWaitsAbove, IsFirstWaiting}
+use prelude.{drawn, handed_in, Draws, NoneWaits, TakesIn, PendingMerge}
 use Rattle.bucket_levels.proofs.Renewing.{known_at}
 
 -- what is kept of one level is another thing

@@ -1,13 +1,9 @@
 -- When levels spill: where one does, so does each above it.
-use Rattle.std.proofs.Common.{◌≡◌, ℕ, zero, suc, ◌+◌, ◌-◌, ◌*◌, ◌%◌, ◌^◌, ◌<◌, ◌≤◌, Bool, true, false, eqb, ltb, refl}
-use Rattle.std.proofs.Common.{sym, ap}
-use Rattle.std.proofs.Common.{◌∙◌, add-one, arith}
-use Rattle.std.specs.Prelude.{◌&&◌}
-use Rattle.std.proofs.lemmas.Bool.{eqb-true, ltb-true, lt-ltb}
-use Rattle.std.proofs.Common.{eq-eqb}
-use Rattle.std.proofs.Math.Nat.{pow-suc, one-le-pow, pow-le-pow_right}
+use Rattle.bucket_levels.proofs.Prelude.{◌≡◌, ℕ, zero, suc, ◌+◌, ◌-◌, ◌*◌, ◌%◌, ◌^◌, ◌<◌, ◌≤◌, Bool, true, false, eqb}
+use Rattle.bucket_levels.proofs.Prelude.{ltb, refl, sym, ap, ◌∙◌, add-one, arith, ◌&&◌, eqb-true, ltb-true, lt-ltb}
+use Rattle.bucket_levels.proofs.Prelude.{eq-eqb, pow-suc, one-le-pow, pow-le-pow_right, half, size, upper, spills}
+use Rattle.bucket_levels.proofs.Prelude.{and_parts}
 use Rattle.std.proofs.Math.Arith.{mod-mul}
-use Rattle.bucket_levels.specs.Spills.{half, size, upper, spills}
 
 pub upper_is : (i : ℕ) → 1 ≤ i → upper i ≡ i - 1
 upper_is zero low = absurd (omega (arith, low))
@@ -33,21 +29,16 @@ divided_above : (seq i : ℕ) → seq % half (suc i) ≡ 0 → seq % half i ≡ 
 divided_above seq i e =
     let four : half (suc i) ≡ 4 * half i = omega (arith, half_is i, half_is (suc i), pow-suc 4 i) in
     let parts = mod-mul seq {m = 4} {c = half i} (omega arith) (half_is_positive i) in
-    let whole : seq % (4 * half i) ≡ 0 = ap (λ n. seq % n) (sym four) ∙ e in
-    omega (arith, parts, whole)
-
-both_hold : (a b : Bool) → (a && b) ≡ true → (a ≡ true) × (b ≡ true)
-both_hold true true e = (refl, refl)
-both_hold true false e = absurd (cc (e))
-both_hold false b e = absurd (cc (e))
+    let entire : seq % (4 * half i) ≡ 0 = ap (λ n. seq % n) (sym four) ∙ e in
+    omega (arith, parts, entire)
 
 -- the deepest level never spills
 pub spills_above : (i seq : ℕ) → spills i seq ≡ true → i < 10
-spills_above i seq e = ltb-true i 10 (both_hold (ltb i 10) (eqb (seq % half i) 0) e).0
+spills_above i seq e = ltb-true i 10 (and_parts (ltb i 10) (eqb (seq % half i) 0) e).0
 
 spills_higher : (i seq : ℕ) → spills (suc i) seq ≡ true → spills i seq ≡ true
 spills_higher i seq e =
-    let both = both_hold (ltb (suc i) 10) (eqb (seq % half (suc i)) 0) e in
+    let both = and_parts (ltb (suc i) 10) (eqb (seq % half (suc i)) 0) e in
     let low : i < 10 = omega (arith, ltb-true (suc i) 10 both.0) in
     let even = divided_above seq i (eqb-true (seq % half (suc i)) 0 both.1) in
     ap (λ b. b && eqb (seq % half i) 0) (lt-ltb i 10 low) ∙ eq-eqb (seq % half i) 0 even
@@ -62,7 +53,7 @@ none_spills_below i seq s = still_below i seq (spills (suc i) seq) refl s
 
 -- the half of a level that spills divides the ledger
 pub is_divided : (i seq : ℕ) → spills i seq ≡ true → seq % half i ≡ 0
-is_divided i seq e = eqb-true (seq % half i) 0 (both_hold (ltb i 10) (eqb (seq % half i) 0) e).1
+is_divided i seq e = eqb-true (seq % half i) 0 (and_parts (ltb i 10) (eqb (seq % half i) 0) e).1
 
 -- and that of another one, which isn't the deepest, doesn't
 pub is_not_divided : (i seq : ℕ) → i < 10 → spills i seq ≡ false → seq % half i ≡ 0 → ⊥

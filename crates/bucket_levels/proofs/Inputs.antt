@@ -1,16 +1,7 @@
 -- What is pending stays so until it is committed, and then it is what the step merges.
-use Rattle.std.proofs.Common.{◌≡◌, ℕ, zero, suc, ◌+◌, ◌-◌, ◌<◌, ◌≤◌, Bool, true, false, List, sym, ap}
-use Rattle.std.proofs.Common.{subst}
-use Rattle.std.proofs.Common.{◌∙◌, arith, None}
-use Rattle.std.specs.Prelude.{if◌then◌else◌}
-use Rattle.bucket_core.specs.Bucket.{Contents}
-use Rattle.bucket_merge.specs.Job.{Job}
-use Rattle.bucket_merge.specs.Merge.{IsMerge}
-use Rattle.bucket_levels.specs.Spills.{half, spills}
-use Rattle.bucket_levels.specs.Pairs.{Pair, pair_at}
-use Rattle.bucket_levels.specs.Step.{base_at, IsMergedIf, IsCurrAfter, IsStep}
-use Rattle.bucket_levels.specs.Pending.{start_of}
-use Rattle.bucket_levels.specs.Pending.{IsPending}
+use Rattle.bucket_levels.proofs.Prelude.{◌≡◌, ℕ, zero, suc, ◌+◌, ◌-◌, ◌<◌, ◌≤◌, Bool, true, false, List, sym, ap, subst}
+use Rattle.bucket_levels.proofs.Prelude.{◌∙◌, arith, None, if◌then◌else◌, Contents, Job, IsMerge, half, spills, Pair}
+use Rattle.bucket_levels.proofs.Prelude.{pair_at, base_at, IsMergedIf, IsCurrAfter, IsStep, start_of, IsPending}
 use Rattle.bucket_levels.proofs.Starts.{commit_is_next, start_stays}
 
 -- ---- the inputs
@@ -21,7 +12,7 @@ pub older_is_base : (above seq : ℕ) (pairs : List Pair) (job : Job) → spills
 older_is_base above seq pairs job spilled is =
     is.curr ∙ ap (λ (n : ℕ). base_at n pairs (suc above)) (commit_is_next above seq spilled)
 
--- a merge that is ready is the curr behind the step
+-- a merge that is ready is the curr after the step
 pub merged_above : (above seq : ℕ) (fresh new : Contents) (pairs : List Pair) (out : Job)
     → spills above (seq + 1) ≡ true → IsPending pairs seq (suc above) out → IsMerge out.level out.curr out.snap new
     → IsCurrAfter (seq + 1) fresh pairs (suc above) new

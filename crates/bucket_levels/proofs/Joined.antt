@@ -1,53 +1,50 @@
 -- What two neighbouring files say of a key may be replaced by what their merge says of it.
-use Rattle.std.proofs.Common.{◌≡◌, ℕ, Bool, true, false, cond, eqb, List, [], ◌∷◌, Option, Some, None, refl}
-use Rattle.std.specs.Prelude.{option_and_then}
-use Rattle.ledger_types.specs.declared.entry.LedgerEntry.{LedgerEntry}
-use Rattle.bucket_core.specs.Bucket.{Change, Init, Live, Dead}
-use Rattle.bucket_merge.specs.Merge.{joined, kept, merged_change}
-use Rattle.bucket_levels.specs.Meaning.{in_front, entry_by, MayStandOn, AreMarkedWell}
+use Rattle.bucket_levels.proofs.Prelude.{◌≡◌, ℕ, Bool, true, false, cond, eqb, List, [], ◌∷◌, Option, Some, None, refl}
+use Rattle.bucket_levels.proofs.Prelude.{option_and_then, LedgerEntry, Change, Init, Live, Dead, joined, kept}
+use Rattle.bucket_levels.proofs.Prelude.{merged_change, prepended, entry_by, MayFollow, AreMarkedWell}
 use Rattle.bucket_levels.proofs.Marks.{Replaces, itself, in_turn, on_same_newest}
 
--- ---- what may stand on a list
+-- ---- what may follow a list
 
-may_be_first : (c : Change) → MayStandOn c []
+pub may_be_first : (c : Change) → MayFollow c []
 may_be_first (Init e) = tt
 may_be_first (Live e) = tt
 may_be_first Dead = tt
 
-live_where_dead : (e : LedgerEntry) (xs : List Change) → MayStandOn Dead xs → MayStandOn (Live e) xs
+live_where_dead : (e : LedgerEntry) (xs : List Change) → MayFollow Dead xs → MayFollow (Live e) xs
 live_where_dead e [] m = tt
 live_where_dead e (Init f ∷ xs) m = tt
 live_where_dead e (Live f ∷ xs) m = tt
 live_where_dead e (Dead ∷ xs) m = m
 
-dead_where_live : (was : LedgerEntry) (xs : List Change) → MayStandOn (Live was) xs → MayStandOn Dead xs
+dead_where_live : (was : LedgerEntry) (xs : List Change) → MayFollow (Live was) xs → MayFollow Dead xs
 dead_where_live was [] m = tt
 dead_where_live was (Init f ∷ xs) m = tt
 dead_where_live was (Live f ∷ xs) m = tt
 dead_where_live was (Dead ∷ xs) m = m
 
 -- nothing of a key is there where it is made
-none_where_made : (was : LedgerEntry) (xs : List Change) → MayStandOn (Init was) xs → entry_by xs ≡ None
+none_where_made : (was : LedgerEntry) (xs : List Change) → MayFollow (Init was) xs → entry_by xs ≡ None
 none_where_made was [] m = refl
 none_where_made was (Init f ∷ xs) m = absurd m
 none_where_made was (Live f ∷ xs) m = absurd m
 none_where_made was (Dead ∷ xs) m = refl
 
-on_made_or_live : (c : Change) (e f : LedgerEntry) (xs ys : List Change) → MayStandOn c (Init e ∷ xs)
-    → MayStandOn c (Live f ∷ ys)
+on_made_or_live : (c : Change) (e f : LedgerEntry) (xs ys : List Change) → MayFollow c (Init e ∷ xs)
+    → MayFollow c (Live f ∷ ys)
 on_made_or_live (Init d) e f xs ys m = m
 on_made_or_live (Live d) e f xs ys m = tt
 on_made_or_live Dead e f xs ys m = tt
 
-on_live_or_made : (c : Change) (e f : LedgerEntry) (xs ys : List Change) → MayStandOn c (Live e ∷ xs)
-    → MayStandOn c (Init f ∷ ys)
+on_live_or_made : (c : Change) (e f : LedgerEntry) (xs ys : List Change) → MayFollow c (Live e ∷ xs)
+    → MayFollow c (Init f ∷ ys)
 on_live_or_made (Init d) e f xs ys m = m
 on_live_or_made (Live d) e f xs ys m = tt
 on_live_or_made Dead e f xs ys m = tt
 
--- what stands on a removal stands where the entry was made
-on_removed : (c : Change) (was : LedgerEntry) (xs ys : List Change) → MayStandOn (Init was) xs
-    → MayStandOn c (Dead ∷ ys) → MayStandOn c xs
+-- what may follow a removal may follow what the making of the entry followed
+on_removed : (c : Change) (was : LedgerEntry) (xs ys : List Change) → MayFollow (Init was) xs
+    → MayFollow c (Dead ∷ ys) → MayFollow c xs
 on_removed (Init e) was xs ys i m = i
 on_removed (Live e) was xs ys i m = absurd m
 on_removed Dead was xs ys i m = absurd m
@@ -55,7 +52,7 @@ on_removed Dead was xs ys i m = absurd m
 -- ---- what both say of a key
 
 both_replaced : (older newer : Change) (xs : List Change)
-    → Replaces (newer ∷ older ∷ xs) (in_front (joined older newer) xs)
+    → Replaces (newer ∷ older ∷ xs) (prepended (joined older newer) xs)
 unfolding AreMarkedWell
 both_replaced Dead (Init e) xs = record {
   by = λ w. record {
@@ -99,34 +96,34 @@ both_replaced (Live was) Dead xs = record {
 
 -- ---- what a level keeps
 
--- a removal is left out where nothing stands below it
+-- a removal is left out where nothing is below it
 removal_replaced : (b : Bool) (xs : List Change) → (b ≡ true → xs ≡ [])
-    → Replaces (Dead ∷ xs) (in_front (cond b None (Some Dead)) xs)
+    → Replaces (Dead ∷ xs) (prepended (cond b None (Some Dead)) xs)
 unfolding AreMarkedWell
 removal_replaced true [] h = record { by = λ w. record { well = tt; entry = refl; carries = λ c m. may_be_first c } }
 removal_replaced true (x ∷ xs) h = absurd (cc (h refl))
 removal_replaced false xs h = itself (Dead ∷ xs)
 
 pub kept_replaced : (level : ℕ) (c : Change) (xs : List Change) → (eqb level 10 ≡ true → xs ≡ [])
-    → Replaces (c ∷ xs) (in_front (kept level c) xs)
+    → Replaces (c ∷ xs) (prepended (kept level c) xs)
 kept_replaced level (Init e) xs h = itself (Init e ∷ xs)
 kept_replaced level (Live e) xs h = itself (Live e ∷ xs)
 kept_replaced level Dead xs h = removal_replaced (eqb level 10) xs h
 
 kept_if_replaced : (level : ℕ) (o : Option Change) (xs : List Change) → (eqb level 10 ≡ true → xs ≡ [])
-    → Replaces (in_front o xs) (in_front (option_and_then (kept level) o) xs)
+    → Replaces (prepended o xs) (prepended (option_and_then (kept level) o) xs)
 kept_if_replaced level None xs h = itself xs
 kept_if_replaced level (Some c) xs h = kept_replaced level c xs h
 
--- below the deepest level nothing stands
+-- below the deepest level there is nothing
 pub merge_replaces : (level : ℕ) (older newer : Option Change) (xs : List Change) → (eqb level 10 ≡ true → xs ≡ [])
-    → Replaces (in_front newer (in_front older xs)) (in_front (merged_change level older newer) xs)
+    → Replaces (prepended newer (prepended older xs)) (prepended (merged_change level older newer) xs)
 merge_replaces level None None xs h = itself xs
 merge_replaces level (Some older) None xs h = kept_replaced level older xs h
 merge_replaces level None (Some newer) xs h = kept_replaced level newer xs h
 merge_replaces level (Some older) (Some newer) xs h =
-    in_turn (newer ∷ older ∷ xs) (in_front (joined older newer) xs)
-    (in_front (option_and_then (kept level) (joined older newer)) xs) (both_replaced older newer xs)
+    in_turn (newer ∷ older ∷ xs) (prepended (joined older newer) xs)
+    (prepended (option_and_then (kept level) (joined older newer)) xs) (both_replaced older newer xs)
     (kept_if_replaced level (joined older newer) xs h)
 
 -- above the deepest level a merge onto nothing is what it was

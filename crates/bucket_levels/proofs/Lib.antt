@@ -3,7 +3,7 @@ pub mod Starts
 pub mod Marks
 pub mod Joined
 pub mod Climb
-pub mod Standing
+pub mod Existing
 pub mod Planning
 pub mod Inputs
 pub mod Working
@@ -14,3 +14,4 @@ pub mod Ordering
 pub mod Unmerged
 pub use Rattle.bucket_core.proofs as bucket_core_proofs
 pub use Rattle.entry_map.proofs as entry_map_proofs
+pub mod Prelude

@@ -1,17 +1,16 @@
--- What files say of one key, the newest first: where one list may stand for another.
-use Rattle.std.proofs.Common.{◌≡◌, List, ◌∷◌, Option, Some, None, refl, ◌∙◌}
-use Rattle.bucket_core.specs.Bucket.{Change, Init, Live, Dead}
-use Rattle.bucket_levels.specs.Meaning.{in_front, entry_by, MayStandOn, AreMarkedWell}
+-- What files say of one key, the newest first: where one list may replace another.
+use Rattle.bucket_levels.proofs.Prelude.{◌≡◌, List, ◌∷◌, Option, Some, None, refl, ◌∙◌, Change, Init, Live, Dead}
+use Rattle.bucket_levels.proofs.Prelude.{prepended, entry_by, MayFollow, AreMarkedWell}
 
--- what holds of a list that stands for another, which is marked well
-pub record StandsFor (old new : List Change) : Type 0 where
+-- what holds of a list that replaces another, which is marked well
+pub record Represents (old new : List Change) : Type 0 where
   pub well : AreMarkedWell new
   pub entry : entry_by new ≡ entry_by old
-  pub carries : (c : Change) → MayStandOn c old → MayStandOn c new
+  pub carries : (c : Change) → MayFollow c old → MayFollow c new
 
--- a list may stand for another
+-- a list may replace another
 pub record Replaces (old new : List Change) : Type 0 where
-  pub by : AreMarkedWell old → StandsFor old new
+  pub by : AreMarkedWell old → Represents old new
 
 pub itself : (xs : List Change) → Replaces xs xs
 itself xs = record { by = λ w. record { well = w; entry = refl; carries = λ c m. m } }
@@ -28,8 +27,8 @@ in_turn xs ys zs a b = record {
       };
 }
 
--- what a change may stand on is told by the newest one
-pub on_same_newest : (c d : Change) (xs ys : List Change) → MayStandOn c (d ∷ xs) → MayStandOn c (d ∷ ys)
+-- what a change may follow is determined by the newest one
+pub on_same_newest : (c d : Change) (xs ys : List Change) → MayFollow c (d ∷ xs) → MayFollow c (d ∷ ys)
 on_same_newest (Init e) (Init f) xs ys m = m
 on_same_newest (Init e) (Live f) xs ys m = m
 on_same_newest (Init e) Dead xs ys m = tt
@@ -40,9 +39,9 @@ on_same_newest Dead (Init f) xs ys m = tt
 on_same_newest Dead (Live f) xs ys m = tt
 on_same_newest Dead Dead xs ys m = m
 
-behind_change : (c : Change) (xs ys : List Change) → Replaces xs ys → Replaces (c ∷ xs) (c ∷ ys)
+after_change : (c : Change) (xs ys : List Change) → Replaces xs ys → Replaces (c ∷ xs) (c ∷ ys)
 unfolding AreMarkedWell
-behind_change c xs ys a = record {
+after_change c xs ys a = record {
   by = λ w.
       let rest = a.by w.1 in
       record {
@@ -52,7 +51,7 @@ behind_change c xs ys a = record {
       };
 }
 
--- behind the same newer change, where there is one
-pub behind : (o : Option Change) (xs ys : List Change) → Replaces xs ys → Replaces (in_front o xs) (in_front o ys)
-behind None xs ys a = a
-behind (Some c) xs ys a = behind_change c xs ys a
+-- under the same newer change, where there is one
+pub after : (o : Option Change) (xs ys : List Change) → Replaces xs ys → Replaces (prepended o xs) (prepended o ys)
+after None xs ys a = a
+after (Some c) xs ys a = after_change c xs ys a

@@ -1,18 +1,10 @@
 -- The step in order is the step that is said all at once.
-use Rattle.std.proofs.Common.{◌≡◌, ℕ, zero, suc, ◌+◌, ◌<◌, ◌≤◌, Bool, true, false, eqb, List, Option, Some}
-use Rattle.std.proofs.Common.{None}
-use Rattle.std.proofs.Common.{map, zero-add, ◌⊎◌, inl, inr, refl, sym, ap, subst, ◌∙◌, arith, eq-eqb}
-use Rattle.std.specs.Prelude.{if◌then◌else◌}
-use Rattle.std.proofs.lemmas.Bool.{cases_eq, eqb-true}
-use Rattle.std.specs.List.{range_with_len}
+use Rattle.bucket_levels.proofs.Prelude.{◌≡◌, ℕ, zero, suc, ◌+◌, ◌<◌, ◌≤◌, Bool, true, false, eqb, List, Option, Some}
+use Rattle.bucket_levels.proofs.Prelude.{None, map, zero-add, ◌⊎◌, inl, inr, refl, sym, ap, subst, ◌∙◌, arith, eq-eqb}
+use Rattle.bucket_levels.proofs.Prelude.{if◌then◌else◌, cases_eq, eqb-true, range_with_len, none-some, Contents}
+use Rattle.bucket_levels.proofs.Prelude.{IsMerge, level_count, half, upper, spills, Pair, empty_pair, pair_at}
+use Rattle.bucket_levels.proofs.Prelude.{IsMergedIf, IsPairAfter, IsStep, base_at, snap_after, start_of}
 use Rattle.std.proofs.lemmas.List.FromFn.{length-map-range_with_len, get_or-map-range_with_len}
-use Rattle.std.proofs.lemmas.Option.{none-some}
-use Rattle.bucket_core.specs.Bucket.{Contents}
-use Rattle.bucket_merge.specs.Merge.{IsMerge}
-use Rattle.bucket_levels.specs.Spills.{level_count, half, upper, spills}
-use Rattle.bucket_levels.specs.Pairs.{Pair, empty_pair, pair_at}
-use Rattle.bucket_levels.specs.Step.{IsMergedIf, IsPairAfter, IsStep, base_at, snap_after}
-use Rattle.bucket_levels.specs.Pending.{start_of}
 use Rattle.bucket_levels.specs.InOrder.{PendingInputs, InOrder, put_at, IsNext, spilled, begins, committed}
 use Rattle.bucket_levels.specs.InOrder.{IsCommittedIf}
 use Rattle.bucket_levels.specs.InOrder.{AreCommitted, pending_inputs, IsOfFiles, StepsAreInOrder}
@@ -35,7 +27,7 @@ put_other f level x i other =
 
 -- ---- the step, down to one level
 
--- what the step begins with; the ledger behind `seq` closes
+-- what the step begins with; the ledger after `seq` closes
 record Start : Type 0 where
   seq : ℕ
   fresh : Contents
@@ -225,7 +217,7 @@ none_done s = record {
   ready = λ i low high. absurd (omega (arith, low, high));
 }
 
--- ---- the files behind it
+-- ---- the files after it
 
 -- the files that a function gives, level by level
 abbrev pairs_of : (ℕ → Pair) → List Pair
@@ -246,26 +238,26 @@ record IsDone (s : Start) (m : InOrder) : Type 0 where
   ready : (above : ℕ) → suc above < level_count
       → m.ready (suc above) ≡ (if spills above (s.seq + 1) then None else s.l.ready (suc above))
 
-newest_done : (s : Start) (behind : InOrder) (first : Contents) → IsDoneBelow s 0 behind
-    → IsMerge 0 (behind.pairs 0).curr s.fresh first
-    → IsPairAfter (s.seq + 1) s.fresh s.old 0 (record (behind.pairs 0) { curr = first })
-newest_done s behind first d merged = record {
+newest_done : (s : Start) (after : InOrder) (first : Contents) → IsDoneBelow s 0 after
+    → IsMerge 0 (after.pairs 0).curr s.fresh first
+    → IsPairAfter (s.seq + 1) s.fresh s.old 0 (record (after.pairs 0) { curr = first })
+newest_done s after first d merged = record {
   curr = subst (λ (older : Contents). IsMerge 0 older s.fresh first)
       (ap (λ (p : Pair). p.curr) d.here ∙ curr_of_spilled (spills 0 (s.seq + 1)) (pair_at s.old 0)) merged;
   snap = ap (λ (p : Pair). p.snap) d.here ∙ snap_of_spilled (spills 0 (s.seq + 1)) (pair_at s.old 0);
 }
 
-all_done : (s : Start) (behind : InOrder) (first : Contents) → IsDoneBelow s 0 behind
-    → IsMerge 0 (behind.pairs 0).curr s.fresh first
-    → IsDone s (record behind { pairs = put_at behind.pairs 0 (record (behind.pairs 0) { curr = first }) })
-all_done s behind first d merged =
-    let mine = record (behind.pairs 0) { curr = first } in
-    let same : (i : ℕ) → 0 < i → put_at behind.pairs 0 mine i ≡ behind.pairs i =
-    λ i low. put_other behind.pairs 0 mine i (λ x. omega (arith, low, x)) in
+all_done : (s : Start) (after : InOrder) (first : Contents) → IsDoneBelow s 0 after
+    → IsMerge 0 (after.pairs 0).curr s.fresh first
+    → IsDone s (record after { pairs = put_at after.pairs 0 (record (after.pairs 0) { curr = first }) })
+all_done s after first d merged =
+    let mine = record (after.pairs 0) { curr = first } in
+    let same : (i : ℕ) → 0 < i → put_at after.pairs 0 mine i ≡ after.pairs i =
+    λ i low. put_other after.pairs 0 mine i (λ x. omega (arith, low, x)) in
     record {
       pairs = λ i lt. elim (cases_eq i 0) [
-        | inl e ↦ subst (λ (k : ℕ). IsPairAfter (s.seq + 1) s.fresh s.old k (put_at behind.pairs 0 mine k)) (sym e)
-            (newest_done s behind first d merged)
+        | inl e ↦ subst (λ (k : ℕ). IsPairAfter (s.seq + 1) s.fresh s.old k (put_at after.pairs 0 mine k)) (sym e)
+            (newest_done s after first d merged)
         | inr other ↦ let low : 0 < i = omega (arith, other) in
             subst (IsPairAfter (s.seq + 1) s.fresh s.old i) (sym (same i low)) (d.below i low lt)
       ];
@@ -275,7 +267,7 @@ all_done s behind first d merged =
       ready = λ above lt. d.ready (suc above) (omega arith) lt;
     }
 
--- ---- what is pending behind it
+-- ---- what is pending after it
 
 begins_of_files : (s : Start) (above : ℕ) (new : List Pair) → spills above (s.seq + 1) ≡ true
     → (pair_at new above).snap ≡ snap_after (s.seq + 1) s.old above
@@ -379,8 +371,8 @@ files_of_step s m d = (
 pub steps_are_in_order : StepsAreInOrder
 steps_are_in_order seq fresh old l m files step =
     let s : Start = record { seq = seq; fresh = fresh; old = old; l = l; is = files } in
-    let down = all_down s 10 l step.behind (omega arith) (none_done s) step.committed in
+    let down = all_down s 10 l step.after (omega arith) (none_done s) step.committed in
     subst (λ (last : InOrder). (new : List Pair) × IsStep (seq + 1) fresh old new × IsOfFiles new (seq + 1) last)
-    (sym step.is) (files_of_step s (record step.behind {
-      pairs = put_at step.behind.pairs 0 (record (step.behind.pairs 0) { curr = step.first });
-    }) (all_done s step.behind step.first down step.merged))
+    (sym step.is) (files_of_step s (record step.after {
+      pairs = put_at step.after.pairs 0 (record (step.after.pairs 0) { curr = step.first });
+    }) (all_done s step.after step.first down step.merged))

@@ -1,14 +1,8 @@
 -- A step is planned level by level.
-use Rattle.std.proofs.Common.{◌≡◌, ℕ, zero, suc, ◌+◌, ◌-◌, ◌<◌, ◌≤◌, List, [], ◌∷◌, ◌++◌, length, map, get_or}
-use Rattle.std.proofs.Common.{sym}
-use Rattle.std.proofs.Common.{ap, subst, ◌∙◌, add-one, arith, below_more}
-use Rattle.std.proofs.lemmas.List.{get_or-map, get_or_append_left, get_or_push, length_push, map-append}
-use Rattle.bucket_core.specs.Bucket.{Contents}
-use Rattle.bucket_levels.specs.declared.pair.LevelPair.{LevelPair}
-use Rattle.bucket_levels.specs.Spills.{level_count}
-use Rattle.bucket_levels.specs.Pairs.{pair_at, empty_pair}
-use Rattle.bucket_levels.specs.Levels.{LevelsAt, pair_of}
-use Rattle.bucket_levels.specs.Work.{work_at, work_above}
+use Rattle.bucket_levels.proofs.Prelude.{◌≡◌, ℕ, zero, suc, ◌+◌, ◌-◌, ◌<◌, ◌≤◌, List, [], ◌∷◌, ◌++◌, length, map}
+use Rattle.bucket_levels.proofs.Prelude.{get_or, sym, ap, subst, ◌∙◌, add-one, arith, below_more, get_or-map}
+use Rattle.bucket_levels.proofs.Prelude.{get_or_append_left, get_or_push, length_push, map-append, Contents, LevelPair}
+use Rattle.bucket_levels.proofs.Prelude.{level_count, pair_at, empty_pair, LevelsAt, pair_of, work_at, work_above}
 use Rattle.bucket_levels.specs.EachLevel.{EachLevel}
 
 -- ---- the files of one level

@@ -1,21 +1,11 @@
--- What is kept of pending merges behind a step.
-use Rattle.std.proofs.Common.{◌≡◌, ℕ, zero, suc, ◌+◌, ◌<◌, Bool, true, false, List, Option, Some, None, length, map}
-use Rattle.std.proofs.Common.{get_or}
-use Rattle.std.proofs.Common.{◌≤◌, inl, inr, set, refl, sym, ap, subst, ◌∙◌, arith}
-use Rattle.std.specs.Prelude.{if◌then◌else◌}
-use Rattle.std.proofs.lemmas.Bool.{cases_eq}
-use Rattle.std.proofs.lemmas.List.{get_or-map, length-map, length-set, get_or-set_same, get_or-set_other}
-use Rattle.std.proofs.lemmas.Option.{none-some, same_Some}
-use Rattle.bucket_core.specs.Bucket.{Contents}
-use Rattle.bucket_merge.specs.Job.{Job}
-use Rattle.bucket_levels.specs.Spills.{level_count, spills}
-use Rattle.bucket_levels.specs.Pairs.{Pair}
-use Rattle.bucket_levels.specs.Step.{IsStep}
-use Rattle.bucket_levels.specs.Pending.{PendingAt, pending_at, not_pending, begun, IsPending, renews}
-use Rattle.bucket_levels.specs.Pending.{AreRenewed, AreUndrawnAt}
-use Rattle.bucket_levels.specs.Held.{pending_of, nothing_pending, IsHeld, AreHeld, AreUndrawn, IsJobIf, AreBegun}
-use Rattle.bucket_levels.specs.Held.{renewed, AllRenewed, AreRenewedTo}
-use Rattle.bucket_levels.specs.declared.pending.PendingMerge.{PendingMerge}
+-- What is kept of pending merges after a step.
+use Rattle.bucket_levels.proofs.Prelude.{◌≡◌, ℕ, zero, suc, ◌+◌, ◌<◌, Bool, true, false, List, Option, Some, None}
+use Rattle.bucket_levels.proofs.Prelude.{length, map, get_or, ◌≤◌, inl, inr, set, refl, sym, ap, subst, ◌∙◌, arith}
+use Rattle.bucket_levels.proofs.Prelude.{if◌then◌else◌, cases_eq, get_or-map, length-map, length-set, get_or-set_same}
+use Rattle.bucket_levels.proofs.Prelude.{get_or-set_other, none-some, same_Some, Contents, Job, level_count, spills}
+use Rattle.bucket_levels.proofs.Prelude.{Pair, IsStep, PendingAt, pending_at, not_pending, begun, IsPending, renews}
+use Rattle.bucket_levels.proofs.Prelude.{AreRenewed, AreUndrawnAt, pending_of, nothing_pending, IsHeld, AreHeld}
+use Rattle.bucket_levels.proofs.Prelude.{AreUndrawn, IsJobIf, AreBegun, renewed, AllRenewed, AreRenewedTo, PendingMerge}
 use Rattle.bucket_levels.proofs.Inputs.{stays_pending}
 
 -- ---- one level

@@ -1,11 +1,8 @@
 -- When the merge that is pending into a level began, and when it is committed.
-use Rattle.std.proofs.Common.{◌≡◌, inl, inr, ℕ, suc, ◌+◌, ◌-◌, ◌*◌, ◌/◌, ◌%◌, ◌<◌, ◌≤◌, true, false, ap}
-use Rattle.std.proofs.Common.{◌∙◌, arith}
-use Rattle.std.proofs.lemmas.Bool.{cases_lt}
+use Rattle.bucket_levels.proofs.Prelude.{◌≡◌, inl, inr, ℕ, suc, ◌+◌, ◌-◌, ◌*◌, ◌/◌, ◌%◌, ◌<◌, ◌≤◌, true, false, ap, ◌∙◌}
+use Rattle.bucket_levels.proofs.Prelude.{arith, cases_lt, mul-add-mod_self_right, mod-eq_of_lt, mod_self, mod-le, half}
+use Rattle.bucket_levels.proofs.Prelude.{spills, start_of, commit_of}
 use Rattle.std.proofs.lemmas.Nat.{div-add-mod', mod_below}
-use Rattle.std.proofs.Math.Nat.{mul-add-mod_self_right, mod-eq_of_lt, mod_self, mod-le}
-use Rattle.bucket_levels.specs.Spills.{half, spills}
-use Rattle.bucket_levels.specs.Pending.{start_of, commit_of}
 use Rattle.bucket_levels.proofs.Halves.{half_is_positive, is_divided, is_not_divided}
 
 -- the rest of the next number

@@ -1,13 +1,9 @@
 -- A bucket that is merged onto nothing stays as it is, but at the deepest level, which never spills; and one that is
 -- merged onto a curr.
-use Rattle.std.proofs.Common.{◌≡◌, ℕ, zero, suc, ◌-◌, ◌<◌, ◌≤◌, Bool, true, false, List, Option, Some, None, refl}
-use Rattle.std.proofs.Common.{eqb, sym, ap, subst, arith}
-use Rattle.std.specs.Prelude.{nat_eq, if◌then◌else◌}
-use Rattle.bucket_core.specs.Bucket.{Change, Init, Live, Dead, Contents, change_at}
-use Rattle.bucket_merge.specs.Merge.{kept, merged_change, IsMerge}
-use Rattle.bucket_levels.specs.Spills.{spills}
-use Rattle.bucket_levels.specs.Pairs.{Pair, pair_at}
-use Rattle.bucket_levels.specs.Step.{base_at, IsMergedIf, IsCurrAfter}
+use Rattle.bucket_levels.proofs.Prelude.{◌≡◌, ℕ, zero, suc, ◌-◌, ◌<◌, ◌≤◌, Bool, true, false, List, Option, Some, None}
+use Rattle.bucket_levels.proofs.Prelude.{refl, eqb, sym, ap, subst, arith, nat_eq, if◌then◌else◌, Change, Init, Live}
+use Rattle.bucket_levels.proofs.Prelude.{Dead, Contents, change_at, kept, merged_change, IsMerge, spills, Pair, pair_at}
+use Rattle.bucket_levels.proofs.Prelude.{base_at, IsMergedIf, IsCurrAfter}
 use Rattle.bucket_levels.proofs.Halves.{spills_above}
 
 not_deepest : (level : ℕ) → level < 10 → nat_eq level 10 ≡ false

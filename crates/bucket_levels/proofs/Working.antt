@@ -1,15 +1,8 @@
 -- What a step costs, and what it spares.
-use Rattle.std.proofs.Common.{◌≡◌, ℕ, zero, suc, ◌+◌, ◌-◌, ◌≤◌, Bool, true, false, None, sym, ap, subst, ◌∙◌, arith}
-use Rattle.std.specs.Prelude.{not, ◌&&◌, if◌then◌else◌}
-use Rattle.bucket_core.specs.Bucket.{Contents}
+use Rattle.bucket_levels.proofs.Prelude.{◌≡◌, ℕ, zero, suc, ◌+◌, ◌-◌, ◌≤◌, Bool, true, false, None, sym, ap, subst, ◌∙◌}
+use Rattle.bucket_levels.proofs.Prelude.{arith, not, ◌&&◌, if◌then◌else◌, Contents, spills, pair_at, base_at}
+use Rattle.bucket_levels.proofs.Prelude.{IsCurrAfter, LevelsAt, pending_at, IsPending, IsReadyFor, work_at}
 use Rattle.bucket_core.specs.File.{count_of}
-use Rattle.bucket_levels.specs.Spills.{spills}
-use Rattle.bucket_levels.specs.Pairs.{pair_at}
-use Rattle.bucket_levels.specs.Step.{base_at, IsCurrAfter}
-use Rattle.bucket_levels.specs.Levels.{LevelsAt}
-use Rattle.bucket_levels.specs.Pending.{pending_at, IsPending}
-use Rattle.bucket_levels.specs.Held.{IsReadyFor}
-use Rattle.bucket_levels.specs.Work.{work_at}
 use Rattle.bucket_levels.proofs.Inputs.{merged_above}
 use Rattle.bucket_levels.proofs.Unmerged.{spilled_below, merged_below}
 
@@ -35,7 +28,7 @@ work_is_merge level seq fresh l low over here unready =
     (merge_at (level - 1) seq fresh l over (subst (λ (n : ℕ). spills n seq ≡ false) (sym is) here)
     (subst (λ (n : ℕ). (pending_at l.pending n).ready ≡ false) (sym is) unready))
 
--- one that is ready is the curr behind the step
+-- one that is ready is the curr after the step
 pub ready_curr : (level seq : ℕ) (fresh bucket : Contents) (l : LevelsAt) → 1 ≤ level → seq ≡ l.seq + 1
     → spills (level - 1) seq ≡ true → IsReadyFor l level bucket → IsCurrAfter seq fresh l.pairs level bucket
 ready_curr level seq fresh bucket l low next over r =
@@ -46,5 +39,5 @@ ready_curr level seq fresh bucket l low next over r =
     (subst (λ (n : ℕ). spills (level - 1) n ≡ true) next over)
     (subst (λ (n : ℕ). IsPending l.pairs l.seq n r.out) (sym is) r.is) r.merge))
 
--- the curr of a level below the first one behind a step, and what it costs
+-- the curr of a level below the first one after a step, and what it costs
 pub ruleset currs = (spilled_below, merged_below, work_is_merge, ready_curr)

@@ -1,4 +1,4 @@
--- The fresh bucket of a close: what changed between the entries before it and those behind it.
+-- The fresh bucket of a close: what changed between the entries before it and those after it.
 use Rattle.std.specs.Prelude.{◌≡◌, ◌↔◌, Some, None}
 use Rattle.std.specs.FinMap.{get}
 use Rattle.ledger_types.specs.declared.key.LedgerKey.{LedgerKey}
@@ -7,7 +7,7 @@ use Rattle.entry_map.specs.EntryMap.{EntryMap}
 use Rattle.entry_map.specs.Batch.{IsNew, IsChanged, IsGone}
 use Rattle.bucket_core.specs.Bucket.{Change, Init, Live, Dead, Contents, change_at}
 
--- what became of the entry under a key, as a batch tells it
+-- what became of the entry under a key, as a batch says it
 abbrev pub BecameOf : EntryMap → EntryMap → LedgerKey → Change → Type 0
 BecameOf before after k (Init entry) = (key_of entry ≡ k) × IsNew before after entry
 BecameOf before after k (Live entry) = (key_of entry ≡ k) × IsChanged before after entry

@@ -39,7 +39,7 @@ pub record TakesIn (old : LevelsAt) (out : Job) (new : LevelsAt) : Type 0 where
   pub is : IsPending old.pairs old.seq out.level out
   pub left : new ≡ with_pending out.level (handed_in (pending_at old.pending out.level)) old
 
--- two texts are one up to a place, and there they differ, or one of them ends
+-- two texts are one up to an offset, and there they differ, or one of them ends
 pub record DifferAt (at : ℕ) (xs ys : List ℕ) : Type 0 where
   pub before : take at xs ≡ take at ys
   pub apart : slice_get xs at ≢ slice_get ys at

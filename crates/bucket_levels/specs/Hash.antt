@@ -1,4 +1,4 @@
--- The hash of the levels, which stands in the header (BucketLevel::getHash and BucketList::getHash in stellar-core).
+-- The hash of the levels, which is in the header (BucketLevel::getHash and BucketList::getHash in stellar-core).
 use Rattle.std.specs.Prelude.{List, ◌++◌}
 use Rattle.std.specs.List.{flat_map}
 use Rattle.ledger_types.specs.declared.ids.Hash.{Hash}

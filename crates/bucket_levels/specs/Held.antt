@@ -48,7 +48,7 @@ pub record IsUndrawn (pairs : List Pair) (seq level : ℕ) (merge : PendingMerge
 abbrev pub AreUndrawn : List Pair → (seq : ℕ) → (count : ℕ) → List PendingMerge → Type 0
 AreUndrawn pairs seq count merges = EachLevel nothing_pending (IsUndrawn pairs seq) count merges
 
--- ---- behind a step
+-- ---- after a step
 
 -- the job of a merge that begins, and none elsewhere
 abbrev pub IsJobIf : Bool → List Pair → (seq level : ℕ) → Option Job → Type 0

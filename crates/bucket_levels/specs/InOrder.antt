@@ -69,11 +69,11 @@ AreCommitted (suc above) seq old new =
 
 -- from the deepest level up, and last the newest curr takes the fresh bucket
 pub record IsStepInOrder (seq : ℕ) (fresh : Contents) (old new : InOrder) : Type 0 where
-  pub behind : InOrder
-  pub committed : AreCommitted 10 seq old behind
+  pub after : InOrder
+  pub committed : AreCommitted 10 seq old after
   pub first : Contents
-  pub merged : IsMerge 0 (behind.pairs 0).curr fresh first
-  pub is : new ≡ record behind { pairs = put_at behind.pairs 0 (record (behind.pairs 0) { curr = first }) }
+  pub merged : IsMerge 0 (after.pairs 0).curr fresh first
+  pub is : new ≡ record after { pairs = put_at after.pairs 0 (record (after.pairs 0) { curr = first }) }
 
 -- ---- as the files say it
 

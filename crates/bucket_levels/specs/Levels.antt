@@ -1,12 +1,12 @@
--- All levels behind a ledger.
+-- All levels after a ledger.
 use Rattle.std.specs.Prelude.{ℕ, List, refl}
 use Rattle.std.specs.Coded.{Coded, code_by, coded_ℕ, coded_list, coded×}
 use Rattle.bucket_levels.specs.Pairs.{Pair, pair_code}
 use Rattle.bucket_levels.specs.Pending.{PendingAt, pending_code}
 use Rattle.bucket_levels.specs.declared.pair.LevelPair.{LevelPair}
 
--- the files of each level, from the first one on, the number of the ledger behind which they stand, and what is there
--- of the merge that is pending into each level
+-- the files of each level, from the first one on, the number of the ledger that they follow, and what is there of the
+-- merge that is pending into each level
 pub record LevelsAt : Type 0 where
   pub pairs : List Pair
   pub seq : ℕ

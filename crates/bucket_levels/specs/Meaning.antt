@@ -1,4 +1,4 @@
--- What the levels stand for: of each key, what the newest file says that says something of it.
+-- What the levels represent: of each key, what the newest file says that says something of it.
 use Rattle.std.specs.Prelude.{◌≡◌, List, [], ◌∷◌, Option, Some, None}
 use Rattle.std.specs.List.{flat_map}
 use Rattle.std.specs.FinMap.{get}
@@ -12,15 +12,15 @@ use Rattle.bucket_levels.specs.Pairs.{Pair, pair_at}
 abbrev pub files_of : List Pair → List Contents
 files_of pairs = flat_map (λ pair. pair.curr ∷ pair.snap ∷ []) pairs
 
--- what a file says of a key, in front of what older ones say
-abbrev pub in_front : Option Change → List Change → List Change
-in_front None older = older
-in_front (Some change) older = change ∷ older
+-- what a file says of a key, before what older ones say
+abbrev pub prepended : Option Change → List Change → List Change
+prepended None older = older
+prepended (Some change) older = change ∷ older
 
 -- what files say of a key, the newest first
 unfoldable pub changes_of : List Contents → LedgerKey → List Change
 changes_of [] k = []
-changes_of (contents ∷ older) k = in_front (change_at contents k) (changes_of older k)
+changes_of (contents ∷ older) k = prepended (change_at contents k) (changes_of older k)
 
 -- ---- the map
 
@@ -35,26 +35,26 @@ entry_by [] = None
 entry_by (newest ∷ older) = entry_after newest
 
 -- the entry under each key is that of the newest change
-abbrev pub StandFor : List Pair → EntryMap → Type 0
-StandFor pairs m = (k : LedgerKey) → get m k ≡ entry_by (changes_of (files_of pairs) k)
+abbrev pub Represent : List Pair → EntryMap → Type 0
+Represent pairs m = (k : LedgerKey) → get m k ≡ entry_by (changes_of (files_of pairs) k)
 
--- ---- what stands under what
+-- ---- what may follow what
 
--- Under INIT stands DEAD or nothing, under LIVE no DEAD, and under DEAD no DEAD.
-abbrev pub MayStandOn : Change → List Change → Type 0
-MayStandOn (Init entry) [] = Unit {0}
-MayStandOn (Init entry) (Dead ∷ older) = Unit {0}
-MayStandOn (Init entry) (other ∷ older) = ⊥
-MayStandOn (Live entry) (Dead ∷ older) = ⊥
-MayStandOn (Live entry) other = Unit {0}
-MayStandOn Dead (Dead ∷ older) = ⊥
-MayStandOn Dead other = Unit {0}
+-- INIT may follow DEAD or nothing, LIVE anything but DEAD, and DEAD anything but DEAD; the list has the newest first.
+abbrev pub MayFollow : Change → List Change → Type 0
+MayFollow (Init entry) [] = Unit {0}
+MayFollow (Init entry) (Dead ∷ older) = Unit {0}
+MayFollow (Init entry) (other ∷ older) = ⊥
+MayFollow (Live entry) (Dead ∷ older) = ⊥
+MayFollow (Live entry) other = Unit {0}
+MayFollow Dead (Dead ∷ older) = ⊥
+MayFollow Dead other = Unit {0}
 
 unfoldable pub AreMarkedWell : List Change → Type 0
 AreMarkedWell [] = Unit {0}
-AreMarkedWell (change ∷ older) = MayStandOn change older × AreMarkedWell older
+AreMarkedWell (change ∷ older) = MayFollow change older × AreMarkedWell older
 
--- of each key, and nothing stands behind the deepest curr
+-- of each key, and the deepest level has no snap
 pub record AreWellMarked (pairs : List Pair) : Type 0 where
   pub marks : (k : LedgerKey) → AreMarkedWell (changes_of (files_of pairs) k)
   pub deepest : (pair_at pairs 10).snap ≡ None

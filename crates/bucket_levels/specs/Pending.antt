@@ -55,7 +55,7 @@ pending_at pending level = get_or pending level not_pending
 abbrev pub AreUndrawnAt : List PendingAt → Type 0
 AreUndrawnAt pending = EachLevel not_pending (λ level merge. merge ≡ undrawn_at level) level_count pending
 
--- ---- behind a step
+-- ---- after a step
 
 -- whether a step commits the merge into a level and begins the next one
 abbrev pub renews : (level seq : ℕ) → Bool

@@ -5,6 +5,6 @@ use Rattle.bucket_levels.specs.EachLevel.{EachLevel}
 use Rattle.bucket_levels.specs.Pairs.{Pair, empty_pair}
 use Rattle.bucket_levels.specs.Step.{IsPairAfter}
 
--- these are the files that the first levels have behind the step
+-- these are the files that the first levels have after the step
 abbrev pub ArePlanned : (seq : ℕ) → (fresh : Contents) → List Pair → (level : ℕ) → List Pair → Type 0
 ArePlanned seq fresh old level new = EachLevel empty_pair (IsPairAfter seq fresh old) level new

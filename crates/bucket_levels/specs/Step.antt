@@ -28,7 +28,7 @@ pub record IsPairAfter (seq : ℕ) (fresh : Contents) (old : List Pair) (i : ℕ
   pub curr : IsCurrAfter seq fresh old i new.curr
   pub snap : new.snap ≡ snap_after seq old i
 
--- the levels behind a ledger that closed with a fresh bucket
+-- the levels after a ledger that closed with a fresh bucket
 pub record IsStep (seq : ℕ) (fresh : Contents) (old new : List Pair) : Type 0 where
   pub count : length new ≡ level_count
   pub pairs : (i : ℕ) → i < level_count → IsPairAfter seq fresh old i (pair_at new i)

@@ -49,7 +49,7 @@ pub struct HandInBack {
     pub out: MergeOut,
 }
 
-/// The first place at which two texts differ, which is the length of the shorter one where the other goes on.
+/// The first offset at which two texts differ, which is the length of the shorter one where the other goes on.
 #[tactic(auto, using(crate::proofs::Differing::differences))]
 fn difference(a: &[u8], b: &[u8]) -> Option<u64>
     ensures differ { IfSome result (λ at. spec.DifferAt at a.now b.now) }
@@ -67,7 +67,7 @@ fn difference(a: &[u8], b: &[u8]) -> Option<u64>
     Some(both as u64)
 }
 
-/// The first place at which the files of two buckets differ.
+/// The first offset at which the files of two buckets differ.
 fn file_difference(a: &Bucket, b: &Bucket) -> Option<u64>
     ensures differ { IfSome result (λ at. spec.DifferAt at (file_of a.now) (file_of b.now)) }
     ensures same { IfNone result (a.now ≡ b.now) }

@@ -1,4 +1,4 @@
-//! The levels behind a ledger.
+//! The levels after a ledger.
 
 ghost use Rattle.std.specs.Prelude.{◌≡◌, ◌≤◌, ◌<◌, ◌+◌, length, map, set, get_or, IfOk, None};
 ghost use Rattle.bucket_core.specs.Bucket.{Contents};
@@ -22,8 +22,8 @@ use std::alloc::AllocError;
 use std::marker::Model;
 use std::sync::Arc;
 
-/// The eleven levels behind a ledger. Which merges are pending follows from their files and the ledger's number: what
-/// is kept of them is each job until it is drawn, and each outcome that was handed in.
+/// The eleven levels after a ledger. Which merges are pending follows from their files and the ledger's number: what is
+/// kept of them is each job until it is drawn, and each outcome that was handed in.
 #[derive(Drop)]
 pub struct Levels {
     pub(crate) pairs: Vec<LevelPair>,
@@ -81,7 +81,7 @@ fn renew(merges: &mut Vec<PendingMerge>, jobs: &mut Vec<Option<MergeJob>>)
 }
 
 impl Levels {
-    /// The levels with these files, from the first one on, behind ledger `seq`. The merge that is pending into each
+    /// The levels with these files, from the first one on, after ledger `seq`. The merge that is pending into each
     /// level follows from them; none of them is drawn or ready.
     pub fn restart(pairs: Vec<LevelPair>, seq: u32) -> Result<Levels, AllocError>
         requires { length pairs.items ≡ level_count }

@@ -13,7 +13,7 @@ mod size;
 mod spills;
 
 pub use hand_in::{HandInBack, HandInFault};
-pub use laws::{steps_are_in_order, steps_stand};
+pub use laws::{steps_are_in_order, steps_represent};
 pub use levels::Levels;
 pub use pair::LevelPair;
 pub use plan::LevelStep;

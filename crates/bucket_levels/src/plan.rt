@@ -25,7 +25,7 @@ use std::marker::Model;
 use std::sync::Arc;
 use std::sync::ledger::Ledger;
 
-/// The files that levels have behind a step, and the number of the ledger that it closes.
+/// The files that levels have after a step, and the number of the ledger that it closes.
 #[derive(Drop)]
 pub struct LevelStep {
     pub(crate) pairs: Vec<LevelPair>,
@@ -50,14 +50,14 @@ impl Model for LevelStep {
 }
 
 impl LevelStep {
-    /// The hash of the levels behind the step, as `Levels::hash` answers it then.
+    /// The hash of the levels after the step, as `Levels::hash` answers it then.
     pub fn hash(&self) -> Hash
         ensures { result ≡ list_hash self.now.pairs }
     {
         hash_of_levels(self.pairs.as_slice())
     }
 
-    /// How many bytes the files behind the step have.
+    /// How many bytes the files after the step have.
     pub fn file_total(&self) -> u128
         requires { length self.now.pairs ≤ 11 }
         ensures { result ≡ size_of_levels self.now.pairs }
@@ -66,7 +66,7 @@ impl LevelStep {
     }
 }
 
-/// Makes a merge. One that is handed back is want of memory.
+/// Makes a merge. One that is handed back is an allocation failure.
 fn merged<L: Ledger>(job: MergeJob, steps: &mut Steps<L>) -> Result<Arc<Bucket>, AllocError>
     ensures merge { IfOk result (λ bucket. IsMerge job.level job.curr job.snap bucket.value) }
     ensures most { steps.new ≤ steps.old + count_of job.curr + count_of job.snap }
@@ -78,7 +78,7 @@ fn merged<L: Ledger>(job: MergeJob, steps: &mut Steps<L>) -> Result<Arc<Bucket>,
 }
 
 impl Levels {
-    /// The snap of a level, 0 to 10, behind a step.
+    /// The snap of a level, 0 to 10, after a step.
     fn snap_after(&self, level: u32, seq: u32) -> &Arc<Bucket>
         requires { level ≤ 10 }
         ensures { result.now.value ≡ snap_after seq self.now.pairs level }
@@ -89,7 +89,7 @@ impl Levels {
         &self.pair(level).snap
     }
 
-    /// The curr of level 0 behind a step. Where the level spills, the fresh bucket is merged onto nothing, and stays as
+    /// The curr of level 0 after a step. Where the level spills, the fresh bucket is merged onto nothing, and stays as
     /// it is; else its hash is never asked for.
     #[tactic(auto, using(crate::proofs::Unmerged::spilled_first))]
     fn first_curr<L: Ledger>(
@@ -107,9 +107,9 @@ impl Levels {
         merge_fresh(&self.pair(0).curr, fresh, steps)
     }
 
-    /// The curr of a level from 1 to 10 behind a step, onto which the snap above is merged where the level above
-    /// spills. Where the level spills too, that snap is merged onto nothing, and stays as it is. A merge that is ready
-    /// isn't made again.
+    /// The curr of a level from 1 to 10 after a step, onto which the snap above is merged where the level above spills.
+    /// Where the level spills too, that snap is merged onto nothing, and stays as it is. A merge that is ready isn't
+    /// made again.
     #[tactic(auto, using(crate::proofs::Working::currs))]
     fn curr_below<L: Ledger>(
         &self,
@@ -139,7 +139,7 @@ impl Levels {
         merged(MergeJob::new(level, seq, curr, snap), steps)
     }
 
-    /// The curr of a level, 0 to 10, behind a step.
+    /// The curr of a level, 0 to 10, after a step.
     fn curr_after<L: Ledger>(
         &self,
         level: u32,
@@ -158,7 +158,7 @@ impl Levels {
         self.curr_below(level, seq, steps)
     }
 
-    /// The files of a level, 0 to 10, behind a step.
+    /// The files of a level, 0 to 10, after a step.
     fn pair_after<L: Ledger>(
         &self,
         level: u32,
@@ -176,9 +176,9 @@ impl Levels {
         Ok(LevelPair { curr, snap })
     }
 
-    /// The step of ledger `seq`, the one behind the levels' own, with the bucket of what it changed. It raises the
-    /// steps by at most the items of the files that it merges, which are none where the outcome is ready. The levels
-    /// stay as they are.
+    /// The step of ledger `seq`, the one after the levels' own, with the bucket of what it changed. It raises the steps
+    /// by at most the items of the files that it merges, which are none where the outcome is ready. The levels stay as
+    /// they are.
     pub fn plan_batch<L: Ledger>(
         &self,
         seq: u32,

@@ -28,7 +28,7 @@ pub(crate) fn renews(level: u32, seq: u32) -> bool
     level > 0 && spills(level - 1, seq)
 }
 
-/// When the merge began that is pending into a level, 1 to 10, behind ledger `seq`.
+/// When the merge began that is pending into a level, 1 to 10, after ledger `seq`.
 pub(crate) fn start_of(level: u32, seq: u32) -> u32
     requires low { 1 ≤ level }
     requires high { level ≤ 10 }

@@ -1,29 +1,14 @@
 -- What the pass over two buckets makes is their merge, and has a file.
-use Rattle.std.proofs.Common.{◌≡◌, ℕ, ◌≤◌, pos, Bool, true, false, cond, T, List, [], ◌∷◌, map, max, Option, Some, None}
-use Rattle.std.proofs.Common.{refl, sym, ap}
-use Rattle.std.proofs.Common.{subst, ◌∙◌, All, eqb, arith, length, ◌++◌, ◌⊎◌, inl, inr}
-use Rattle.std.proofs.lemmas.Bool.{cases_lt}
-use Rattle.std.proofs.lemmas.List.{length-append}
-use Rattle.std.specs.Prelude.{option_and_then}
-use Rattle.std.proofs.lemmas.List.Elements.{All-from_recursion, recursion_from_All}
-use Rattle.std.specs.List.{AllByRecursion}
-use Rattle.std.specs.FinMap.{entries, entries_sorted, get-entries, entries-from_sorted}
-use Rattle.std.specs.FinMap.{get-from_sorted}
-use Rattle.std.specs.FinMap.Entries.{find}
-use Rattle.bucket_core.specs.ledger_types.declared.key.LedgerKey.{LedgerKey}
-use Rattle.bucket_core.specs.ledger_types.declared.entry.LedgerEntry.{LedgerEntry}
+use Rattle.bucket_merge.proofs.Prelude as prelude
+use prelude.{◌≡◌, ℕ, ◌≤◌, pos, Bool, true, false, cond, T, List, [], ◌∷◌, map, max, Option, Some, None, refl, sym, ap}
+use prelude.{subst, ◌∙◌, All, eqb, arith, length, ◌++◌, ◌⊎◌, inl, inr, cases_lt, length-append, option_and_then}
+use prelude.{All-from_recursion, recursion_from_All, AllByRecursion, entries, entries_sorted, get-entries}
+use prelude.{entries-from_sorted, get-from_sorted, find, LedgerKey, LedgerEntry, key_cmp, i32, ledger_entry}
+use prelude.{bucket_entry, IsEncodable, max_item_len, i32_len, Change, Init, Live, Dead, Contents, change_at}
+use prelude.{version_of, IsUnderKey, item_of, items_of, HasFile, joined, kept, merged_change, greater_version, IsMerge}
+use prelude.{Pair, put, walk, changes_of, filled_with, merge_of}
 use Rattle.bucket_core.specs.ledger_types.declared.bucket.BucketEntry.TheVariants as bucket
-use Rattle.bucket_core.specs.ledger_types.KeyOrder.{key_cmp}
-use Rattle.xdr_core.specs.Leaves.{i32}
-use Rattle.bucket_core.specs.xdr_entries.Entries.{ledger_entry}
-use Rattle.bucket_core.specs.xdr_entries.Keys.{bucket_entry}
-use Rattle.bucket_items.specs.MarkedItem.{IsSpellable, max_item_len}
-use Rattle.bucket_items.proofs.Holding.{i32_len}
-use Rattle.bucket_core.specs.Bucket.{Change, Init, Live, Dead, Contents, change_at, version_of, IsUnderKey}
-use Rattle.bucket_core.specs.File.{item_of, items_of, HasFile}
 use Rattle.bucket_core.proofs.Files.{nothing_has_file}
-use Rattle.bucket_merge.specs.Merge.{joined, kept, merged_change, greater_version, IsMerge}
-use Rattle.bucket_merge.specs.Walk.{Pair, put, walk, changes_of, filled_with, merge_of}
 use Rattle.bucket_merge.proofs.WalkLaws.{Sorted, along, walk_in_order, walk_merges}
 
 -- ---- key by key
@@ -105,21 +90,21 @@ merged_keyed level k (Some a) None ha hb c is = kept_keyed level k a (ha a refl)
 merged_keyed level k None (Some b) ha hb c is = kept_keyed level k b (hb b refl) c is
 merged_keyed level k (Some a) (Some b) ha hb c is = joined_keyed level k a b (hb b refl) c is
 
--- ---- spelled
+-- ---- encoded
 
 same_length : (e : LedgerEntry)
-    → length (bucket_entry.spell (bucket.Init e)) ≡ length (bucket_entry.spell (bucket.Live e))
+    → length (bucket_entry.encoding (bucket.Init e)) ≡ length (bucket_entry.encoding (bucket.Live e))
 unfolding bucket_entry
 same_length e = omega (
   arith,
-  length-append (i32.spell (pos 2)) (ledger_entry.spell e),
-  length-append (i32.spell (pos 0)) (ledger_entry.spell e),
+  length-append (i32.encoding (pos 2)) (ledger_entry.encoding e),
+  length-append (i32.encoding (pos 0)) (ledger_entry.encoding e),
   i32_len (pos 2),
   i32_len (pos 0),
 )
 
--- an entry that is spelled as made is spelled as changed, and the other way round
-init_as_live : (e : LedgerEntry) → IsSpellable (bucket.Init e) → IsSpellable (bucket.Live e)
+-- an entry that has an encoding as made has one as changed, and the other way round
+init_as_live : (e : LedgerEntry) → IsEncodable (bucket.Init e) → IsEncodable (bucket.Live e)
 unfolding bucket_entry
 init_as_live e h = record {
   within = h.within;
@@ -127,7 +112,7 @@ init_as_live e h = record {
   short = subst (λ (n : ℕ). n ≤ max_item_len) (same_length e) h.short;
 }
 
-live_as_init : (e : LedgerEntry) → IsSpellable (bucket.Live e) → IsSpellable (bucket.Init e)
+live_as_init : (e : LedgerEntry) → IsEncodable (bucket.Live e) → IsEncodable (bucket.Init e)
 unfolding bucket_entry
 live_as_init e h = record {
   within = h.within;
@@ -135,84 +120,84 @@ live_as_init e h = record {
   short = subst (λ (n : ℕ). n ≤ max_item_len) (sym (same_length e)) h.short;
 }
 
-abbrev pub IsSpelled : Pair → Type 0
-IsSpelled x = IsSpellable (item_of x)
+abbrev pub IsEncoded : Pair → Type 0
+IsEncoded x = IsEncodable (item_of x)
 
-abbrev pub AreSpelled : List Pair → Type 0
-AreSpelled es = AllByRecursion IsSpelled es
+abbrev pub AreEncoded : List Pair → Type 0
+AreEncoded es = AllByRecursion IsEncoded es
 
--- what is put is spelled
-abbrev PutSpelled : LedgerKey → Option Change → Type 0
-PutSpelled k None = Unit {0}
-PutSpelled k (Some c) = IsSpelled (k, c)
+-- what is put has an encoding
+abbrev PutEncoded : LedgerKey → Option Change → Type 0
+PutEncoded k None = Unit {0}
+PutEncoded k (Some c) = IsEncoded (k, c)
 
-put_spelled : (k : LedgerKey) (o : Option Change) (zs : List Pair) → PutSpelled k o → AreSpelled zs
-    → AreSpelled (put k o zs)
-put_spelled k None zs p h = h
-put_spelled k (Some c) zs p h = (p, h)
+put_encoded : (k : LedgerKey) (o : Option Change) (zs : List Pair) → PutEncoded k o → AreEncoded zs
+    → AreEncoded (put k o zs)
+put_encoded k None zs p h = h
+put_encoded k (Some c) zs p h = (p, h)
 
-dead_spelled : (k : LedgerKey) (b : Bool) → IsSpelled (k, Dead) → PutSpelled k (cond b None (Some Dead))
-dead_spelled k true h = tt
-dead_spelled k false h = h
+dead_encoded : (k : LedgerKey) (b : Bool) → IsEncoded (k, Dead) → PutEncoded k (cond b None (Some Dead))
+dead_encoded k true h = tt
+dead_encoded k false h = h
 
-kept_spelled : (level : ℕ) (k : LedgerKey) (c : Change) → IsSpelled (k, c) → PutSpelled k (kept level c)
-kept_spelled level k (Init e) h = h
-kept_spelled level k (Live e) h = h
-kept_spelled level k Dead h = dead_spelled k (eqb level 10) h
+kept_encoded : (level : ℕ) (k : LedgerKey) (c : Change) → IsEncoded (k, c) → PutEncoded k (kept level c)
+kept_encoded level k (Init e) h = h
+kept_encoded level k (Live e) h = h
+kept_encoded level k Dead h = dead_encoded k (eqb level 10) h
 
-joined_spelled : (level : ℕ) (k : LedgerKey) (a b : Change) → IsSpelled (k, b)
-    → PutSpelled k (option_and_then (kept level) (joined a b))
-joined_spelled level k Dead (Init e) h = kept_spelled level k (Live e) (init_as_live e h)
-joined_spelled level k (Init was) (Live e) h = kept_spelled level k (Init e) (live_as_init e h)
-joined_spelled level k (Init was) Dead h = tt
-joined_spelled level k a b h = kept_spelled level k b h
+joined_encoded : (level : ℕ) (k : LedgerKey) (a b : Change) → IsEncoded (k, b)
+    → PutEncoded k (option_and_then (kept level) (joined a b))
+joined_encoded level k Dead (Init e) h = kept_encoded level k (Live e) (init_as_live e h)
+joined_encoded level k (Init was) (Live e) h = kept_encoded level k (Init e) (live_as_init e h)
+joined_encoded level k (Init was) Dead h = tt
+joined_encoded level k a b h = kept_encoded level k b h
 
--- the items of a merge are spelled where those of both lists are
-abbrev StaySpelled : List Pair → List Pair → List Pair → Type 0
-StaySpelled xs ys zs = AreSpelled xs → AreSpelled ys → AreSpelled zs
+-- the items of a merge have encodings where those of both lists have
+abbrev StayEncoded : List Pair → List Pair → List Pair → Type 0
+StayEncoded xs ys zs = AreEncoded xs → AreEncoded ys → AreEncoded zs
 
-walk_spelled : (level : ℕ) (xs ys : List Pair) → Sorted xs → Sorted ys → StaySpelled xs ys (walk level xs ys)
-walk_spelled level = along level StaySpelled (λ a b. tt)
-    (λ x xs ys zs ax ay h a b. put_spelled x.0 (kept level x.1) zs (kept_spelled level x.0 x.1 a.0) (h a.1 b))
-    (λ y xs ys zs ax ay h a b. put_spelled y.0 (kept level y.1) zs (kept_spelled level y.0 y.1 b.0) (h a b.1))
+walk_encoded : (level : ℕ) (xs ys : List Pair) → Sorted xs → Sorted ys → StayEncoded xs ys (walk level xs ys)
+walk_encoded level = along level StayEncoded (λ a b. tt)
+    (λ x xs ys zs ax ay h a b. put_encoded x.0 (kept level x.1) zs (kept_encoded level x.0 x.1 a.0) (h a.1 b))
+    (λ y xs ys zs ax ay h a b. put_encoded y.0 (kept level y.1) zs (kept_encoded level y.0 y.1 b.0) (h a b.1))
     (λ x y xs ys zs e ax ay h a b.
-    put_spelled y.0 (option_and_then (kept level) (joined x.1 y.1)) zs (joined_spelled level y.0 x.1 y.1 b.0)
+    put_encoded y.0 (option_and_then (kept level) (joined x.1 y.1)) zs (joined_encoded level y.0 x.1 y.1 b.0)
     (h a.1 b.1))
 
--- ---- the whole
+-- ---- entire contents
 
-each_spelled : (es : List Pair) → AllByRecursion IsSpellable (map item_of es) → AreSpelled es
-each_spelled [] h = tt
-each_spelled (x ∷ es) h = (h.0, each_spelled es h.1)
+each_encoded : (es : List Pair) → AllByRecursion IsEncodable (map item_of es) → AreEncoded es
+each_encoded [] h = tt
+each_encoded (x ∷ es) h = (h.0, each_encoded es h.1)
 
-items_spelled : (es : List Pair) → AreSpelled es → AllByRecursion IsSpellable (map item_of es)
-items_spelled [] h = tt
-items_spelled (x ∷ es) h = (h.0, items_spelled es h.1)
+items_encoded : (es : List Pair) → AreEncoded es → AllByRecursion IsEncodable (map item_of es)
+items_encoded [] h = tt
+items_encoded (x ∷ es) h = (h.0, items_encoded es h.1)
 
-pub entries_spelled : (c : Contents) → HasFile c → AreSpelled (changes_of c)
-entries_spelled None h = tt
-entries_spelled (Some filled) h =
-    each_spelled (entries filled.changes) (recursion_from_All IsSpellable (items_of (Some filled)) h.spelled).1
+pub entries_encoded : (c : Contents) → HasFile c → AreEncoded (changes_of c)
+entries_encoded None h = tt
+entries_encoded (Some filled) h =
+    each_encoded (entries filled.changes) (recursion_from_All IsEncodable (items_of (Some filled)) h.encoded).1
 
--- META of the greater version is spelled where those of both are
-abbrev MetaSpelled : Option ℕ → Type 0
-MetaSpelled None = Unit {0}
-MetaSpelled (Some v) = IsSpellable (bucket.Meta v)
+-- META of the greater version has an encoding where those of both have
+abbrev MetaEncoded : Option ℕ → Type 0
+MetaEncoded None = Unit {0}
+MetaEncoded (Some v) = IsEncodable (bucket.Meta v)
 
-meta_spelled : (c : Contents) → HasFile c → MetaSpelled (version_of c)
-meta_spelled None h = tt
-meta_spelled (Some filled) h = (recursion_from_All IsSpellable (items_of (Some filled)) h.spelled).0
+meta_encoded : (c : Contents) → HasFile c → MetaEncoded (version_of c)
+meta_encoded None h = tt
+meta_encoded (Some filled) h = (recursion_from_All IsEncodable (items_of (Some filled)) h.encoded).0
 
 max_is : (v w : ℕ) → (max v w ≡ v) ⊎ (max v w ≡ w)
 max_is v w = elim (cases_lt v w) [ inl lt ↦ inr (omega arith) | inr le ↦ inl (omega arith) ]
 
-greater_spelled : (v w : Option ℕ) → MetaSpelled v → MetaSpelled w → MetaSpelled (greater_version v w)
-greater_spelled None w a b = b
-greater_spelled (Some v) None a b = a
-greater_spelled (Some v) (Some w) a b =
+greater_encoded : (v w : Option ℕ) → MetaEncoded v → MetaEncoded w → MetaEncoded (greater_version v w)
+greater_encoded None w a b = b
+greater_encoded (Some v) None a b = a
+greater_encoded (Some v) (Some w) a b =
     elim (max_is v w) [
-      | inl e ↦ subst (λ (n : ℕ). IsSpellable (bucket.Meta n)) (sym e) a
-      | inr e ↦ subst (λ (n : ℕ). IsSpellable (bucket.Meta n)) (sym e) b
+      | inl e ↦ subst (λ (n : ℕ). IsEncodable (bucket.Meta n)) (sym e) a
+      | inr e ↦ subst (λ (n : ℕ). IsEncodable (bucket.Meta n)) (sym e) b
     ]
 
 -- the items of a filled bucket
@@ -222,21 +207,21 @@ items_filled v es s =
     ap (λ (xs : List Pair). bucket.Meta v ∷ map item_of xs) (entries-from_sorted key_cmp es s)
 
 filled_has_file : (level : ℕ) (a b : Contents) → HasFile a → HasFile b → (v : Option ℕ)
-    → greater_version (version_of a) (version_of b) ≡ v → MetaSpelled v
+    → greater_version (version_of a) (version_of b) ≡ v → MetaEncoded v
     → HasFile (filled_with v (walk level (changes_of a) (changes_of b)))
 filled_has_file level a b ha hb None e m = nothing_has_file
 filled_has_file level a b ha hb (Some v) e m =
     let es = walk level (changes_of a) (changes_of b) in
-    let spelled = walk_spelled level (changes_of a) (changes_of b) (changes_sorted a) (changes_sorted b)
-    (entries_spelled a ha) (entries_spelled b hb) in
+    let encoded = walk_encoded level (changes_of a) (changes_of b) (changes_sorted a) (changes_sorted b)
+    (entries_encoded a ha) (entries_encoded b hb) in
     record {
       keyed = λ k c is. merged_keyed level k (change_at a k) (change_at b k) (ha.keyed k) (hb.keyed k) c
           (sym (filled_change level a b k (Some v) e) ∙ is);
-      spelled = subst (All IsSpellable) (sym (items_filled v es (walk_sorted level a b)))
-          (All-from_recursion IsSpellable (bucket.Meta v ∷ map item_of es) (m, items_spelled es spelled));
+      encoded = subst (All IsEncodable) (sym (items_filled v es (walk_sorted level a b)))
+          (All-from_recursion IsEncodable (bucket.Meta v ∷ map item_of es) (m, items_encoded es encoded));
     }
 
 pub merge_has_file : (level : ℕ) (a b : Contents) → HasFile a → HasFile b → HasFile (merge_of level a b)
 merge_has_file level a b ha hb =
     filled_has_file level a b ha hb (greater_version (version_of a) (version_of b)) refl
-    (greater_spelled (version_of a) (version_of b) (meta_spelled a ha) (meta_spelled b hb))
+    (greater_encoded (version_of a) (version_of b) (meta_encoded a ha) (meta_encoded b hb))

@@ -1,33 +1,16 @@
 -- Both sides of a merge, from the first items to the last ones.
-use Rattle.std.proofs.Common.{◌≡◌, ℕ, ◌+◌, ◌<◌, List, [], ◌∷◌, ◌++◌, length, Option, Some, None, refl, sym, ap}
-use Rattle.std.proofs.Common.{subst}
-use Rattle.std.proofs.Common.{◌∙◌, append_assoc, arith, true, false, max, suc, Bool, nat_eq}
-use Rattle.std.proofs.lemmas.Bool.{ne_eqb, true≢false}
-use Rattle.std.specs.Prelude.{IsSomeAnd, if◌then◌else◌}
+use Rattle.bucket_merge.proofs.Prelude as prelude
+use prelude.{◌≡◌, ℕ, ◌+◌, ◌<◌, List, [], ◌∷◌, ◌++◌, length, Option, Some, None, refl, sym, ap, subst, ◌∙◌, append_assoc}
+use prelude.{arith, true, false, max, suc, Bool, nat_eq, ne_eqb, true≢false, IsSomeAnd, if◌then◌else◌, not, flat_map}
+use prelude.{append-nil, length-map, big_bytes, i32, u32, mark, bucket_entry, BucketEntry, BucketItem, Shows, record_of}
+use prelude.{Contents, version_of, item_of, items_of, file_of, HasFile, TakesFirst, Side, greater_version, Pair, walk}
+use prelude.{changes_of, filled_with, merge_of, Has, GoesTo, records_of, size_of, meta_of, Nearer}
 use Rattle.std.specs.Option.{is_some, is_none}
-use Rattle.std.specs.Prelude.{not}
-use Rattle.std.specs.List.{flat_map}
-use Rattle.std.proofs.lemmas.List.{append-nil, length-map}
-use Rattle.byteorder.specs.Endian.{big_bytes}
-use Rattle.xdr_core.specs.Leaves.{i32, u32, mark}
 use Rattle.xdr_core.specs.Combinators.{constant}
-use Rattle.bucket_core.specs.xdr_entries.Keys.{bucket_entry}
-use Rattle.bucket_core.specs.ledger_types.declared.bucket.BucketEntry.{BucketEntry}
 use Rattle.bucket_core.specs.ledger_types.declared.bucket.BucketEntry.TheVariants as bucket
-use Rattle.bucket_items.specs.declared.item.BucketItem.{BucketItem}
-use Rattle.bucket_items.specs.Item.{Shows}
-use Rattle.bucket_items.specs.MarkedItem.{record_of}
-use Rattle.bucket_core.specs.Bucket.{Contents, version_of}
-use Rattle.bucket_core.specs.File.{item_of, items_of, file_of, HasFile}
-use Rattle.bucket_core.specs.Cursor.{TakesFirst}
 use Rattle.bucket_core.proofs.Rows.{under_keys}
-use Rattle.bucket_merge.specs.declared.side.Side.{Side}
-use Rattle.bucket_merge.specs.Merge.{greater_version}
-use Rattle.bucket_merge.specs.Walk.{Pair, walk, changes_of, filled_with, merge_of}
-use Rattle.bucket_merge.specs.Pending.{Has, GoesTo, records_of, size_of, meta_of}
-use Rattle.bucket_merge.specs.Taking.{Nearer}
 use Rattle.bucket_merge.proofs.Stepping.{hand_is_there}
-use Rattle.bucket_merge.proofs.Merging.{entries_spelled, items_filled, walk_sorted}
+use Rattle.bucket_merge.proofs.Merging.{entries_encoded, items_filled, walk_sorted}
 
 -- ---- the first items
 
@@ -38,7 +21,7 @@ side_begins None all ahead meta side h is t u =
     record {
       first = subst (λ (x : List BucketEntry). TakesFirst x side.hand side.ahead) t.1 u;
       keyed = tt;
-      spelled = tt;
+      encoded = tt;
     }
 side_begins (Some filled) all ahead meta side h is t u =
     let first : TakesFirst (items_of (Some filled)) meta ahead =
@@ -46,7 +29,7 @@ side_begins (Some filled) all ahead meta side h is t u =
     record {
       first = subst (λ (x : List BucketEntry). TakesFirst x side.hand side.ahead) first.1 u;
       keyed = under_keys filled.changes h.keyed;
-      spelled = entries_spelled (Some filled) h;
+      encoded = entries_encoded (Some filled) h;
     }
 
 -- ---- how many are left
@@ -78,7 +61,7 @@ pub meta_record : (v : ℕ) (file : List ℕ)
 unfolding bucket_entry mark u32 i32 constant
 meta_record v file = simp append_assoc
 
--- ---- the whole
+-- ---- the entire file
 
 filled_file : (level : ℕ) (a b : Contents) (v : ℕ)
     → record_of (bucket.Meta v) ++ records_of (walk level (changes_of a) (changes_of b))
@@ -86,20 +69,20 @@ filled_file : (level : ℕ) (a b : Contents) (v : ℕ)
 filled_file level a b v = sym (ap (flat_map record_of)
     (items_filled v (walk level (changes_of a) (changes_of b)) (walk_sorted level a b)))
 
-pub whole_file : (level : ℕ) (a b : Contents)
+pub entire_file : (level : ℕ) (a b : Contents)
     → meta_of (greater_version (version_of a) (version_of b)) ++ records_of (walk level (changes_of a) (changes_of b))
     ≡ file_of (merge_of level a b)
-whole_file level None None = refl
-whole_file level None (Some g) = filled_file level None (Some g) g.version
-whole_file level (Some f) None = filled_file level (Some f) None f.version
-whole_file level (Some f) (Some g) = filled_file level (Some f) (Some g) (max f.version g.version)
+entire_file level None None = refl
+entire_file level None (Some g) = filled_file level None (Some g) g.version
+entire_file level (Some f) None = filled_file level (Some f) None f.version
+entire_file level (Some f) (Some g) = filled_file level (Some f) (Some g) (max f.version g.version)
 
 -- ---- from the first step to the last one
 
-pub stepped : (level : ℕ) (whole before after : List ℕ) (one two older newer : Side)
-    (g : GoesTo level whole before one two) → Nearer level g.old g.new before after older newer
-    → GoesTo level whole after older newer
-stepped level whole before after one two older newer g n = record {
+pub stepped : (level : ℕ) (entire before after : List ℕ) (one two older newer : Side)
+    (g : GoesTo level entire before one two) → Nearer level g.old g.new before after older newer
+    → GoesTo level entire after older newer
+stepped level entire before after one two older newer g n = record {
   old = n.left_old;
   new = n.left_new;
   has_old = n.has_old;
@@ -107,10 +90,10 @@ stepped level whole before after one two older newer g n = record {
   rest = n.same ∙ g.rest;
 }
 
-pub step_shortens : (level : ℕ) (whole before after : List ℕ) (one two older newer : Side)
-    (g : GoesTo level whole before one two) → Nearer level g.old g.new before after older newer
+pub step_shortens : (level : ℕ) (entire before after : List ℕ) (one two older newer : Side)
+    (g : GoesTo level entire before one two) → Nearer level g.old g.new before after older newer
     → size_of older + size_of newer < size_of one + size_of two
-step_shortens level whole before after one two older newer g n =
+step_shortens level entire before after one two older newer g n =
     omega (
       arith,
       n.less,
@@ -154,23 +137,23 @@ none_over [] (y ∷ ys) r is e =
 none_over (x ∷ xs) new r is e = absurd (true≢false (sym e ∙ is ∙ no_sum (length xs) (length new)))
 
 -- where nothing is left, all is written
-pub all_written : (level : ℕ) (whole written : List ℕ) (older newer : Side)
-    (g : GoesTo level whole written older newer) → (g.old ≡ []) × (g.new ≡ []) → written ≡ whole
-all_written level whole written older newer g none =
+pub all_written : (level : ℕ) (entire written : List ℕ) (older newer : Side)
+    (g : GoesTo level entire written older newer) → (g.old ≡ []) × (g.new ≡ []) → written ≡ entire
+all_written level entire written older newer g none =
     sym (append-nil written)
     ∙ (λ i. written ++ records_of (walk level (sym none.0 i) (sym none.1 i)))
     ∙ g.rest
 
 -- and nothing is ahead
-pub all_taken : (level : ℕ) (whole written : List ℕ) (older newer : Side)
-    (g : GoesTo level whole written older newer) → (g.old ≡ []) × (g.new ≡ [])
+pub all_taken : (level : ℕ) (entire written : List ℕ) (older newer : Side)
+    (g : GoesTo level entire written older newer) → (g.old ≡ []) × (g.new ≡ [])
     → (length older.ahead ≡ 0) × (length newer.ahead ≡ 0)
-all_taken level whole written older newer g none = (
+all_taken level entire written older newer g none = (
   none_ahead older (subst (Has older) none.0 g.has_old),
   none_ahead newer (subst (Has newer) none.1 g.has_new),
 )
 
--- META, and behind it the records of the pass
+-- META, and after it the records of the pass
 pub file_written : (level : ℕ) (a b : Contents) (v : Option ℕ) (none meta file : List ℕ) → none ≡ []
     → meta ≡ none ++ meta_of v → v ≡ greater_version (version_of a) (version_of b)
     → file ≡ meta ++ records_of (walk level (changes_of a) (changes_of b)) → file ≡ file_of (merge_of level a b)
@@ -178,4 +161,4 @@ file_written level a b v none meta file n m is f =
     let records : List ℕ = records_of (walk level (changes_of a) (changes_of b)) in
     f ∙ ap (λ (t : List ℕ). t ++ records) (m ∙ ap (λ (t : List ℕ). t ++ meta_of v) n)
     ∙ ap (λ (o : Option ℕ). meta_of o ++ records) is
-    ∙ whole_file level a b
+    ∙ entire_file level a b

@@ -1,38 +1,21 @@
 -- One step of a merge.
-use Rattle.std.proofs.Common.{◌≡◌, ℕ, ◌+◌, ◌<◌, List, [], ◌∷◌, ◌++◌, length, Option, Some, None, refl, sym, ap}
-use Rattle.std.proofs.Common.{subst}
-use Rattle.std.proofs.Common.{◌∙◌, append_assoc, arith}
-use Rattle.std.specs.Prelude.{option_and_then, IsSomeAnd, Result, OnOk}
-use Rattle.std.proofs.lemmas.List.{append-nil}
-use Rattle.std.proofs.lemmas.Result.{on_ok_weaker}
-use Rattle.std.specs.declared.cmp.Ordering.{Ordering}
-use Rattle.std.specs.declared.cmp.Ordering.TheVariants.{Less, Equal, Greater}
-use Rattle.bucket_core.specs.ledger_types.declared.key.LedgerKey.{LedgerKey}
-use Rattle.bucket_core.specs.ledger_types.declared.bucket.BucketEntry.{BucketEntry}
-use Rattle.bucket_core.specs.ledger_types.KeyOrder.{key_cmp}
-use Rattle.bucket_core.proofs.ledger_types_proofs.KeyOrdering.{keys_exact}
-use Rattle.bucket_items.specs.declared.item.BucketItem.{BucketItem}
-use Rattle.bucket_items.specs.Item.{Shows}
-use Rattle.bucket_items.specs.KeyText.{IsKeyText, OrdersKeys}
-use Rattle.bucket_items.specs.MarkedItem.{record_of}
-use Rattle.bucket_core.specs.Bucket.{Change, Init, Live, Dead}
-use Rattle.bucket_core.specs.File.{item_of}
-use Rattle.bucket_core.specs.Cursor.{TakesFirst}
+use Rattle.bucket_merge.proofs.Prelude.{◌≡◌, ℕ, ◌+◌, ◌<◌, List, [], ◌∷◌, ◌++◌, length, Option, Some, None, refl, sym}
+use Rattle.bucket_merge.proofs.Prelude.{ap, subst, ◌∙◌, append_assoc, arith, option_and_then, IsSomeAnd, Result, OnOk}
+use Rattle.bucket_merge.proofs.Prelude.{append-nil, on_ok_weaker, Ordering, Less, Equal, Greater, LedgerKey}
+use Rattle.bucket_merge.proofs.Prelude.{BucketEntry, key_cmp, keys_exact, BucketItem, Shows, IsKeyText, record_of}
+use Rattle.bucket_merge.proofs.Prelude.{Change, Init, Live, Dead, item_of, TakesFirst, Side, kept, joined, Pair, put}
+use Rattle.bucket_merge.proofs.Prelude.{by_order, walk, States, Has, records_of, first_key, Nearer}
+use Rattle.bucket_items.specs.KeyText.{OrdersKeys}
 use Rattle.bucket_core.proofs.Judging.{entry_key_text, init_key_text, dead_key_text}
-use Rattle.bucket_merge.specs.declared.side.Side.{Side}
-use Rattle.bucket_merge.specs.Merge.{kept, joined}
-use Rattle.bucket_merge.specs.Walk.{Pair, put, by_order, walk}
-use Rattle.bucket_merge.specs.Pending.{Tells, Has, records_of}
-use Rattle.bucket_merge.specs.Taking.{first_key, Nearer}
 
 -- ---- what is in hand
 
-pub hand_tells : (side : Side) (x : Pair) (xs : List Pair) (item : BucketItem) → Has side (x ∷ xs)
-    → side.hand ≡ Some item → Tells item x.0 x.1
-hand_tells side x xs item h is = record {
+pub hand_states : (side : Side) (x : Pair) (xs : List Pair) (item : BucketItem) → Has side (x ∷ xs)
+    → side.hand ≡ Some item → States item x.0 x.1
+hand_states side x xs item h is = record {
   shown = subst (λ (o : Option BucketItem). IsSomeAnd o (λ here. Shows here here.bytes.now (item_of x))) is h.first.0;
   keyed = h.keyed.0;
-  spelled = h.spelled.0;
+  encoded = h.encoded.0;
 }
 
 pub hand_is_there : (side : Side) (x : Pair) (xs : List Pair) → Has side (x ∷ xs) → side.hand ≡ None → ⊥
@@ -44,15 +27,15 @@ pub advanced : (old new : Side) (x : Pair) (xs : List Pair) → Has old (x ∷ x
 advanced old new x xs h t = record {
   first = subst (λ (ahead : List BucketEntry). TakesFirst ahead new.hand new.ahead) h.first.1 t;
   keyed = h.keyed.1;
-  spelled = h.spelled.1;
+  encoded = h.encoded.1;
 }
 
-key_told : (item : BucketItem) (k : LedgerKey) (c : Change) → Tells item k c → IsKeyText item.key.now k
-key_told item k (Init e) t = subst (IsKeyText item.key.now) t.keyed
+key_stated : (item : BucketItem) (k : LedgerKey) (c : Change) → States item k c → IsKeyText item.key.now k
+key_stated item k (Init e) t = subst (IsKeyText item.key.now) t.keyed
     (init_key_text item.key.now e t.shown.key (t.shown.reads.within, t.shown.reads.sized))
-key_told item k (Live e) t = subst (IsKeyText item.key.now) t.keyed
+key_stated item k (Live e) t = subst (IsKeyText item.key.now) t.keyed
     (entry_key_text item.key.now e t.shown.key (t.shown.reads.within, t.shown.reads.sized))
-key_told item k Dead t = dead_key_text item.key.now k t.shown.key (t.shown.reads.within, t.shown.reads.sized)
+key_stated item k Dead t = dead_key_text item.key.now k t.shown.key (t.shown.reads.within, t.shown.reads.sized)
 
 -- ---- which key is first
 
@@ -62,7 +45,7 @@ pub both_in_hand : (older newer : Side) (a b : BucketItem) (r : Ordering) (old n
 both_in_hand older newer a b r [] new ha hb o h g = absurd (cc (ha, h.first.0))
 both_in_hand older newer a b r (x ∷ xs) [] ha hb o h g = absurd (cc (hb, g.first.0))
 both_in_hand older newer a b r (x ∷ xs) (y ∷ ys) ha hb o h g =
-    o x.0 y.0 (key_told a x.0 x.1 (hand_tells older x xs a h ha)) (key_told b y.0 y.1 (hand_tells newer y ys b g hb))
+    o x.0 y.0 (key_stated a x.0 x.1 (hand_states older x xs a h ha)) (key_stated b y.0 y.1 (hand_states newer y ys b g hb))
 
 pub older_in_hand : (older newer : Side) (a : BucketItem) (old new : List Pair) → older.hand ≡ Some a
     → newer.hand ≡ None → Has older old → Has newer new → Less ≡ first_key old new
@@ -114,10 +97,10 @@ after_both level x y xs ys e = ap (λ (o : Ordering). by_order o
     (put y.0 (kept level y.1) (walk level (x ∷ xs) ys))) e
 
 -- what was put and what follows
-goes_on : (before after : List ℕ) (k : LedgerKey) (o : Option Change) (zs whole : List Pair)
-    → after ≡ before ++ records_of (put k o []) → whole ≡ put k o zs
-    → after ++ records_of zs ≡ before ++ records_of whole
-goes_on before after k o zs whole a w =
+goes_on : (before after : List ℕ) (k : LedgerKey) (o : Option Change) (zs entire : List Pair)
+    → after ≡ before ++ records_of (put k o []) → entire ≡ put k o zs
+    → after ++ records_of zs ≡ before ++ records_of entire
+goes_on before after k o zs entire a w =
     ap (λ (t : List ℕ). t ++ records_of zs) a
     ∙ append_assoc before (records_of (put k o [])) (records_of zs)
     ∙ ap (λ (t : List ℕ). before ++ t) (sym (put_records k o zs))

@@ -1,20 +1,12 @@
 -- The merge of two lists in one pass stays in the order of keys, and is the merge key by key.
-use Rattle.std.proofs.Common.{◌≡◌, ℕ, Bool, true, false, cond, T, List, [], ◌∷◌, Option, Some, None, refl, sym, ap}
-use Rattle.std.proofs.Common.{subst}
-use Rattle.std.proofs.Common.{◌∙◌}
-use Rattle.std.specs.Prelude.{option_and_then}
-use Rattle.std.specs.declared.cmp.Ordering.{Ordering}
-use Rattle.std.specs.declared.cmp.Ordering.TheVariants.{Less, Equal, Greater}
-use Rattle.std.specs.Ordering.{is_lt, is_eq, eq_by_cmp, ordering_reverse}
+use Rattle.bucket_merge.proofs.Prelude.{◌≡◌, ℕ, Bool, true, false, cond, T, List, [], ◌∷◌, Option, Some, None, refl}
+use Rattle.bucket_merge.proofs.Prelude.{sym, ap, subst, ◌∙◌, option_and_then, Ordering, Less, Equal, Greater, is_lt}
+use Rattle.bucket_merge.proofs.Prelude.{is_eq, eq_by_cmp, find, is_sorted, below_all, LedgerKey, key_cmp, keys_total}
+use Rattle.bucket_merge.proofs.Prelude.{Change, joined, kept, merged_change, Pair, put, rest_kept, by_order, among}
+use Rattle.bucket_merge.proofs.Prelude.{walk, both_true, first_true, second_true, same_keys}
+use Rattle.std.specs.Ordering.{ordering_reverse}
 use Rattle.std.specs.Cmp.{tied_itself}
-use Rattle.std.specs.FinMap.Entries.{find, is_sorted, below_all}
-use Rattle.bucket_core.specs.ledger_types.declared.key.LedgerKey.{LedgerKey}
-use Rattle.bucket_core.specs.ledger_types.KeyOrder.{key_cmp}
-use Rattle.bucket_core.proofs.ledger_types_proofs.KeyOrdering.{keys_total}
-use Rattle.bucket_core.specs.Bucket.{Change}
-use Rattle.bucket_core.proofs.Keyed.{both, first, second, below, found_below, is_less, same_key}
-use Rattle.bucket_merge.specs.Merge.{joined, kept, merged_change}
-use Rattle.bucket_merge.specs.Walk.{Pair, put, rest_kept, by_order, among, walk}
+use Rattle.bucket_core.proofs.Keyed.{below, found_below, is_less}
 
 abbrev pub Sorted : List Pair → Type 0
 Sorted es = T (is_sorted key_cmp es)
@@ -23,13 +15,13 @@ abbrev pub Above : LedgerKey → List Pair → Type 0
 Above k es = T (below_all key_cmp k es)
 
 -- a key that is below another is below all that the other is
-front_below : (k : LedgerKey) (x : Pair) (xs : List Pair) → key_cmp k x.0 ≡ Less → Sorted (x ∷ xs) → Above k (x ∷ xs)
-front_below k x xs e s =
+prefix_below : (k : LedgerKey) (x : Pair) (xs : List Pair) → key_cmp k x.0 ≡ Less → Sorted (x ∷ xs) → Above k (x ∷ xs)
+prefix_below k x xs e s =
     let lt = is_less (key_cmp k x.0) e in
-    both (is_lt (key_cmp k x.0)) (below_all key_cmp k xs) lt (below k x.0 xs lt (first _ _ s))
+    both_true (is_lt (key_cmp k x.0)) (below_all key_cmp k xs) lt (below k x.0 xs lt (first_true _ _ s))
 
-turned : (k m : LedgerKey) → key_cmp k m ≡ Greater → key_cmp m k ≡ Less
-turned k m e = keys_total.antisymm m k ∙ ap ordering_reverse e
+greater_turned : (k m : LedgerKey) → key_cmp k m ≡ Greater → key_cmp m k ≡ Less
+greater_turned k m e = keys_total.antisymm m k ∙ ap ordering_reverse e
 
 -- ---- going along both lists
 
@@ -44,7 +36,7 @@ module _ (level : ℕ) (P : List Pair → List Pair → List Pair → Type 0) (n
     → P (x ∷ xs) (y ∷ ys) (put y.0 (option_and_then (kept level) (joined x.1 y.1)) zs)) where
   along_rest : (ys : List Pair) → Sorted ys → P [] ys (rest_kept level ys)
   along_rest [] s = none
-  along_rest (y ∷ ys) s = newer y [] ys (rest_kept level ys) tt (first _ _ s) (along_rest ys (second _ _ s))
+  along_rest (y ∷ ys) s = newer y [] ys (rest_kept level ys) tt (first_true _ _ s) (along_rest ys (second_true _ _ s))
 
   one_step : (x y : Pair) (xs ys : List Pair) → Sorted (x ∷ xs) → Sorted (y ∷ ys)
       → ((zs : List Pair) → Sorted zs → P xs zs (walk level xs zs))
@@ -54,34 +46,34 @@ module _ (level : ℕ) (P : List Pair → List Pair → List Pair → Type 0) (n
       (put y.0 (option_and_then (kept level) (joined x.1 y.1)) (walk level xs ys))
       (put y.0 (kept level y.1) (among level x (λ zs. walk level xs zs) ys)))
   one_step x y xs ys sx sy after others Less e =
-      older x xs (y ∷ ys) (walk level xs (y ∷ ys)) (first _ _ sx) (front_below x.0 y ys e sy) (after (y ∷ ys) sy)
+      older x xs (y ∷ ys) (walk level xs (y ∷ ys)) (first_true _ _ sx) (prefix_below x.0 y ys e sy) (after (y ∷ ys) sy)
   one_step x y xs ys sx sy after others Equal e =
-      same x y xs ys (walk level xs ys) e (first _ _ sx) (first _ _ sy) (after ys (second _ _ sy))
+      same x y xs ys (walk level xs ys) e (first_true _ _ sx) (first_true _ _ sy) (after ys (second_true _ _ sy))
   one_step x y xs ys sx sy after others Greater e =
       newer y (x ∷ xs) ys (among level x (λ zs. walk level xs zs) ys)
-      (front_below y.0 x xs (turned x.0 y.0 e) sx) (first _ _ sy) others
+      (prefix_below y.0 x xs (greater_turned x.0 y.0 e) sx) (first_true _ _ sy) others
 
   along_newer : (x : Pair) (xs ys : List Pair) → Sorted (x ∷ xs) → Sorted ys
       → ((zs : List Pair) → Sorted zs → P xs zs (walk level xs zs))
       → P (x ∷ xs) ys (among level x (λ zs. walk level xs zs) ys)
-  along_newer x xs [] sx sy after = older x xs [] (walk level xs []) (first _ _ sx) tt (after [] tt)
+  along_newer x xs [] sx sy after = older x xs [] (walk level xs []) (first_true _ _ sx) tt (after [] tt)
   along_newer x xs (y ∷ ys) sx sy after =
-      one_step x y xs ys sx sy after (along_newer x xs ys sx (second _ _ sy) after) (key_cmp x.0 y.0) refl
+      one_step x y xs ys sx sy after (along_newer x xs ys sx (second_true _ _ sy) after) (key_cmp x.0 y.0) refl
 
   pub along : (xs ys : List Pair) → Sorted xs → Sorted ys → P xs ys (walk level xs ys)
   along [] ys sx sy = along_rest ys sy
-  along (x ∷ xs) ys sx sy = along_newer x xs ys sx sy (λ zs sz. along xs zs (second _ _ sx) sz)
+  along (x ∷ xs) ys sx sy = along_newer x xs ys sx sy (λ zs sz. along xs zs (second_true _ _ sx) sz)
 
 -- ---- in order
 
 put_above : (k m : LedgerKey) (o : Option Change) (zs : List Pair) → T (is_lt (key_cmp k m)) → Above k zs
     → Above k (put m o zs)
 put_above k m None zs lt h = h
-put_above k m (Some c) zs lt h = both (is_lt (key_cmp k m)) (below_all key_cmp k zs) lt h
+put_above k m (Some c) zs lt h = both_true (is_lt (key_cmp k m)) (below_all key_cmp k zs) lt h
 
 put_sorted : (m : LedgerKey) (o : Option Change) (zs : List Pair) → Above m zs → Sorted zs → Sorted (put m o zs)
 put_sorted m None zs h s = s
-put_sorted m (Some c) zs h s = both (below_all key_cmp m zs) (is_sorted key_cmp zs) h s
+put_sorted m (Some c) zs h s = both_true (below_all key_cmp m zs) (is_sorted key_cmp zs) h s
 
 -- the merge is in order, and above each key that both lists are above
 pub record InOrder (xs ys zs : List Pair) : Type 0 where
@@ -89,21 +81,21 @@ pub record InOrder (xs ys zs : List Pair) : Type 0 where
   pub sorted : Sorted zs
 
 tied_above : (k m : LedgerKey) (es : List Pair) → key_cmp k m ≡ Equal → Above k es → Above m es
-tied_above k m es e h = subst (λ (j : LedgerKey). Above j es) (same_key k m (ap is_eq e)) h
+tied_above k m es e h = subst (λ (j : LedgerKey). Above j es) (same_keys k m (ap is_eq e)) h
 
 pub walk_in_order : (level : ℕ) (xs ys : List Pair) → Sorted xs → Sorted ys → InOrder xs ys (walk level xs ys)
 walk_in_order level = along level InOrder
     (record { above = λ k a b. tt; sorted = tt })
     (λ x xs ys zs ax ay h. record {
-      above = λ k a b. put_above k x.0 (kept level x.1) zs (first _ _ a) (h.above k (second _ _ a) b);
+      above = λ k a b. put_above k x.0 (kept level x.1) zs (first_true _ _ a) (h.above k (second_true _ _ a) b);
       sorted = put_sorted x.0 (kept level x.1) zs (h.above x.0 ax ay) h.sorted;
     })
     (λ y xs ys zs ax ay h. record {
-      above = λ k a b. put_above k y.0 (kept level y.1) zs (first _ _ b) (h.above k a (second _ _ b));
+      above = λ k a b. put_above k y.0 (kept level y.1) zs (first_true _ _ b) (h.above k a (second_true _ _ b));
       sorted = put_sorted y.0 (kept level y.1) zs (h.above y.0 ax ay) h.sorted;
     })
     (λ x y xs ys zs e ax ay h. let o = option_and_then (kept level) (joined x.1 y.1) in record {
-      above = λ k a b. put_above k y.0 o zs (first _ _ b) (h.above k (second _ _ a) (second _ _ b));
+      above = λ k a b. put_above k y.0 o zs (first_true _ _ b) (h.above k (second_true _ _ a) (second_true _ _ b));
       sorted = put_sorted y.0 o zs (h.above y.0 (tied_above x.0 y.0 xs e ax) ay) h.sorted;
     })
 
@@ -118,7 +110,7 @@ find_put q k (Some c) zs b e h = ap (λ (t : Bool). cond t (Some c) (find key_cm
 -- nothing is found under a key that is below all
 none_found : (q k : LedgerKey) (es : List Pair) → eq_by_cmp key_cmp q k ≡ true → Above k es
     → find key_cmp q es ≡ None
-none_found q k es e h = found_below q k es (ap (key_cmp q) (sym (same_key q k e)) ∙ tied_itself keys_total q) h
+none_found q k es e h = found_below q k es (ap (key_cmp q) (sym (same_keys q k e)) ∙ tied_itself keys_total q) h
 
 abbrev AsMerged : ℕ → List Pair → List Pair → List Pair → Type 0
 AsMerged level xs ys zs =
@@ -162,7 +154,7 @@ same_merged level x y xs ys zs q ax ay h false e =
     find_put q y.0 (option_and_then (kept level) (joined x.1 y.1)) zs false e (λ w. absurd (cc (w))) ∙ h
 
 tied_alike : (q k m : LedgerKey) → key_cmp k m ≡ Equal → eq_by_cmp key_cmp q k ≡ eq_by_cmp key_cmp q m
-tied_alike q k m e = ap (λ (j : LedgerKey). eq_by_cmp key_cmp q j) (same_key k m (ap is_eq e))
+tied_alike q k m e = ap (λ (j : LedgerKey). eq_by_cmp key_cmp q j) (same_keys k m (ap is_eq e))
 
 pub walk_merges : (level : ℕ) (xs ys : List Pair) → Sorted xs → Sorted ys → AsMerged level xs ys (walk level xs ys)
 walk_merges level = along level (AsMerged level)

@@ -7,7 +7,7 @@ use Rattle.bucket_merge.specs.declared.side.Side.{Side}
 use Rattle.bucket_merge.specs.Walk.{Pair, walk}
 use Rattle.bucket_merge.specs.Pending.{Has, records_of}
 
--- how the first keys of two lists stand to each other; a key stands before none
+-- how the first keys of two lists compare; a key comes before none
 abbrev pub first_key : List Pair → List Pair → Ordering
 first_key [] [] = Equal
 first_key (x ∷ xs) [] = Less

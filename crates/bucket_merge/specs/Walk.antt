@@ -11,7 +11,7 @@ use Rattle.bucket_merge.specs.Merge.{joined, kept, greater_version}
 abbrev pub Pair : Type 0
 Pair = LedgerKey × Change
 
--- a change in front of others, where it is kept
+-- a change before others, where it is kept
 abbrev pub put : LedgerKey → Option Change → List Pair → List Pair
 put k None others = others
 put k (Some change) others = (k, change) ∷ others
@@ -21,13 +21,13 @@ abbrev pub rest_kept : ℕ → List Pair → List Pair
 rest_kept level [] = []
 rest_kept level (y ∷ ys) = put y.0 (kept level y.1) (rest_kept level ys)
 
--- which of two keys stands first
+-- which of two keys comes first
 abbrev pub by_order : Ordering → List Pair → List Pair → List Pair → List Pair
 by_order Less older both newer = older
 by_order Equal older both newer = both
 by_order Greater older both newer = newer
 
--- an older change x among the newer ones; `after` merges those behind x
+-- an older change x among the newer ones; `after` merges those after x
 abbrev pub among : ℕ → Pair → (List Pair → List Pair) → List Pair → List Pair
 among level x after [] = put x.0 (kept level x.1) (after [])
 among level x after (y ∷ ys) = by_order (key_cmp x.0 y.0)

@@ -7,7 +7,7 @@ ghost use Rattle.bucket_core.specs.ledger_types.declared.bucket.BucketEntry.{Buc
 ghost use Rattle.bucket_core.specs.ledger_types.declared.bucket.BucketEntry.TheVariants as entry;
 ghost use Rattle.bucket_core.specs.ledger_types.declared.entry.LedgerEntry.{LedgerEntry};
 ghost use Rattle.bucket_items.specs.Item.{Shows};
-ghost use Rattle.bucket_items.specs.MarkedItem.{max_item_len, record_of, IsSpellable};
+ghost use Rattle.bucket_items.specs.MarkedItem.{max_item_len, record_of, IsEncodable};
 
 use bucket_core::BucketItem;
 use byteorder::{BigEndian, ByteOrder};
@@ -31,20 +31,20 @@ pub(crate) fn put_number(number: u32, file: &mut Vec<u8>) -> Result<(), AllocErr
     file.extend_from_slice(&bytes)
 }
 
-/// Puts a record of two pieces at the end of a file, behind its mark.
+/// Puts a record of two pieces at the end of a file, after its mark.
 #[tactic(auto, unfolding(xdr_core::specs::Leaves::mark))]
-fn put_record(front: &[u8], back: &[u8], file: &mut Vec<u8>) -> Result<(), AllocError>
-    requires { length front.now + length back.now ≤ max_item_len }
-    ensures { OnOk result (file.new.items ≡ file.old.items ++ (mark max_item_len).spell (front.now ++ back.now)) }
+fn put_record(prefix: &[u8], back: &[u8], file: &mut Vec<u8>) -> Result<(), AllocError>
+    requires { length prefix.now + length back.now ≤ max_item_len }
+    ensures { OnOk result (file.new.items ≡ file.old.items ++ (mark max_item_len).encoding (prefix.now ++ back.now)) }
 {
-    put_number(TOP_BIT + front.len() as u32 + back.len() as u32, file)?;
-    file.extend_from_slice(front)?;
+    put_number(TOP_BIT + prefix.len() as u32 + back.len() as u32, file)?;
+    file.extend_from_slice(prefix)?;
     file.extend_from_slice(back)
 }
 
 /// Puts the record of an item at the end of a file.
 pub(crate) fn put_item(item: &BucketItem<'_>, file: &mut Vec<u8>) -> Result<(), AllocError>
-    requires { (e : BucketEntry) × Shows item.now item.now.bytes.now e × IsSpellable e }
+    requires { (e : BucketEntry) × Shows item.now item.now.bytes.now e × IsEncodable e }
     ensures { (e : BucketEntry) → Shows item.now item.now.bytes.now e
         → OnOk result (file.new.items ≡ file.old.items ++ record_of e) }
 {
@@ -53,7 +53,7 @@ pub(crate) fn put_item(item: &BucketItem<'_>, file: &mut Vec<u8>) -> Result<(), 
 
 /// Puts the record of the entry of an INIT at the end of a file, as a LIVE.
 pub(crate) fn put_live(item: &BucketItem<'_>, file: &mut Vec<u8>) -> Result<(), AllocError>
-    requires { (e : LedgerEntry) × Shows item.now item.now.bytes.now (entry.Init e) × IsSpellable (entry.Init e) }
+    requires { (e : LedgerEntry) × Shows item.now item.now.bytes.now (entry.Init e) × IsEncodable (entry.Init e) }
     ensures { (e : LedgerEntry) → Shows item.now item.now.bytes.now (entry.Init e)
         → OnOk result (file.new.items ≡ file.old.items ++ record_of (entry.Live e)) }
 {
@@ -62,7 +62,7 @@ pub(crate) fn put_live(item: &BucketItem<'_>, file: &mut Vec<u8>) -> Result<(), 
 
 /// Puts the record of the entry of a LIVE at the end of a file, as an INIT.
 pub(crate) fn put_init(item: &BucketItem<'_>, file: &mut Vec<u8>) -> Result<(), AllocError>
-    requires { (e : LedgerEntry) × Shows item.now item.now.bytes.now (entry.Live e) × IsSpellable (entry.Live e) }
+    requires { (e : LedgerEntry) × Shows item.now item.now.bytes.now (entry.Live e) × IsEncodable (entry.Live e) }
     ensures { (e : LedgerEntry) → Shows item.now item.now.bytes.now (entry.Live e)
         → OnOk result (file.new.items ≡ file.old.items ++ record_of (entry.Init e)) }
 {

@@ -14,7 +14,7 @@ use std::alloc::AllocError;
 use std::cmp::Ordering;
 use std::sync::ledger::Ledger;
 
-/// How the keys in hand stand to each other. A key stands before none.
+/// How the keys in hand compare. A key comes before none.
 fn first_in_hand(older: &Side<'_>, newer: &Side<'_>) -> Ordering
     ensures { (old : List Pair) (new : List Pair) → spec.Has older.now old → spec.Has newer.now new
         → result ≡ first_key old new }

@@ -18,8 +18,8 @@ pub(crate) fn write_kept(
     item: &BucketItem<'_>,
     file: &mut Vec<u8>,
 ) -> Result<(), AllocError>
-    requires { (k : LedgerKey) × (c : Change) × spec.Tells item.now k c }
-    ensures { (k : LedgerKey) (c : Change) → spec.Tells item.now k c
+    requires { (k : LedgerKey) × (c : Change) × spec.States item.now k c }
+    ensures { (k : LedgerKey) (c : Change) → spec.States item.now k c
         → OnOk result (file.new.items ≡ file.old.items ++ spec.records_of (put k (kept level c) [])) }
 {
     if is_dropped(level, item.mark) {
@@ -35,8 +35,8 @@ pub(crate) fn write_joined(
     newer: &BucketItem<'_>,
     file: &mut Vec<u8>,
 ) -> Result<(), AllocError>
-    requires { (k : LedgerKey) × (c : Change) × (d : Change) × spec.Tells older.now k c × spec.Tells newer.now k d }
-    ensures { (k : LedgerKey) (c : Change) (d : Change) → spec.Tells older.now k c → spec.Tells newer.now k d
+    requires { (k : LedgerKey) × (c : Change) × (d : Change) × spec.States older.now k c × spec.States newer.now k d }
+    ensures { (k : LedgerKey) (c : Change) (d : Change) → spec.States older.now k c → spec.States newer.now k d
         → OnOk result (file.new.items
         ≡ file.old.items ++ spec.records_of (put k (option_and_then (kept level) (joined c d)) [])) }
 {

@@ -1,29 +1,15 @@
 -- Settled entries stay settled, whatever the ledgers of their last changes are.
-use Rattle.std.proofs.Common.{◌≡◌, ℕ, refl, sym, ap, subst, ◌∙◌, Option, Some, None}
-use Rattle.std.specs.Prelude.{pos, ◌≤ℤ◌}
-use Rattle.std.specs.FinMap.{get}
+use Rattle.close_laws.proofs.Prelude.{◌≡◌, ℕ, refl, sym, ap, subst, ◌∙◌, Option, Some, None, pos, ◌≤ℤ◌, get, AccountId}
+use Rattle.close_laws.proofs.Prelude.{LedgerEntry, LedgerEntryBody, LedgerEntryExtensionV1, LedgerKey, key_of_body}
+use Rattle.close_laws.proofs.Prelude.{EntryMap, parts_of, account_at, account_in, total, Subentries, Selling, Buying}
+use Rattle.close_laws.proofs.Prelude.{Shares, ShareLines, Uses, View, offer_with, held, view, params_of, weight}
+use Rattle.close_laws.proofs.Prelude.{IsEntryLegal, IsSettled}
 use Rattle.close_rules.specs.ledger_types.declared.asset.Asset.TheVariants as asset
-use Rattle.close_rules.specs.ledger_types.declared.ids.AccountId.{AccountId}
-use Rattle.close_rules.specs.ledger_types.declared.entry.LedgerEntry.{LedgerEntry}
-use Rattle.close_rules.specs.ledger_types.declared.entry.LedgerEntryBody.{LedgerEntryBody}
-use Rattle.close_rules.specs.ledger_types.declared.entry.LedgerEntryExtensionV1.{LedgerEntryExtensionV1}
-use Rattle.close_rules.specs.ledger_types.declared.key.LedgerKey.{LedgerKey}
 use Rattle.close_rules.specs.ledger_types.declared.key.LedgerKey.TheVariants as key
-use Rattle.close_rules.specs.ledger_types.Keys.{key_of_body}
-use Rattle.bucket_levels.specs.entry_map.EntryMap.{EntryMap}
-use Rattle.bucket_levels.specs.entry_map.Batch.{parts_of}
-use Rattle.close_rules.specs.entry_slots.Accounts.{account_at, account_of, account_in}
-use Rattle.close_rules.specs.entry_sums.Sums.{total}
-use Rattle.close_rules.specs.legal_rules.Books.{Kind, Subentries, Sponsoring, Sponsored, Selling, Buying, Shares}
-use Rattle.close_rules.specs.legal_rules.Books.{ShareLines, Uses}
-use Rattle.close_rules.specs.legal_rules.Books.{View}
-use Rattle.close_rules.specs.legal_rules.OfferIds.{offer_with}
-use Rattle.close_rules.specs.legal_rules.Supply.{held}
-use Rattle.close_rules.specs.legal_rules.Legal.{view, params_of}
-use Rattle.close_rules.specs.legal_rules.Owing.{weight, IsEntryLegal}
-use Rattle.close_rules.specs.op_laws.Underway.{IsSettled}
+use Rattle.close_rules.specs.entry_slots.Accounts.{account_of}
+use Rattle.close_rules.specs.legal_rules.Aggregates.{Kind, Sponsoring, Sponsored}
 use Rattle.close_rules.proofs.legal_rules_proofs.Legality.{entries_legal}
-use Rattle.close_laws.proofs.Unmarked.{AreAlike, AreMapsAlike, unmarked, stood, total_alike}
+use Rattle.close_laws.proofs.Unmarked.{AreAlike, AreMapsAlike, unmarked, existed, total_alike}
 
 -- ---- entries
 
@@ -71,7 +57,7 @@ same_account (Some a) (Some b) alike = ap (λ (parts : Parts). account_in parts.
 same_account None (Some b) alike = absurd alike
 same_account (Some a) None alike = absurd alike
 
--- the same accounts stand
+-- the same accounts exist
 pub accounts_alike : (m n : EntryMap) (id : AccountId) → AreMapsAlike m n → account_at m id ≡ account_at n id
 unfolding account_at
 accounts_alike m n id alike = same_account (get m (key.Account id)) (get n (key.Account id)) (alike (key.Account id))
@@ -93,15 +79,15 @@ settled_alike id_pool m n alike settled = record {
     params = λ id. sym (same_params (get m (key.LiquidityPool id)) (get n (key.LiquidityPool id))
         (alike (key.LiquidityPool id)));
     keyed = λ k e there.
-        let x = stood (get m k) (get n k) e (alike k) there in
+        let x = existed (get m k) (get n k) e (alike k) there in
         ap (λ (parts : Parts). key_of_body parts.0) (sym x.2) ∙ settled.legal.keyed k x.0 x.1;
     entries = λ k e there.
-        let x = stood (get m k) (get n k) e (alike k) there in
+        let x = existed (get m k) (get n k) e (alike k) there in
         legal_by_parts id_pool x.0 e x.2 (settled.legal.entries k x.0 x.1);
     offers = λ id. subst (λ n. n ≤ℤ pos 1) (total_alike (offer_with id) m n alike (λ e. refl))
         (settled.legal.offers id);
-    books = λ kind k. sym (total_alike (weight (view m) kind k) m n alike (weight_by_parts (view m) kind k))
-        ∙ settled.legal.books kind k;
+    aggregates = λ kind k. sym (total_alike (weight (view m) kind k) m n alike (weight_by_parts (view m) kind k))
+        ∙ settled.legal.aggregates kind k;
     supply = sym (total_alike (held asset.Native) m n alike (λ e. refl));
   };
 }

@@ -1,17 +1,11 @@
 -- What an operation answers: results that keep the bounds on lengths, step by step.
-use Rattle.std.proofs.Common.{[], ◌∷◌, Option, Some, None, Result, Ok, Err, Bool, true, false}
-use Rattle.std.proofs.Common.{if◌then◌else◌}
-use Rattle.close_rules.specs.op_types.declared.operation_result.OperationResult.{OperationResult}
+use Rattle.close_laws.proofs.Prelude.{[], ◌∷◌, Option, Some, None, Result, Ok, Err, Bool, true, false, if◌then◌else◌}
+use Rattle.close_laws.proofs.Prelude.{OperationResult, operation_result, EntryMap, Tests, first_fault, Ctx, AddFault}
+use Rattle.close_laws.proofs.Prelude.{Done, Attempt, done_of, unless_result, unless_refused, after, after_some}
+use Rattle.close_laws.proofs.Prelude.{after_charge, after_step}
 use Rattle.close_rules.specs.op_types.declared.operation_result.OperationResult.TheVariants as operation
-use Rattle.close_rules.specs.xdr_results.Results.{operation_result}
-use Rattle.bucket_levels.specs.entry_map.EntryMap.{EntryMap}
-use Rattle.close_rules.specs.entry_slots.Tests.{Tests, first_fault}
-use Rattle.close_rules.specs.sponsor_rules.declared.context.Ctx.{Ctx}
-use Rattle.close_rules.specs.sponsor_rules.declared.fault.AddFault.{AddFault}
 use Rattle.close_rules.specs.sponsor_rules.declared.fault.AddFault.TheVariants as fault
-use Rattle.close_rules.specs.op_form.Done.{Done, Attempt, done_of}
 use Rattle.close_rules.specs.op_form.Faults.{fault_result}
-use Rattle.close_rules.specs.op_form.Steps.{unless_result, unless_refused, after, after_some, after_charge, after_step}
 
 -- ---- results
 

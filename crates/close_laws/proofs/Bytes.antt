@@ -1,58 +1,28 @@
 -- The bytes of entries: what no test of an operation says of them, and their formats do.
-use Rattle.std.proofs.Common.{◌≡◌, ℕ, refl, List, [], ◌∷◌, All, Option, Some, None}
-use Rattle.std.proofs.Common.{Bool, true, false, cond}
-use Rattle.std.proofs.lemmas.List.Elements.{All-head, All-tail}
-use Rattle.std.specs.Prelude.{option_map, ◌≤ℤ◌}
-use Rattle.std.specs.List.{find}
-use Rattle.std.specs.FinMap.{get}
-use Rattle.close_rules.specs.ledger_types.Ids.{account_of}
-use Rattle.close_rules.specs.ledger_types.declared.ids.AccountId.{AccountId}
-use Rattle.close_rules.specs.ledger_types.declared.ids.MuxedAccount.{MuxedAccount}
+use Rattle.close_laws.proofs.Prelude as prelude
+use prelude.{◌≡◌, ℕ, refl, List, [], ◌∷◌, All, Option, Some, None, Bool, true, false, cond, All-head, All-tail}
+use prelude.{option_map, ◌≤ℤ◌, find, get, account_of, AccountId, MuxedAccount, Signer, AccountEntry}
+use prelude.{AccountEntryExtensionV2, TrustLineAsset, TrustLineEntry, OfferEntry, DataEntry, Claimant}
+use prelude.{ClaimableBalanceEntry, LiquidityPoolEntry, LedgerEntry, LedgerEntryBody, LedgerEntryExtensionV1, LedgerKey}
+use prelude.{i64, fixed, var, constant, option, optional, account_id, muxed_account, signer_key, claimant, EntryMap}
+use prelude.{put, erase, EachEntry, put_each, erase_each, with_account, with_account_of, with_account_in, with_line}
+use prelude.{with_line_of, with_line_in, with_data, with_data_of, with_data_in, account_liabilities, second_in}
+use prelude.{sponsor_of, with_sponsor, with_sponsor_in, sponsor_in, greatest_i64, Ctx, is_same_account, open_sponsor}
+use prelude.{payer_by, payer_of, IsEncoded}
 use Rattle.close_rules.specs.ledger_types.declared.ids.MuxedAccount.TheVariants as muxed
-use Rattle.close_rules.specs.ledger_types.declared.signer.Signer.{Signer}
-use Rattle.close_rules.specs.ledger_types.declared.account.AccountEntry.{AccountEntry}
-use Rattle.close_rules.specs.ledger_types.declared.account.AccountEntryExtensionV2.{AccountEntryExtensionV2}
-use Rattle.close_rules.specs.ledger_types.declared.asset.TrustLineAsset.{TrustLineAsset}
-use Rattle.close_rules.specs.ledger_types.declared.trust_line.TrustLineEntry.{TrustLineEntry}
-use Rattle.close_rules.specs.ledger_types.declared.offer.OfferEntry.{OfferEntry}
-use Rattle.close_rules.specs.ledger_types.declared.data_entry.DataEntry.{DataEntry}
-use Rattle.close_rules.specs.ledger_types.declared.claimable_balance.Claimant.{Claimant}
-use Rattle.close_rules.specs.ledger_types.declared.claimable_balance.ClaimableBalanceEntry.{ClaimableBalanceEntry}
-use Rattle.close_rules.specs.ledger_types.declared.liquidity_pool.LiquidityPoolEntry.{LiquidityPoolEntry}
-use Rattle.close_rules.specs.ledger_types.declared.entry.LedgerEntry.{LedgerEntry}
-use Rattle.close_rules.specs.ledger_types.declared.entry.LedgerEntryBody.{LedgerEntryBody}
 use Rattle.close_rules.specs.ledger_types.declared.entry.LedgerEntryBody.TheVariants as body
-use Rattle.close_rules.specs.ledger_types.declared.entry.LedgerEntryExtensionV1.{LedgerEntryExtensionV1}
-use Rattle.close_rules.specs.ledger_types.declared.key.LedgerKey.{LedgerKey}
 use Rattle.close_rules.specs.ledger_types.declared.key.LedgerKey.TheVariants as key
-use Rattle.close_rules.specs.xdr_core.Leaves.{i64, fixed, var}
-use Rattle.close_rules.specs.xdr_core.Combinators.{constant, option}
-use Rattle.close_rules.specs.xdr_core.Xdr.{optional}
 use Rattle.close_rules.specs.xdr_entries.Basic as basic
-use Rattle.close_rules.specs.xdr_entries.Basic.{account_id, muxed_account, signer_key}
-use Rattle.close_rules.specs.xdr_entries.Entries.{claimant}
-use Rattle.bucket_levels.specs.entry_map.EntryMap.{EntryMap, put, erase}
-use Rattle.close_rules.specs.entry_sums.Sums.{EachEntry}
-use Rattle.close_rules.proofs.entry_sums_proofs.Lookups.{put_each, erase_each}
-use Rattle.close_rules.specs.entry_slots.Accounts.{with_account, with_account_of, with_account_in}
-use Rattle.close_rules.specs.entry_slots.Lines.{with_line, with_line_of, with_line_in}
-use Rattle.close_rules.specs.entry_slots.DataEntries.{with_data, with_data_of, with_data_in}
-use Rattle.close_rules.specs.entry_slots.AccountExtensions.{account_liabilities, second_in}
-use Rattle.close_rules.specs.entry_slots.EntrySponsor.{sponsor_of, with_sponsor, with_sponsor_in, sponsor_in}
-use Rattle.close_rules.specs.reserve_rules.Reserve.{greatest_i64}
-use Rattle.close_rules.specs.sponsor_rules.declared.context.Ctx.{Ctx}
 use Rattle.close_rules.specs.sponsor_rules.declared.context.Sponsorship.{Sponsorship}
-use Rattle.close_rules.specs.sponsor_rules.Payers.{is_same_account, open_sponsor, payer_by, payer_of}
-use Rattle.close_rules.specs.State.{IsSpelled}
 
 -- ---- ids
 
 abbrev pub IsId : AccountId → Type 0
-IsId id = IsSpelled account_id id
+IsId id = IsEncoded account_id id
 
 -- an account that may be named
 abbrev pub IsIdIf : Option AccountId → Type 0
-IsIdIf found = IsSpelled (optional account_id) found
+IsIdIf found = IsEncoded (optional account_id) found
 
 pub no_id : IsIdIf None
 unfolding option
@@ -60,22 +30,22 @@ no_id = record { within = tt; sized = tt }
 
 pub some_id : (id : AccountId) → IsId id → IsIdIf (Some id)
 unfolding option
-some_id id spelled = record { within = spelled.within; sized = spelled.sized }
+some_id id encoded = record { within = encoded.within; sized = encoded.sized }
 
 pub id_of_some : (id : AccountId) → IsIdIf (Some id) → IsId id
 unfolding option
-id_of_some id spelled = record { within = spelled.within; sized = spelled.sized }
+id_of_some id encoded = record { within = encoded.within; sized = encoded.sized }
 
-key_id : (bytes : List ℕ) → IsSpelled (fixed 32) bytes → IsId (record { 0 = bytes })
+key_id : (bytes : List ℕ) → IsEncoded (fixed 32) bytes → IsId (record { 0 = bytes })
 unfolding account_id constant
-key_id bytes spelled = record { within = (tt, spelled.within); sized = (tt, spelled.sized) }
+key_id bytes encoded = record { within = (tt, encoded.within); sized = (tt, encoded.sized) }
 
 -- the account that a muxed one names
-pub muxed_id : (source : MuxedAccount) → IsSpelled muxed_account source → IsId (account_of source)
+pub muxed_id : (source : MuxedAccount) → IsEncoded muxed_account source → IsId (account_of source)
 unfolding muxed_account
-muxed_id (muxed.Ed25519 bytes) spelled = key_id bytes (record { within = spelled.within; sized = spelled.sized })
-muxed_id (muxed.MuxedEd25519 id bytes) spelled =
-    key_id bytes (record { within = spelled.within.1; sized = spelled.sized.1 })
+muxed_id (muxed.Ed25519 bytes) encoded = key_id bytes (record { within = encoded.within; sized = encoded.sized })
+muxed_id (muxed.MuxedEd25519 id bytes) encoded =
+    key_id bytes (record { within = encoded.within.1; sized = encoded.sized.1 })
 
 -- ---- entries
 
@@ -88,13 +58,13 @@ abbrev pub recorded : AccountEntry → List (Option AccountId)
 recorded account = sponsors_in (second_in account.ext)
 
 abbrev pub IsKey : Signer → Type 0
-IsKey signer = IsSpelled signer_key signer.key
+IsKey signer = IsEncoded signer_key signer.key
 
 pub record AreAccountBytes (account : AccountEntry) : Type 0 where
   pub id : IsId account.account_id
   pub inflation_dest : IsIdIf account.inflation_dest
-  pub home_domain : IsSpelled (var 32) account.home_domain
-  pub thresholds : IsSpelled (fixed 4) account.thresholds
+  pub home_domain : IsEncoded (var 32) account.home_domain
+  pub thresholds : IsEncoded (fixed 4) account.thresholds
   pub signers : All IsKey account.signers
   pub sponsors : All IsIdIf (recorded account)
   -- what no balance bounds: an account whose balance falls by a fee may sell more than it has
@@ -102,35 +72,35 @@ pub record AreAccountBytes (account : AccountEntry) : Type 0 where
 
 pub record AreDataBytes (entry : DataEntry) : Type 0 where
   pub id : IsId entry.account_id
-  pub name : IsSpelled (var 64) entry.data_name
-  pub value : IsSpelled (var 64) entry.data_value
+  pub name : IsEncoded (var 64) entry.data_name
+  pub value : IsEncoded (var 64) entry.data_value
 
 pub record AreLineBytes (held : TrustLineEntry) : Type 0 where
   pub id : IsId held.account_id
-  pub asset : IsSpelled basic.trust_line_asset held.asset
+  pub asset : IsEncoded basic.trust_line_asset held.asset
 
 abbrev pub IsClaimant : Claimant → Type 0
-IsClaimant one = IsSpelled claimant one
+IsClaimant one = IsEncoded claimant one
 
 pub record AreBalanceBytes (balance : ClaimableBalanceEntry) : Type 0 where
-  pub id : IsSpelled basic.claimable_balance_id balance.balance_id
+  pub id : IsEncoded basic.claimable_balance_id balance.balance_id
   pub claimants : All IsClaimant balance.claimants
-  pub asset : IsSpelled basic.asset balance.asset
-  pub amount : IsSpelled i64 balance.amount
+  pub asset : IsEncoded basic.asset balance.asset
+  pub amount : IsEncoded i64 balance.amount
 
 -- the numbers of an offer too, of which a range bounds only the flags
 pub record AreOfferBytes (offer : OfferEntry) : Type 0 where
   pub id : IsId offer.seller_id
-  pub offer_id : IsSpelled i64 offer.offer_id
-  pub selling : IsSpelled basic.asset offer.selling
-  pub buying : IsSpelled basic.asset offer.buying
-  pub amount : IsSpelled i64 offer.amount
-  pub price : IsSpelled basic.price offer.price
+  pub offer_id : IsEncoded i64 offer.offer_id
+  pub selling : IsEncoded basic.asset offer.selling
+  pub buying : IsEncoded basic.asset offer.buying
+  pub amount : IsEncoded i64 offer.amount
+  pub price : IsEncoded basic.price offer.price
 
 -- the greatest that the numbers of a pool may be, too: a range says only that they aren't below 0
 pub record ArePoolBytes (pool : LiquidityPoolEntry) : Type 0 where
-  pub id : IsSpelled basic.hash pool.pool_id
-  pub params : IsSpelled basic.pool_params pool.params
+  pub id : IsEncoded basic.hash pool.pool_id
+  pub params : IsEncoded basic.pool_params pool.params
   pub reserve_a : pool.reserve_a ≤ℤ greatest_i64
   pub reserve_b : pool.reserve_b ≤ℤ greatest_i64
   pub shares : pool.total_pool_shares ≤ℤ greatest_i64

@@ -1,20 +1,11 @@
 -- Amounts that are given and taken leave the bytes of entries.
-use Rattle.std.proofs.Common.{◌≡◌, refl, subst, Option, Some, None, Result, Ok, ℤ, Bool, true, false}
-use Rattle.std.proofs.Common.{if◌then◌else◌}
-use Rattle.std.specs.Option.{ok_or}
-use Rattle.close_rules.specs.ledger_types.declared.ids.AccountId.{AccountId}
-use Rattle.close_rules.specs.ledger_types.declared.account.AccountEntry.{AccountEntry}
-use Rattle.close_rules.specs.ledger_types.declared.asset.Asset.{Asset}
+use Rattle.close_laws.proofs.Prelude.{◌≡◌, refl, subst, Option, Some, None, Result, Ok, Bool, true, false}
+use Rattle.close_laws.proofs.Prelude.{if◌then◌else◌, ok_or, AccountId, AccountEntry, Asset, TrustLineAsset}
+use Rattle.close_laws.proofs.Prelude.{TrustLineEntry, EntryMap, account_at, with_account, line_at, with_line}
+use Rattle.close_laws.proofs.Prelude.{first_fault, Ctx, is_issued_by, line_asset_of}
+use Rattle.std.proofs.Common.{ℤ}
 use Rattle.close_rules.specs.ledger_types.declared.asset.Asset.TheVariants as asset
-use Rattle.close_rules.specs.ledger_types.declared.asset.TrustLineAsset.{TrustLineAsset}
-use Rattle.close_rules.specs.ledger_types.declared.trust_line.TrustLineEntry.{TrustLineEntry}
-use Rattle.bucket_levels.specs.entry_map.EntryMap.{EntryMap}
-use Rattle.close_rules.specs.entry_slots.Accounts.{account_at, with_account}
-use Rattle.close_rules.specs.entry_slots.Lines.{line_at, with_line}
-use Rattle.close_rules.specs.entry_slots.Tests.{first_fault}
-use Rattle.close_rules.specs.sponsor_rules.declared.context.Ctx.{Ctx}
 use Rattle.close_rules.specs.op_form.Amounts as amounts
-use Rattle.close_rules.specs.op_form.Assets.{is_issued_by, line_asset_of}
 use Rattle.close_rules.specs.op_form.Lumens as lumens
 use Rattle.close_laws.proofs.Bytes.{AreAccountBytes, AreBytes, KeepsAccounts, KeepsLines}
 use Rattle.close_laws.proofs.Bytes.{with_account_bytes, with_line_bytes}

@@ -1,78 +1,61 @@
 -- Operations on claimable balances, and clawback, leave the bytes of entries.
-use Rattle.std.proofs.Common.{[], ◌∷◌, map, length, All, Bool}
-use Rattle.std.specs.Prelude.{is_some}
-use Rattle.close_rules.specs.ledger_types.declared.ids.Hash.{Hash}
+use Rattle.close_laws.proofs.Prelude.{[], ◌∷◌, map, length, All, Bool, is_some, Hash, account_of}
+use Rattle.close_laws.proofs.Prelude.{ClaimClaimableBalanceOp, ClawbackClaimableBalanceOp, CreateClaimableBalanceOp}
+use Rattle.close_laws.proofs.Prelude.{ClawbackOp, NotSupported, i64, constant, claimable_balance_id, hash, claimant}
+use Rattle.close_laws.proofs.Prelude.{operation_body, create_claimable_balance_op, EntryMap, balance_at, Ctx}
+use Rattle.close_laws.proofs.Prelude.{map_after_adding, payer_of, map_after_removing, map_after_credit, map_after_debit}
+use Rattle.close_laws.proofs.Prelude.{line_asset_of, line_of_asset, fixed_claimant, IsEncoded}
 use Rattle.close_rules.specs.ledger_types.declared.key.LedgerKey.TheVariants as key
-use Rattle.close_rules.specs.ledger_types.Ids.{account_of}
-use Rattle.close_rules.specs.op_types.declared.balance_ops.ClaimClaimableBalanceOp.{ClaimClaimableBalanceOp}
-use Rattle.close_rules.specs.op_types.declared.balance_ops.ClawbackClaimableBalanceOp.{ClawbackClaimableBalanceOp}
-use Rattle.close_rules.specs.op_types.declared.balance_ops.CreateClaimableBalanceOp.{CreateClaimableBalanceOp}
-use Rattle.close_rules.specs.op_types.declared.trust_ops.ClawbackOp.{ClawbackOp}
 use Rattle.close_rules.specs.op_types.declared.operation.OperationBody.TheVariants as body
-use Rattle.close_rules.specs.op_types.declared.operation_result.OperationResult.TheVariants.{NotSupported}
 use Rattle.close_rules.specs.op_types.declared.balance_results.ClaimClaimableBalanceResult.TheVariants as claim
 use Rattle.close_rules.specs.op_types.declared.balance_results.ClawbackClaimableBalanceResult.TheVariants as claw
 use Rattle.close_rules.specs.op_types.declared.balance_results.CreateClaimableBalanceResult.TheVariants as create
 use Rattle.close_rules.specs.op_types.declared.trust_results.ClawbackResult.TheVariants as clawback
-use Rattle.close_rules.specs.xdr_core.Leaves.{i64}
-use Rattle.close_rules.specs.xdr_core.Combinators.{constant}
 use Rattle.close_rules.specs.xdr_entries.Basic as basic
-use Rattle.close_rules.specs.xdr_entries.Basic.{claimable_balance_id, hash}
-use Rattle.close_rules.specs.xdr_entries.Entries.{claimant}
-use Rattle.close_rules.specs.xdr_tx.Operations.{operation_body, create_claimable_balance_op}
-use Rattle.bucket_levels.specs.entry_map.EntryMap.{EntryMap}
-use Rattle.close_rules.specs.entry_slots.Balances.{balance_at}
-use Rattle.close_rules.specs.sponsor_rules.declared.context.Ctx.{Ctx}
-use Rattle.close_rules.specs.sponsor_rules.Adding.{map_after_adding}
-use Rattle.close_rules.specs.sponsor_rules.Payers.{payer_of}
-use Rattle.close_rules.specs.sponsor_rules.Removing.{map_after_removing}
-use Rattle.close_rules.specs.op_form.Amounts.{map_after_credit, map_after_debit, with_less}
-use Rattle.close_rules.specs.op_form.Assets.{line_asset_of, line_of_asset}
+use Rattle.close_rules.specs.op_form.Amounts.{with_less}
 use Rattle.close_rules.specs.op_claim.ClaimClaimableBalance as claiming
 use Rattle.close_rules.specs.op_claim.Clawback as clawing
 use Rattle.close_rules.specs.op_claim.ClawbackClaimableBalance as taking
 use Rattle.close_rules.specs.op_claim.CreateClaimableBalance as creating
-use Rattle.close_rules.specs.op_claim.Predicates.{fixed_claimant}
-use Rattle.close_rules.specs.State.{IsSpelled}
-use Rattle.close_laws.proofs.Spelled.{each_spelled}
-use Rattle.close_laws.proofs.Digests.{hash_spelled}
+use Rattle.close_laws.proofs.Encoded.{each_encoded}
+use Rattle.close_laws.proofs.Digests.{hash_encoded}
 use Rattle.close_laws.proofs.Bytes.{IsId, no_id, IsClaimant, AreEntryBytes, AreBytes, AreSponsors}
 use Rattle.close_laws.proofs.Bytes.{with_line_bytes, payer_of_id}
 use Rattle.close_laws.proofs.BytesAmounts.{taken_bytes, given_bytes, less_held}
 use Rattle.close_laws.proofs.BytesMaps.{adding_balance_bytes, removing_bytes}
 use Rattle.close_laws.proofs.BytesPredicates.{claimants_fixed}
-use Rattle.close_laws.proofs.BytesSteps.{AreWorkBytes, Work, Leaves, behind, behind_some, behind_charge}
-use Rattle.close_laws.proofs.BytesSteps.{behind_change}
+use Rattle.close_laws.proofs.BytesSteps.{AreWorkBytes, Work, Leaves, past, past_some, past_charge}
+use Rattle.close_laws.proofs.BytesSteps.{past_change}
 
 -- ---- new balances
 
-pub id_spelled : (digest : Hash) → IsSpelled hash digest → IsSpelled claimable_balance_id (record { 0 = digest })
+pub id_encoded : (digest : Hash) → IsEncoded hash digest → IsEncoded claimable_balance_id (record { 0 = digest })
 unfolding claimable_balance_id constant
-id_spelled digest spelled = record { within = (tt, spelled.within); sized = (tt, spelled.sized) }
+id_encoded digest encoded = record { within = (tt, encoded.within); sized = (tt, encoded.sized) }
 
-pub new_id_spelled : (ctx : Ctx) → IsSpelled claimable_balance_id (creating.new_id ctx)
-new_id_spelled ctx = id_spelled _ (hash_spelled _)
+pub new_id_encoded : (ctx : Ctx) → IsEncoded claimable_balance_id (creating.new_id ctx)
+new_id_encoded ctx = id_encoded _ (hash_encoded _)
 
 record IsAsked (op : CreateClaimableBalanceOp) : Type 0 where
-  asset : IsSpelled basic.asset op.asset
-  amount : IsSpelled i64 op.amount
+  asset : IsEncoded basic.asset op.asset
+  amount : IsEncoded i64 op.amount
   claimants : All IsClaimant op.claimants
 
-balance_asked : (op : CreateClaimableBalanceOp) → IsSpelled operation_body (body.CreateClaimableBalance op)
+balance_asked : (op : CreateClaimableBalanceOp) → IsEncoded operation_body (body.CreateClaimableBalance op)
     → IsAsked op
 unfolding operation_body create_claimable_balance_op
-balance_asked op spelled = record {
-  asset = record { within = spelled.within.0; sized = spelled.sized.0 };
-  amount = record { within = spelled.within.1.0; sized = spelled.sized.1.0 };
-  claimants = each_spelled 10 claimant op.claimants
-      (record { within = spelled.within.1.1; sized = spelled.sized.1.1 });
+balance_asked op encoded = record {
+  asset = record { within = encoded.within.0; sized = encoded.sized.0 };
+  amount = record { within = encoded.within.1.0; sized = encoded.sized.1.0 };
+  claimants = each_encoded 10 claimant op.claimants
+      (record { within = encoded.within.1.1; sized = encoded.sized.1.1 });
 }
 
 new_balance_bytes : (ctx : Ctx) (op : CreateClaimableBalanceOp) (clawback : Bool) → IsAsked op
     → AreEntryBytes (creating.new_balance ctx op clawback)
 new_balance_bytes ctx op clawback asked = record {
   body = record {
-    id = new_id_spelled ctx;
+    id = new_id_encoded ctx;
     claimants = claimants_fixed ctx.close_time op.claimants asked.claimants;
     asset = asked.asset;
     amount = asked.amount;
@@ -83,7 +66,7 @@ new_balance_bytes ctx op clawback asked = record {
 balance_added : (ctx : Ctx) (op : CreateClaimableBalanceOp) (clawback : Bool) (m : EntryMap) → IsId ctx.op_source
     → IsAsked op → AreSponsors ctx → AreBytes m → Leaves (creating.added ctx op clawback m)
 balance_added ctx op clawback m id asked sponsors each =
-    behind_charge Work (map_after_adding ctx ctx.op_source (creating.new_balance ctx op clawback) m)
+    past_charge Work (map_after_adding ctx ctx.op_source (creating.new_balance ctx op clawback) m)
     (creating.answer create.LowReserve) _
     (adding_balance_bytes ctx (creating.new_balance ctx op clawback) (payer_of ctx ctx.op_source)
     (length (map (fixed_claimant ctx.close_time) op.claimants)) m (new_balance_bytes ctx op clawback asked)
@@ -91,14 +74,14 @@ balance_added ctx op clawback m id asked sponsors each =
     (λ added bytes. record { gives = record { entries = bytes; sponsors = sponsors } })
 
 pub balance_created : (ctx : Ctx) (op : CreateClaimableBalanceOp) (m : EntryMap) → IsId ctx.op_source
-    → IsSpelled operation_body (body.CreateClaimableBalance op) → AreWorkBytes ctx m
+    → IsEncoded operation_body (body.CreateClaimableBalance op) → AreWorkBytes ctx m
     → Leaves (creating.create_claimable_balance ctx op m)
-balance_created ctx op m id spelled work =
-    behind Work (creating.create_tests op) _
-    (behind Work ((is_some (balance_at m (creating.new_id ctx)), NotSupported) ∷ []) (creating.given_and_added ctx op m)
-    (behind_change Work (map_after_debit ctx ctx.op_source op.asset op.amount m) creating.debit_result _
+balance_created ctx op m id encoded work =
+    past Work (creating.create_tests op) _
+    (past Work ((is_some (balance_at m (creating.new_id ctx)), NotSupported) ∷ []) (creating.given_and_added ctx op m)
+    (past_change Work (map_after_debit ctx ctx.op_source op.asset op.amount m) creating.debit_result _
     (given_bytes ctx ctx.op_source op.asset op.amount m work.entries)
-    (λ given each. balance_added ctx op (creating.can_claw_back ctx op m) given id (balance_asked op spelled)
+    (λ given each. balance_added ctx op (creating.can_claw_back ctx op m) given id (balance_asked op encoded)
     work.sponsors each)))
 
 -- ---- balances that go
@@ -106,9 +89,9 @@ balance_created ctx op m id spelled work =
 pub balance_claimed : (ctx : Ctx) (op : ClaimClaimableBalanceOp) (m : EntryMap) → AreWorkBytes ctx m
     → Leaves (claiming.claim_claimable_balance ctx op m)
 balance_claimed ctx op m work =
-    behind_some Work (balance_at m op.balance_id) (claiming.answer claim.DoesNotExist) _
-    (λ balance there. behind Work (claiming.claim_tests ctx balance) (claiming.removed_and_taken ctx op balance m)
-    (behind_change Work (map_after_credit ctx.op_source balance.asset balance.amount
+    past_some Work (balance_at m op.balance_id) (claiming.answer claim.DoesNotExist) _
+    (λ balance there. past Work (claiming.claim_tests ctx balance) (claiming.removed_and_taken ctx op balance m)
+    (past_change Work (map_after_credit ctx.op_source balance.asset balance.amount
     (map_after_removing (key.ClaimableBalance op.balance_id) m)) claiming.credit_result _
     (taken_bytes ctx.op_source balance.asset balance.amount
     (map_after_removing (key.ClaimableBalance op.balance_id) m)
@@ -118,8 +101,8 @@ balance_claimed ctx op m work =
 pub balance_clawed_back : (ctx : Ctx) (op : ClawbackClaimableBalanceOp) (m : EntryMap) → AreWorkBytes ctx m
     → Leaves (taking.clawback_claimable_balance ctx op m)
 balance_clawed_back ctx op m work =
-    behind_some Work (balance_at m op.balance_id) (taking.answer claw.DoesNotExist) _
-    (λ balance there. behind Work (taking.balance_tests ctx balance) (taking.clawed_back ctx op balance m) (record {
+    past_some Work (balance_at m op.balance_id) (taking.answer claw.DoesNotExist) _
+    (λ balance there. past Work (taking.balance_tests ctx balance) (taking.clawed_back ctx op balance m) (record {
       gives = record {
         entries = removing_bytes (key.ClaimableBalance op.balance_id) m work.entries;
         sponsors = work.sponsors;
@@ -130,9 +113,9 @@ balance_clawed_back ctx op m work =
 
 pub clawed_back : (ctx : Ctx) (op : ClawbackOp) (m : EntryMap) → AreWorkBytes ctx m → Leaves (clawing.clawback ctx op m)
 clawed_back ctx op m work =
-    behind Work (clawing.clawback_tests ctx op) _
-    (behind_some Work (line_of_asset m (account_of op.from) op.asset) (clawing.answer clawback.NoTrust) _
-    (λ line there. behind Work (clawing.line_tests op.amount line) (clawing.clawed_back ctx op m) (record {
+    past Work (clawing.clawback_tests ctx op) _
+    (past_some Work (line_of_asset m (account_of op.from) op.asset) (clawing.answer clawback.NoTrust) _
+    (λ line there. past Work (clawing.line_tests op.amount line) (clawing.clawed_back ctx op m) (record {
       gives = record {
         entries = with_line_bytes m (account_of op.from) (line_asset_of op.asset) (with_less op.amount)
             (less_held op.amount) work.entries;

@@ -1,56 +1,32 @@
--- Offers that are crossed leave the bytes of entries, and what is told of them keeps the bounds on lengths.
-use Rattle.std.proofs.Common.{◌≡◌, refl, sym, subst, ◌∙◌, ℕ, ◌-◌, ◌≤◌, zero, suc, Bool, true, false}
-use Rattle.std.proofs.Common.{List, [], ◌∷◌, length, All, Option, Some, None, arith}
-use Rattle.std.proofs.Math.Nat.{min-le_right}
-use Rattle.std.proofs.lemmas.Int.{ints}
-use Rattle.std.proofs.lemmas.List.Elements.{All-nil, All-cons, All-head, All-tail}
-use Rattle.std.specs.Prelude.{ℤ, pos, neg_ℤ, ◌+ℤ◌, ◌≤ℤ◌, min, unsigned_abs, if◌then◌else◌}
-use Rattle.std.specs.List.{AllByRecursion}
-use Rattle.close_rules.specs.ledger_types.declared.ids.AccountId.{AccountId}
-use Rattle.close_rules.specs.ledger_types.declared.claim_atom.ClaimAtom.{ClaimAtom}
-use Rattle.close_rules.specs.ledger_types.declared.offer.OfferEntry.{OfferEntry}
-use Rattle.close_rules.specs.ledger_types.declared.entry.LedgerEntry.{LedgerEntry}
-use Rattle.close_rules.specs.ledger_types.declared.key.LedgerKey.{LedgerKey}
+-- Offers that are crossed leave the bytes of entries, and what is reported of them keeps the bounds on lengths.
+use Rattle.close_laws.proofs.Prelude as prelude
+use prelude.{◌≡◌, refl, sym, subst, ◌∙◌, ℕ, ◌-◌, ◌≤◌, zero, suc, Bool, true, false, List, [], ◌∷◌, length, All, Option}
+use prelude.{Some, None, arith, min-le_right, ints, All-nil, All-cons, All-head, All-tail, ℤ, pos, neg_ℤ, ◌+ℤ◌, ◌≤ℤ◌}
+use prelude.{min, unsigned_abs, AllByRecursion, AccountId, ClaimAtom, OfferEntry, LedgerEntry, LedgerKey, i64}
+use prelude.{claim_atom, EntryMap, account_at, offer_at, with_offer, greatest_i64, Amounts, Bounds, adjusted, offered}
+use prelude.{exchanged, wheat_stays, unlimited, acquiring, releasing, Subentries, View, bound_of, IsOwedRightly, Owed}
+use prelude.{IsLegalOwing, paid, IsOfferInRange, CrossEnd, Converted, TooMany, Trade, Left, seller_gives_at}
+use prelude.{seller_takes_at, amount_at, meeting, map_after_trade, with_amount, offer_key, map_after_rest, step_by}
+use prelude.{step, turn, Crossing, atom_of, left_after, joined, at_limit, crossed, most_given, most_taken, line_paid}
+use prelude.{paying, given_fits, IsEncoded, natural_at_most_trans, natural_nonnegative, suc_at_most_suc}
+use prelude.{unsigned_abs_positive, zero_at_most}
+use Rattle.std.specs.Prelude.{if◌then◌else◌}
 use Rattle.close_rules.specs.ledger_types.declared.key.LedgerKey.TheVariants as key
-use Rattle.close_rules.specs.xdr_core.Leaves.{i64}
-use Rattle.close_rules.specs.xdr_results.Answers.{claim_atom}
-use Rattle.bucket_levels.specs.entry_map.EntryMap.{EntryMap}
-use Rattle.close_rules.specs.entry_slots.Accounts.{account_at}
-use Rattle.close_rules.specs.entry_slots.Offers.{offer_at, with_offer}
-use Rattle.close_rules.specs.reserve_rules.Reserve.{greatest_i64}
 use Rattle.close_rules.specs.offer_exchange.declared.rounding.Rounding.{Rounding}
 use Rattle.close_rules.specs.offer_exchange.declared.rounding.Rounding.TheVariants.{Normal}
-use Rattle.close_rules.specs.offer_exchange.Exchange.{Amounts, Bounds, adjusted, offered, exchanged, wheat_stays}
-use Rattle.close_rules.specs.offer_exchange.Exchange.{unlimited}
 use Rattle.close_rules.proofs.offer_exchange_proofs.Within.{exchanged_within}
-use Rattle.close_rules.specs.legal_rules.Binding.{acquiring, releasing}
-use Rattle.close_rules.specs.legal_rules.Books.{Subentries, Sponsored, View}
-use Rattle.close_rules.specs.legal_rules.OfferLiabilities.{bound_of}
-use Rattle.close_rules.specs.legal_rules.OneMore.{IsOwedRightly}
-use Rattle.close_rules.specs.legal_rules.Owing.{Owed, IsLegalOwing}
-use Rattle.close_rules.specs.legal_rules.Payments.{paid}
-use Rattle.close_rules.specs.legal_rules.Ranges.{IsOfferInRange}
+use Rattle.close_rules.specs.legal_rules.Aggregates.{Sponsored}
 use Rattle.close_rules.proofs.legal_rules_proofs.OffersKept.{IsOfferEntry, offer_entry}
-use Rattle.close_rules.specs.trade_cross.declared.crossed.CrossEnd.{CrossEnd}
-use Rattle.close_rules.specs.trade_cross.declared.crossed.CrossEnd.TheVariants.{Converted, TooMany}
-use Rattle.close_rules.specs.trade_cross.declared.trade.Trade.{Trade}
 use Rattle.close_rules.specs.trade_cross.declared.turn.Turn.{Turn}
 use Rattle.close_rules.specs.trade_cross.declared.turn.Turn.TheVariants.{Ends, Meets}
-use Rattle.close_rules.specs.trade_cross.Crossing.{Left, seller_gives_at, seller_takes_at, amount_at, meeting}
-use Rattle.close_rules.specs.trade_cross.Crossing.{map_after_trade}
-use Rattle.close_rules.specs.trade_cross.Crossing.{with_amount, offer_key, map_after_rest, step_by, step, turn}
-use Rattle.close_rules.specs.trade_cross.Crossing.{Crossing, ended}
-use Rattle.close_rules.specs.trade_cross.Crossing.{atom_of, left_after, joined, at_limit, crossed}
+use Rattle.close_rules.specs.trade_cross.Crossing.{ended}
 use Rattle.close_rules.specs.trade_cross.CrossingLaws.{kept_by}
-use Rattle.close_rules.specs.trade_cross.Holdings.{most_given, most_taken, line_paid, paying}
-use Rattle.close_rules.proofs.trade_cross_proofs.Binding.{given_fits}
 use Rattle.close_rules.proofs.trade_cross_proofs.Bonds.{available_within}
 use Rattle.close_rules.proofs.trade_cross_proofs.CrossedLegal.{met}
 use Rattle.close_rules.proofs.trade_cross_proofs.StepLegal.{IsOpen, its_range, owed_then, covered_then, trade_open}
 use Rattle.close_rules.proofs.trade_cross_proofs.StepLegal.{release_open}
 use Rattle.close_rules.proofs.trade_cross_proofs.StepLegal.{sells_fit, account_keeps, same_given, enough, in_bounds}
 use Rattle.close_rules.proofs.trade_cross_proofs.StepLegal.{step_legal}
-use Rattle.close_rules.specs.State.{IsSpelled}
 use Rattle.close_laws.proofs.Bytes.{AreBytes, AreBodyBytes, AreOfferBytes, with_account_bytes, with_line_bytes}
 use Rattle.close_laws.proofs.BytesAmounts.{numbers}
 use Rattle.close_laws.proofs.BytesMaps.{removing_bytes}
@@ -92,58 +68,48 @@ still_may m now other selling same may = tt
 
 -- ---- amounts
 
-amount_low : (n : ℕ) → pos 0 ≤ℤ pos n
-amount_low n = omega (arith, ints)
-
 amount_high : (n : ℕ) → n ≤ unlimited → pos n ≤ℤ greatest_i64
 amount_high n le = omega (arith, ints)
 
-pub amount_spelled : (n : ℕ) → n ≤ unlimited → IsSpelled i64 (pos n)
+pub amount_encoded : (n : ℕ) → n ≤ unlimited → IsEncoded i64 (pos n)
 unfolding i64
-amount_spelled n le = record { within = tt; sized = fits_i64 (pos n) (amount_low n) (amount_high n le) }
-
-at_most : (a b c : ℕ) → a ≤ b → b ≤ c → a ≤ c
-at_most a b c le more = omega arith
+amount_encoded n le = record { within = tt; sized = fits_i64 (pos n) (natural_nonnegative n) (amount_high n le) }
 
 -- an amount that is adjusted is within what is sent
 pub adjusted_few : (n d send receive most : ℕ) → 1 ≤ n → 1 ≤ d → send ≤ most → most ≤ unlimited
     → adjusted n d send receive ≤ unlimited
 unfolding adjusted
 adjusted_few n d send receive most n_some d_some fits few =
-    at_most _ send unlimited (exchanged_within Normal n d (offered send receive) n_some d_some).wheat_send
-    (at_most send most unlimited fits few)
+    natural_at_most_trans _ send unlimited (exchanged_within Normal n d (offered send receive) n_some d_some).wheat_send
+    (natural_at_most_trans send most unlimited fits few)
 
-pub abs_some : (x : ℤ) → pos 1 ≤ℤ x → 1 ≤ unsigned_abs x
-abs_some (pos n) le = omega (arith, ints)
-abs_some other le = absurd (omega (arith, ints))
+-- ---- what is reported of trades
 
--- ---- what is told of trades
-
--- an offer that was taken, as it is told
-pub record IsTold (one : ClaimAtom) : Type 0 where
+-- an offer that was taken, as it is reported
+pub record IsReported (one : ClaimAtom) : Type 0 where
   pub within : claim_atom.within one
 
-pub all_told : (atoms : List ClaimAtom) → All IsTold atoms → AllByRecursion claim_atom.within atoms
-all_told [] all = tt
-all_told (one ∷ atoms) all =
-    ((All-head IsTold one atoms all).within, all_told atoms (All-tail IsTold one atoms all))
+pub all_reported : (atoms : List ClaimAtom) → All IsReported atoms → AllByRecursion claim_atom.within atoms
+all_reported [] all = tt
+all_reported (one ∷ atoms) all =
+    ((All-head IsReported one atoms all).within, all_reported atoms (All-tail IsReported one atoms all))
 
-atom_told : (o : OfferEntry) (a : Amounts) → AreOfferBytes o → IsTold (atom_of o a)
+atom_reported : (o : OfferEntry) (a : Amounts) → AreOfferBytes o → IsReported (atom_of o a)
 unfolding claim_atom i64
-atom_told o a bytes =
+atom_reported o a bytes =
     record { within = (bytes.id.within, (tt, ((bytes.selling.within, tt), (bytes.buying.within, tt)))) }
 
 -- ---- one offer
 
-module _ (m : EntryMap) (o : OfferEntry) (stands : offer_at m o.seller_id o.offer_id ≡ Some o) (each : AreBytes m) where
+module _ (m : EntryMap) (o : OfferEntry) (exists : offer_at m o.seller_id o.offer_id ≡ Some o) (each : AreBytes m) where
   found : (e : LedgerEntry) × IsOfferEntry m o.seller_id o.offer_id o e
-  found = offer_entry m o.seller_id o.offer_id o stands
+  found = offer_entry m o.seller_id o.offer_id o exists
 
   its_bytes : AreOfferBytes o
   its_bytes = subst AreBodyBytes found.1.is (each (offer_key o) found.0 found.1.there).body
 
 module _ (v : View) (id_pool base : ℕ) (owed : Owed) (right : IsOwedRightly owed) (o : OfferEntry) (sum : ℤ)
-    (m : EntryMap) (legal : IsLegalOwing v id_pool owed sum m) (stands : offer_at m o.seller_id o.offer_id ≡ Some o)
+    (m : EntryMap) (legal : IsLegalOwing v id_pool owed sum m) (exists : offer_at m o.seller_id o.offer_id ≡ Some o)
     (each : AreBytes m) (rounding : Rounding) (left : Left) where
   abbrev w : Option LedgerKey
   w = seller_gives_at o
@@ -174,9 +140,9 @@ module _ (v : View) (id_pool base : ℕ) (owed : Owed) (right : IsOwedRightly ow
 
   open_t : IsOpen v id_pool owed sum_then t o
   open_t = trade_open v id_pool base owed right o sum r
-      (release_open v id_pool base owed right o sum m legal stands) a
-      (enough v id_pool base owed right o sum m legal stands rounding left)
-      (in_bounds v id_pool base owed right o sum m legal stands rounding left).sheep_receive
+      (release_open v id_pool base owed right o sum m legal exists) a
+      (enough v id_pool base owed right o sum m legal exists rounding left)
+      (in_bounds v id_pool base owed right o sum m legal exists rounding left).sheep_receive
 
   range : IsOfferInRange id_pool o
   range = its_range v id_pool base owed right o sum_then t open_t
@@ -200,23 +166,23 @@ module _ (v : View) (id_pool base : ℕ) (owed : Owed) (right : IsOwedRightly ow
     few : suc j ≤ unlimited
     few = subst (λ x. x ≤ unlimited) is
         (adjusted_few n d (min amount (most_given base t w)) (most_taken t s) (most_given base t w)
-        (abs_some o.price.n range.n) (abs_some o.price.d range.d) (min-le_right amount (most_given base t w))
+        (unsigned_abs_positive o.price.n range.n) (unsigned_abs_positive o.price.d range.d) (min-le_right amount (most_given base t w))
         (given_fits v id_pool base (owed_then v id_pool base owed right o) sum_then t open_t.legal covered w
         open_t.gives))
 
     has_wheat : (bound_of new).wheat ≤ most_given base t w
-    has_wheat = subst (λ x. (bound_of new).wheat ≤ x) (same_given t o new open_t.stands refl refl base w)
+    has_wheat = subst (λ x. (bound_of new).wheat ≤ x) (same_given t o new open_t.exists refl refl base w)
         (sells_fit v id_pool base owed right o sum_then t open_t j amount is)
 
     may : MaySell now w (pos (bound_of new).wheat)
-    may = still_may t now w (pos (bound_of new).wheat) (account_keeps t o new open_t.stands refl refl)
+    may = still_may t now w (pos (bound_of new).wheat) (account_keeps t o new open_t.exists refl refl)
         (available_may v id_pool (owed_then v id_pool base owed right o) sum_then t open_t.legal base covered w
         (bound_of new).wheat has_wheat)
 
     rests : AreBytes (acquiring new now)
     rests = acquiring_bytes new now may
         (with_offer_bytes t o.seller_id o.offer_id (λ was. new)
-        (λ was bytes. other_amount (pos (suc j)) (amount_spelled (suc j) few) o (its_bytes m o stands each))
+        (λ was bytes. other_amount (pos (suc j)) (amount_encoded (suc j) few) o (its_bytes m o exists each))
         traded_bytes)
 
   rest_by : (amount rest : ℕ) → amount_at base t o amount ≡ rest → AreBytes (map_after_rest o rest t)
@@ -233,20 +199,14 @@ module _ (v : View) (id_pool base : ℕ) (owed : Owed) (right : IsOwedRightly ow
 
 -- ---- all that are crossed
 
--- what a trade of at most so many offers leaves and tells
+-- what a trade of at most so many offers leaves and reports
 pub record AreCrossed (most : ℕ) (done : Crossing) : Type 0 where
   pub entries : AreBytes done.entries
-  pub told : All IsTold done.atoms
+  pub reported : All IsReported done.atoms
   pub few : length done.atoms ≤ most
 
-none_told : (most : ℕ) → 0 ≤ most
-none_told most = omega arith
-
-one_more : (n most : ℕ) → n ≤ most → suc n ≤ suc most
-one_more n most le = omega arith
-
 nothing_crossed : (most : ℕ) (m : EntryMap) (end : CrossEnd) → AreBytes m → AreCrossed most (ended m end)
-nothing_crossed most m end each = record { entries = each; told = All-nil IsTold; few = none_told most }
+nothing_crossed most m end each = record { entries = each; reported = All-nil IsReported; few = zero_at_most most }
 
 limited : (m : EntryMap) (t : Turn) → AreBytes m → AreCrossed 0 (at_limit m t)
 limited m (Ends end) each = nothing_crossed 0 m end each
@@ -256,8 +216,8 @@ also_crossed : (most : ℕ) (o : OfferEntry) (a : Amounts) (rest : Crossing) →
     → AreCrossed (suc most) (joined o a rest)
 also_crossed most o a rest bytes h = record {
   entries = h.entries;
-  told = All-cons IsTold (atom_of o a) rest.atoms (atom_told o a bytes) h.told;
-  few = one_more (length rest.atoms) most h.few;
+  reported = All-cons IsReported (atom_of o a) rest.atoms (atom_reported o a bytes) h.reported;
+  few = suc_at_most_suc (length rest.atoms) most h.few;
 }
 
 by_stays_bytes : (most : ℕ) (t : Bool) (m : EntryMap) (rest : Crossing) → AreBytes m → AreCrossed most rest
@@ -279,15 +239,15 @@ module _ (v : View) (id_pool base : ℕ) (owed : Owed) (right : IsOwedRightly ow
       ])
   by_turn k sum left m rest legal each (Ends end) is = nothing_crossed (suc k) m end each
   by_turn k sum left m rest legal each (Meets o) is =
-      let stands = (met trade left m legal.keyed o is).book.stands in
+      let exists = (met trade left m legal.keyed o is).book.exists in
       let x = step base trade.rounding left o m in
       let next = crossed base trade k (left_after left x.amounts) x.entries in
-      let bytes = step_bytes v id_pool base owed right o sum m legal stands each trade.rounding left in
+      let bytes = step_bytes v id_pool base owed right o sum m legal exists each trade.rounding left in
       also_crossed k o x.amounts (if x.stays then ended x.entries Converted else next)
-      (its_bytes m o stands each)
+      (its_bytes m o exists each)
       (by_stays_bytes k x.stays x.entries next bytes
       (rest (sum +ℤ kept_by v.asset (atom_of o x.amounts)) (left_after left x.amounts) x.entries
-      (step_legal v id_pool base owed right o sum m legal stands trade.rounding left) bytes))
+      (step_legal v id_pool base owed right o sum m legal exists trade.rounding left) bytes))
 
   pub crossed_bytes : (k : ℕ) (sum : ℤ) (left : Left) (m : EntryMap) → IsLegalOwing v id_pool owed sum m → AreBytes m
       → AreCrossed k (crossed base trade k left m)

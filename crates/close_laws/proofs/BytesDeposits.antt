@@ -1,47 +1,33 @@
 -- Deposits into pools and withdrawals from them leave the bytes of entries.
-use Rattle.std.proofs.Common.{◌≡◌, subst, ℕ, false, ◌||◌, Some, None, arith}
-use Rattle.std.proofs.lemmas.Int.{ints}
-use Rattle.std.specs.Prelude.{ℤ, pos, neg_ℤ, ◌+ℤ◌, ◌≤ℤ◌, int_le, int_lt}
+use Rattle.close_laws.proofs.Prelude.{◌≡◌, subst, ℕ, false, ◌||◌, Some, None, ℤ, pos, neg_ℤ, ◌+ℤ◌, ◌≤ℤ◌, int_le, int_lt}
+use Rattle.close_laws.proofs.Prelude.{TrustLineEntry, LiquidityPoolEntry, LiquidityPoolDepositOp}
+use Rattle.close_laws.proofs.Prelude.{LiquidityPoolWithdrawOp, EntryMap, line_at, pool_at, first_fault, greatest_i64}
+use Rattle.close_laws.proofs.Prelude.{Ctx, Deposit, holder, paying, Part, part_of, map_with_shares}
+use Rattle.close_laws.proofs.Prelude.{map_after_withdrawing, int_lt_false, nonnegative_from_int_le, or_parts}
 use Rattle.close_rules.specs.ledger_types.declared.asset.TrustLineAsset.TheVariants as line
-use Rattle.close_rules.specs.ledger_types.declared.trust_line.TrustLineEntry.{TrustLineEntry}
-use Rattle.close_rules.specs.ledger_types.declared.liquidity_pool.LiquidityPoolEntry.{LiquidityPoolEntry}
-use Rattle.close_rules.specs.op_types.declared.pool_ops.LiquidityPoolDepositOp.{LiquidityPoolDepositOp}
-use Rattle.close_rules.specs.op_types.declared.pool_ops.LiquidityPoolWithdrawOp.{LiquidityPoolWithdrawOp}
 use Rattle.close_rules.specs.op_types.declared.pool_results.LiquidityPoolDepositResult.TheVariants as depositing
 use Rattle.close_rules.specs.op_types.declared.pool_results.LiquidityPoolWithdrawResult.TheVariants as withdrawing
-use Rattle.bucket_levels.specs.entry_map.EntryMap.{EntryMap}
-use Rattle.close_rules.specs.entry_slots.Lines.{line_at}
-use Rattle.close_rules.specs.entry_slots.Pools.{pool_at}
-use Rattle.close_rules.specs.entry_slots.Tests.{first_fault}
-use Rattle.close_rules.specs.reserve_rules.Reserve.{greatest_i64}
-use Rattle.close_rules.specs.sponsor_rules.declared.context.Ctx.{Ctx}
-use Rattle.close_rules.specs.pool_math.Pools.{Deposit}
-use Rattle.close_rules.specs.legal_rules.Trades.{holder}
-use Rattle.close_rules.proofs.legal_rules_proofs.Passed.{neither}
-use Rattle.close_rules.specs.trade_cross.Holdings.{paying}
-use Rattle.close_rules.specs.pool_shares.Withdrawing.{Part, part_of, map_with_shares, map_after_withdrawing}
 use Rattle.close_rules.specs.op_pool.Deposit as depositing_into
 use Rattle.close_rules.specs.op_pool.Deposit.{deposit_by, does_pass, is_pool_full}
 use Rattle.close_rules.specs.op_pool.Withdraw as withdrawing_from
-use Rattle.close_rules.proofs.op_pool_proofs.Fitting.{not_less}
 use Rattle.close_laws.proofs.Bytes.{AreBytes}
 use Rattle.close_laws.proofs.BytesCrossing.{paying_bytes}
 use Rattle.close_laws.proofs.BytesPools.{MayHave, shares_bytes, may_give}
-use Rattle.close_laws.proofs.BytesSteps.{AreWorkBytes, Work, Leaves, tested, behind, behind_some}
+use Rattle.close_laws.proofs.BytesSteps.{AreWorkBytes, Work, Leaves, tested, past, past_some}
 use Rattle.close_laws.proofs.PassedTests.{all_pass}
 
 -- ---- deposits
 
 -- what doesn't pass 64 bits may be had
 does_not_pass : (there : ℤ) (more : ℕ) → does_pass there more ≡ false → (there +ℤ pos more) ≤ℤ greatest_i64
-does_not_pass there more less = not_less greatest_i64 (there +ℤ pos more) less
+does_not_pass there more less = int_lt_false greatest_i64 (there +ℤ pos more) less
 
 may_take : (p : LiquidityPoolEntry) (d : Deposit) → is_pool_full p d ≡ false
     → MayHave (pos d.a) (pos d.b) (pos d.shares) p
 may_take p d less =
-    let shares = neither (does_pass p.reserve_a d.a || does_pass p.reserve_b d.b)
+    let shares = or_parts (does_pass p.reserve_a d.a || does_pass p.reserve_b d.b)
     (does_pass p.total_pool_shares d.shares) less in
-    let assets = neither (does_pass p.reserve_a d.a) (does_pass p.reserve_b d.b) shares.0 in
+    let assets = or_parts (does_pass p.reserve_a d.a) (does_pass p.reserve_b d.b) shares.0 in
     record {
       first = does_not_pass p.reserve_a d.a assets.0;
       second = does_not_pass p.reserve_b d.b assets.1;
@@ -49,7 +35,7 @@ may_take p d less =
     }
 
 module _ (ctx : Ctx) (op : LiquidityPoolDepositOp) (share : TrustLineEntry) (pool : LiquidityPoolEntry) (d : Deposit)
-    (m : EntryMap) (stands : pool_at m op.pool_id ≡ Some pool) (work : AreWorkBytes ctx m) where
+    (m : EntryMap) (exists : pool_at m op.pool_id ≡ Some pool) (work : AreWorkBytes ctx m) where
   abbrev put_in : EntryMap
   put_in = map_with_shares ctx.op_source op.pool_id (pos d.a) (pos d.b) (pos d.shares) m
 
@@ -80,25 +66,22 @@ module _ (ctx : Ctx) (op : LiquidityPoolDepositOp) (share : TrustLineEntry) (poo
 pub deposited : (ctx : Ctx) (op : LiquidityPoolDepositOp) (m : EntryMap) → AreWorkBytes ctx m
     → Leaves (depositing_into.liquidity_pool_deposit ctx op m)
 deposited ctx op m work =
-    behind Work (depositing_into.disabled_tests ctx) _
-    (behind Work (depositing_into.deposit_tests op) _
-    (behind_some Work (line_at m ctx.op_source (line.PoolShare op.pool_id))
+    past Work (depositing_into.disabled_tests ctx) _
+    (past Work (depositing_into.deposit_tests op) _
+    (past_some Work (line_at m ctx.op_source (line.PoolShare op.pool_id))
     (depositing_into.answer depositing.NoTrust) _
-    (λ share held. behind_some Work (pool_at m op.pool_id) (depositing_into.answer depositing.NoTrust) _
-    (λ pool stands. put_leaves ctx op share pool (deposit_by op pool) m stands work))))
+    (λ share held. past_some Work (pool_at m op.pool_id) (depositing_into.answer depositing.NoTrust) _
+    (λ pool exists. put_leaves ctx op share pool (deposit_by op pool) m exists work))))
 
 -- ---- withdrawals
-
-pub some_taken : (n : ℤ) → int_le n (pos 0) ≡ false → pos 0 ≤ℤ n
-some_taken n more = grind (arith, ints)
 
 amount_low : (op : LiquidityPoolWithdrawOp) → first_fault (withdrawing_from.withdraw_tests op) ≡ None
     → pos 0 ≤ℤ op.amount
 amount_low op none =
     let tests = (all_pass (withdrawing_from.withdraw_tests op) none).0 in
-    let first = neither (int_le op.amount (pos 0) || int_lt op.min_amount_a (pos 0)) (int_lt op.min_amount_b (pos 0))
+    let first = or_parts (int_le op.amount (pos 0) || int_lt op.min_amount_a (pos 0)) (int_lt op.min_amount_b (pos 0))
     tests in
-    some_taken op.amount (neither (int_le op.amount (pos 0)) (int_lt op.min_amount_a (pos 0)) first.0).0
+    nonnegative_from_int_le op.amount (or_parts (int_le op.amount (pos 0)) (int_lt op.min_amount_a (pos 0)) first.0).0
 
 taken_leaves : (ctx : Ctx) (op : LiquidityPoolWithdrawOp) (pool : LiquidityPoolEntry) (part : Part) (m : EntryMap)
     → pos 0 ≤ℤ op.amount → AreWorkBytes ctx m → Leaves (withdrawing_from.taken ctx op pool part m)
@@ -106,7 +89,7 @@ taken_leaves ctx op pool part m low work =
     let a = holder ctx.op_source pool.params.asset_a in
     let b = holder ctx.op_source pool.params.asset_b in
     let given_back = map_after_withdrawing ctx.op_source op.pool_id op.amount part m in
-    behind Work (withdrawing_from.taken_tests ctx op pool part m) _ (record {
+    past Work (withdrawing_from.taken_tests ctx op pool part m) _ (record {
       gives = record {
         entries = paying_bytes b (pos part.b) (paying a (pos part.a) given_back)
             (paying_bytes a (pos part.a) given_back
@@ -119,10 +102,10 @@ taken_leaves ctx op pool part m low work =
 pub withdrawn : (ctx : Ctx) (op : LiquidityPoolWithdrawOp) (m : EntryMap) → AreWorkBytes ctx m
     → Leaves (withdrawing_from.liquidity_pool_withdraw ctx op m)
 withdrawn ctx op m work =
-    behind Work (withdrawing_from.disabled_tests ctx) _
+    past Work (withdrawing_from.disabled_tests ctx) _
     (tested Work (withdrawing_from.withdraw_tests op) _
-    (λ none. behind_some Work (line_at m ctx.op_source (line.PoolShare op.pool_id))
+    (λ none. past_some Work (line_at m ctx.op_source (line.PoolShare op.pool_id))
     (withdrawing_from.answer withdrawing.NoTrust) _
-    (λ share held. behind Work (withdrawing_from.share_tests op share) _
-    (behind_some Work (pool_at m op.pool_id) (withdrawing_from.answer withdrawing.NoTrust) _
-    (λ pool stands. taken_leaves ctx op pool (part_of pool op.amount) m (amount_low op none) work)))))
+    (λ share held. past Work (withdrawing_from.share_tests op share) _
+    (past_some Work (pool_at m op.pool_id) (withdrawing_from.answer withdrawing.NoTrust) _
+    (λ pool exists. taken_leaves ctx op pool (part_of pool op.amount) m (amount_low op none) work)))))

@@ -1,43 +1,30 @@
--- A hop of a path leaves the bytes of entries, by the book and by the pool, and what is told of it can be written.
-use Rattle.std.proofs.Common.{◌≡◌, sym, subst, ℕ, ◌+◌, ◌≤◌, Bool, true, false, [], All, length}
-use Rattle.std.proofs.Common.{Some, inl, inr, arith}
-use Rattle.std.proofs.lemmas.Int.{ints}
-use Rattle.std.proofs.lemmas.List.Elements.{All-nil, All-cons}
-use Rattle.std.specs.Prelude.{ℤ, pos, neg_ℤ, ◌+ℤ◌, ◌≤ℤ◌, unsigned_abs, if◌then◌else◌}
-use Rattle.close_rules.specs.ledger_types.declared.liquidity_pool.LiquidityPoolEntry.{LiquidityPoolEntry}
+-- A hop of a path leaves the bytes of entries, by the book and by the pool, and what is reported of it can be written.
+use Rattle.close_laws.proofs.Prelude.{◌≡◌, sym, subst, ℕ, ◌+◌, ◌≤◌, Bool, true, false, [], All, length, Some, inl, inr}
+use Rattle.close_laws.proofs.Prelude.{arith, ints, All-nil, All-cons, ℤ, pos, neg_ℤ, ◌+ℤ◌, ◌≤ℤ◌, unsigned_abs}
+use Rattle.close_laws.proofs.Prelude.{LiquidityPoolEntry, i64, claim_atom, EntryMap, pool_at, greatest_i64, Ctx}
+use Rattle.close_laws.proofs.Prelude.{Amounts, greatest, pool_entry, Trade, IsCrossable, most_crossings, Crossing}
+use Rattle.close_laws.proofs.Prelude.{converted, left_of, is_sheep_first, pool_of_pair, with_reserves, with_swap}
+use Rattle.close_laws.proofs.Prelude.{pool_atom, swapped, hop, sub_natural_at_most}
+use Rattle.std.specs.Prelude.{if◌then◌else◌}
 use Rattle.close_rules.specs.ledger_types.declared.key.LedgerKey.TheVariants as key
-use Rattle.close_rules.specs.xdr_core.Leaves.{i64}
 use Rattle.close_rules.specs.xdr_entries.Basic as basic
-use Rattle.close_rules.specs.xdr_results.Answers.{claim_atom}
-use Rattle.bucket_levels.specs.entry_map.EntryMap.{EntryMap}
-use Rattle.close_rules.specs.entry_slots.Pools.{pool_at}
-use Rattle.close_rules.specs.reserve_rules.Reserve.{greatest_i64}
-use Rattle.close_rules.specs.sponsor_rules.declared.context.Ctx.{Ctx}
-use Rattle.close_rules.specs.offer_exchange.Exchange.{Amounts}
-use Rattle.close_rules.specs.pool_math.Pools.{greatest}
-use Rattle.close_rules.proofs.legal_rules_proofs.Changed.{pool_entry}
-use Rattle.close_rules.specs.trade_cross.declared.trade.Trade.{Trade}
-use Rattle.close_rules.specs.trade_cross.Crossable.{IsCrossable}
-use Rattle.close_rules.specs.trade_cross.Crossing.{most_crossings, Crossing, converted, left_of}
-use Rattle.close_rules.specs.trade_cross.Hop.{is_sheep_first, pool_of_pair, with_reserves, with_swap, pool_atom}
-use Rattle.close_rules.specs.trade_cross.Hop.{swapped, hop}
 use Rattle.close_rules.proofs.trade_cross_proofs.PoolsLegal.{pool_legal}
 use Rattle.close_rules.proofs.trade_cross_proofs.PoolSwaps.{DoesSwap, IsSwapping, IsEither, swaps, hop_is_either}
 use Rattle.close_laws.proofs.Bytes.{ArePoolBytes, AreBodyBytes, AreBytes}
-use Rattle.close_laws.proofs.BytesCrossing.{IsTold, crossed_bytes}
+use Rattle.close_laws.proofs.BytesCrossing.{IsReported, crossed_bytes}
 use Rattle.close_laws.proofs.BytesPools.{with_pool_bytes}
 
 -- the most atoms that a hop has: so many offers, or one pool
 abbrev pub most_atoms : ℕ
 most_atoms = 1001
 
--- what a hop leaves and tells
+-- what a hop leaves and reports
 pub record AreHopBytes (done : Crossing) : Type 0 where
   pub entries : AreBytes done.entries
-  pub told : All IsTold done.atoms
+  pub reported : All IsReported done.atoms
   pub few : length done.atoms ≤ most_atoms
 
--- the assets of a trade can be told
+-- the assets of a trade can be written
 pub record AreNamed (trade : Trade) : Type 0 where
   pub sheep : basic.asset.within trade.sheep
   pub wheat : basic.asset.within trade.wheat
@@ -46,9 +33,6 @@ pub record AreNamed (trade : Trade) : Type 0 where
 
 rises_few : (x : ℤ) (n : ℕ) → (unsigned_abs x + n) ≤ greatest → (x +ℤ pos n) ≤ℤ greatest_i64
 rises_few x n le = omega (arith, ints)
-
-falls_few : (x : ℤ) (n : ℕ) → x ≤ℤ greatest_i64 → (x +ℤ neg_ℤ (pos n)) ≤ℤ greatest_i64
-falls_few x n le = omega (arith, ints)
 
 one_atom : 1 ≤ most_atoms
 one_atom = omega arith
@@ -64,7 +48,7 @@ module _ (trade : Trade) (m : EntryMap) (a : Amounts) (its : IsSwapping trade m 
 
   its_bytes : ArePoolBytes p
   its_bytes =
-      let found = pool_entry m (pool_of_pair trade) p its.stands in
+      let found = pool_entry m (pool_of_pair trade) p its.exists in
       subst AreBodyBytes found.1.is (each (key.LiquidityPool (pool_of_pair trade)) found.0 found.1.there).body
 
   reserves_bytes : (up down : ℤ) → (p.reserve_a +ℤ up) ≤ℤ greatest_i64 → (p.reserve_b +ℤ down) ≤ℤ greatest_i64
@@ -86,33 +70,33 @@ module _ (trade : Trade) (m : EntryMap) (a : Amounts) (its : IsSwapping trade m 
       else with_reserves (neg_ℤ (pos a.wheat)) (pos a.sheep) p)
   by_order true does =
       reserves_bytes (pos a.sheep) (neg_ℤ (pos a.wheat)) (rises_few p.reserve_a a.sheep does.fits)
-      (falls_few p.reserve_b a.wheat its_bytes.reserve_b)
+      (sub_natural_at_most p.reserve_b greatest_i64 a.wheat its_bytes.reserve_b)
   by_order false does =
-      reserves_bytes (neg_ℤ (pos a.wheat)) (pos a.sheep) (falls_few p.reserve_a a.wheat its_bytes.reserve_a)
+      reserves_bytes (neg_ℤ (pos a.wheat)) (pos a.sheep) (sub_natural_at_most p.reserve_a greatest_i64 a.wheat its_bytes.reserve_a)
       (rises_few p.reserve_b a.sheep does.fits)
 
   swapped_pool : ArePoolBytes (with_swap trade a p)
   swapped_pool = by_order (is_sheep_first trade) (swaps trade.rounding _ _ (left_of trade) a its.swap).0
 
   same : (q : LiquidityPoolEntry) → pool_at m (pool_of_pair trade) ≡ Some q → p ≡ q
-  same q at = let stands = its.stands in cc
+  same q at = let exists = its.exists in cc
 
   pool_left : AreBytes (swapped trade a m).entries
   pool_left =
       with_pool_bytes m (pool_of_pair trade) (with_swap trade a)
       (λ q at bytes. subst (λ x. ArePoolBytes (with_swap trade a x)) (same q at) swapped_pool) each
 
-  pool_told : basic.hash.within (pool_of_pair trade) → AreNamed trade → IsTold (pool_atom trade a)
+  pool_reported : basic.hash.within (pool_of_pair trade) → AreNamed trade → IsReported (pool_atom trade a)
   unfolding claim_atom i64
-  pool_told id named = record { within = (id, ((named.wheat, tt), (named.sheep, tt))) }
+  pool_reported id named = record { within = (id, ((named.wheat, tt), (named.sheep, tt))) }
 
   pub swapped_bytes : IsCrossable m → AreNamed trade → AreHopBytes (swapped trade a m)
   swapped_bytes k named =
-      let own = (pool_legal k.view k.id_pool k.owed k.sum m (pool_of_pair trade) p k.legal its.stands).own in
+      let own = (pool_legal k.view k.id_pool k.owed k.sum m (pool_of_pair trade) p k.legal its.exists).own in
       let id = subst (λ x. basic.hash.within x) own its_bytes.id.within in
       record {
         entries = pool_left;
-        told = All-cons IsTold (pool_atom trade a) [] (pool_told id named) (All-nil IsTold);
+        reported = All-cons IsReported (pool_atom trade a) [] (pool_reported id named) (All-nil IsReported);
         few = one_atom;
       }
 
@@ -126,7 +110,7 @@ module _ (ctx : Ctx) (trade : Trade) (m : EntryMap) (k : IsCrossable m) (each : 
       m k.legal each in
       record {
         entries = h.entries;
-        told = h.told;
+        reported = h.reported;
         few = few_crossed (length (converted ctx.base_reserve trade m).atoms) trade.crossings h.few few;
       }
 

@@ -1,36 +1,17 @@
 -- Adding, removing and moving leave the bytes of entries.
-use Rattle.std.proofs.Common.{◌≡◌, ℕ, refl, subst, Option, Some, None, Result, Ok, IfOk}
-use Rattle.std.proofs.Common.{Bool, true, false, if◌then◌else◌}
-use Rattle.std.specs.FinMap.{get}
-use Rattle.close_rules.specs.ledger_types.declared.ids.AccountId.{AccountId}
-use Rattle.close_rules.specs.ledger_types.declared.signer.Signer.{Signer}
-use Rattle.close_rules.specs.ledger_types.declared.signer.SignerKey.{SignerKey}
-use Rattle.close_rules.specs.ledger_types.declared.account.AccountEntry.{AccountEntry}
-use Rattle.close_rules.specs.ledger_types.declared.entry.LedgerEntry.{LedgerEntry}
+use Rattle.close_laws.proofs.Prelude as prelude
+use prelude.{◌≡◌, ℕ, refl, subst, Option, Some, None, Result, Ok, IfOk, Bool, true, false, if◌then◌else◌, get}
+use prelude.{AccountId, Signer, SignerKey, AccountEntry, LedgerEntry, LedgerKey, signer_key, EntryMap, put, account_at}
+use prelude.{with_account, sponsor_of, with_sponsor, unless_fault, Ctx, Sponsored, FoundSigner, charge_of, with_more}
+use prelude.{map_after_charging, map_after_releasing, map_after_exchange, with_subentry, without_subentry}
+use prelude.{with_other_payer, is_same_account, open_sponsor, payer_other_than, found_signer, index_for, IsEncoded}
 use Rattle.close_rules.specs.ledger_types.declared.entry.LedgerEntryBody.TheVariants as body
-use Rattle.close_rules.specs.ledger_types.declared.key.LedgerKey.{LedgerKey}
-use Rattle.close_rules.specs.xdr_entries.Basic.{signer_key}
-use Rattle.bucket_levels.specs.entry_map.EntryMap.{EntryMap, put}
-use Rattle.close_rules.specs.entry_slots.Accounts.{account_at, with_account}
-use Rattle.close_rules.specs.entry_slots.EntrySponsor.{sponsor_of, with_sponsor}
-use Rattle.close_rules.specs.entry_slots.Tests.{unless_fault}
 use Rattle.close_rules.specs.sponsor_rules.declared.charge.Charge.{Charge}
 use Rattle.close_rules.specs.sponsor_rules.declared.charge.Charge.TheVariants as charge
-use Rattle.close_rules.specs.sponsor_rules.declared.context.Ctx.{Ctx}
-use Rattle.close_rules.specs.sponsor_rules.declared.count.Count.TheVariants.{Sponsored}
-use Rattle.close_rules.specs.sponsor_rules.declared.signer_place.FoundSigner.{FoundSigner}
-use Rattle.close_rules.specs.sponsor_rules.Charge.{charge_of}
-use Rattle.close_rules.specs.sponsor_rules.Counting.{with_more}
-use Rattle.close_rules.specs.sponsor_rules.Paying.{map_after_charging, map_after_releasing, map_after_exchange}
-use Rattle.close_rules.specs.sponsor_rules.Paying.{with_subentry}
-use Rattle.close_rules.specs.sponsor_rules.Paying.{without_subentry, with_other_payer}
-use Rattle.close_rules.specs.sponsor_rules.Payers.{is_same_account, open_sponsor, payer_other_than}
 use Rattle.close_rules.specs.sponsor_rules.Adding as adding
 use Rattle.close_rules.specs.sponsor_rules.Removing as removing
 use Rattle.close_rules.specs.sponsor_rules.Moving as moving
-use Rattle.close_rules.specs.sponsor_rules.SignerPlace.{found_signer, place_for}
 use Rattle.close_rules.specs.sponsor_rules.Signers as signing
-use Rattle.close_rules.specs.State.{IsSpelled}
 use Rattle.close_laws.proofs.Bytes.{IsId, IsIdIf, no_id, some_id, AreAccountBytes, AreEntryBytes, AreBytes}
 use Rattle.close_laws.proofs.Bytes.{put_bytes, erase_bytes, with_account_bytes, with_sponsor_bytes}
 use Rattle.close_laws.proofs.Bytes.{AreSponsors, open_sponsor_id}
@@ -192,14 +173,14 @@ moving_bytes ctx k payer m named each = moving_found ctx k payer m (get m k) nam
 -- ---- signers
 
 pub adding_signer_bytes : (ctx : Ctx) (id : AccountId) (signer : Signer) (m : EntryMap)
-    → IsSpelled signer_key signer.key → AreSponsors ctx → AreBytes m
+    → IsEncoded signer_key signer.key → AreSponsors ctx → AreBytes m
     → AreBytesIf (signing.map_after_adding_signer ctx id signer m)
-adding_signer_bytes ctx id signer m spelled sponsors each =
+adding_signer_bytes ctx id signer m encoded sponsors each =
     let sponsor = open_sponsor ctx id in
     unless_bytes _ _ (with_account_bytes (map_after_charging 1 sponsor m) id
     (signing.with_counted_signer signer sponsor)
-    (λ account bytes. signer_at_bytes (place_for signer.key (with_subentry 1 sponsor account).signers) signer sponsor
-    spelled (open_sponsor_id ctx id sponsors) (with_subentry 1 sponsor account)
+    (λ account bytes. signer_at_bytes (index_for signer.key (with_subentry 1 sponsor account).signers) signer sponsor
+    encoded (open_sponsor_id ctx id sponsors) (with_subentry 1 sponsor account)
     (subentry_bytes 1 sponsor account bytes))
     (charging_bytes 1 sponsor m each))
 
@@ -208,7 +189,7 @@ removing_signer : (id : AccountId) (m : EntryMap) (found : Option FoundSigner) �
 removing_signer id m None each = each
 removing_signer id m (Some found) each =
     with_account_bytes (map_after_releasing 1 found.sponsor m) id (signing.without_counted_signer found)
-    (λ account bytes. without_signer_bytes found.place (without_subentry 1 found.sponsor account)
+    (λ account bytes. without_signer_bytes found.index (without_subentry 1 found.sponsor account)
     (without_subentry_bytes 1 found.sponsor account bytes))
     (releasing_bytes 1 found.sponsor m each)
 
@@ -216,28 +197,28 @@ pub removing_signer_bytes : (id : AccountId) (key : SignerKey) (m : EntryMap) �
     → AreBytes (signing.map_after_removing_signer id key m)
 removing_signer_bytes id key m each = removing_signer id m (found_signer key (account_at m id)) each
 
-signer_moved : (id : AccountId) (place : ℕ) (old new : Option AccountId) (m : EntryMap) → IsIdIf new → AreBytes m
-    → AreBytes (with_account (map_after_exchange 1 old new m) id (signing.with_moved_signer place old new))
-signer_moved id place old new m named each =
-    with_account_bytes (map_after_exchange 1 old new m) id (signing.with_moved_signer place old new)
-    (λ account bytes. signer_sponsor_bytes place new named (with_other_payer 1 old new account)
+signer_moved : (id : AccountId) (index : ℕ) (old new : Option AccountId) (m : EntryMap) → IsIdIf new → AreBytes m
+    → AreBytes (with_account (map_after_exchange 1 old new m) id (signing.with_moved_signer index old new))
+signer_moved id index old new m named each =
+    with_account_bytes (map_after_exchange 1 old new m) id (signing.with_moved_signer index old new)
+    (λ account bytes. signer_sponsor_bytes index new named (with_other_payer 1 old new account)
     (other_payer_bytes 1 old new account bytes))
     (exchange_bytes 1 old new m each)
 
-moving_signer_between : (ctx : Ctx) (id : AccountId) (place : ℕ) (old new : Option AccountId) (m : EntryMap)
-    → IsIdIf new → AreBytes m → AreBytesIf (signing.map_after_moving_signer_between ctx id place old new m)
-moving_signer_between ctx id place None None m named each = each
-moving_signer_between ctx id place None (Some new) m named each =
-    unless_bytes _ _ (signer_moved id place None (Some new) m named each)
-moving_signer_between ctx id place (Some old) new m named each =
-    unless_bytes _ _ (signer_moved id place (Some old) new m named each)
+moving_signer_between : (ctx : Ctx) (id : AccountId) (index : ℕ) (old new : Option AccountId) (m : EntryMap)
+    → IsIdIf new → AreBytes m → AreBytesIf (signing.map_after_moving_signer_between ctx id index old new m)
+moving_signer_between ctx id index None None m named each = each
+moving_signer_between ctx id index None (Some new) m named each =
+    unless_bytes _ _ (signer_moved id index None (Some new) m named each)
+moving_signer_between ctx id index (Some old) new m named each =
+    unless_bytes _ _ (signer_moved id index (Some old) new m named each)
 
 moving_found_signer : (ctx : Ctx) (id : AccountId) (payer : Option AccountId) (m : EntryMap)
     (found : Option FoundSigner) → IsIdIf payer → AreBytes m
     → AreBytesIf (signing.map_after_moving_found ctx id payer m found)
 moving_found_signer ctx id payer m None named each = each
 moving_found_signer ctx id payer m (Some found) named each =
-    moving_signer_between ctx id found.place found.sponsor (payer_other_than id payer) m (other_than id payer named)
+    moving_signer_between ctx id found.index found.sponsor (payer_other_than id payer) m (other_than id payer named)
     each
 
 pub moving_signer_bytes : (ctx : Ctx) (id : AccountId) (key : SignerKey) (payer : Option AccountId) (m : EntryMap)

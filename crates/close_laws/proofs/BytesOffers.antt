@@ -1,43 +1,19 @@
 -- Offers that change or go, and what they bind, leave the bytes of entries.
-use Rattle.std.proofs.Common.{◌≡◌, refl, subst, ap, ◌∙◌, Bool, true, false, List, [], All, Option, Some, None, arith}
-use Rattle.std.proofs.Common.{◌∷◌}
-use Rattle.std.proofs.lemmas.Int.{ints}
-use Rattle.std.proofs.lemmas.List.Elements.{All-nil}
-use Rattle.std.specs.Prelude.{ℕ, ℤ, pos, neg_ℤ, ◌+ℤ◌, ◌≤ℤ◌, if◌then◌else◌}
-use Rattle.std.specs.FinMap.{get}
-use Rattle.close_rules.specs.ledger_types.declared.ids.AccountId.{AccountId}
-use Rattle.close_rules.specs.ledger_types.declared.price.Liabilities.{Liabilities}
-use Rattle.close_rules.specs.ledger_types.declared.account.AccountEntry.{AccountEntry}
-use Rattle.close_rules.specs.ledger_types.declared.account.AccountEntryExtensionV1.{AccountEntryExtensionV1}
-use Rattle.close_rules.specs.ledger_types.declared.offer.OfferEntry.{OfferEntry}
-use Rattle.close_rules.specs.ledger_types.declared.entry.LedgerEntry.{LedgerEntry}
-use Rattle.close_rules.specs.ledger_types.declared.entry.LedgerEntryBody.{LedgerEntryBody}
+use Rattle.close_laws.proofs.Prelude as prelude
+use prelude.{◌≡◌, refl, subst, ap, ◌∙◌, Bool, true, false, List, [], All, Option, Some, None, arith, ◌∷◌, ints, All-nil}
+use prelude.{ℤ, pos, neg_ℤ, ◌+ℤ◌, ◌≤ℤ◌, get, AccountId, Liabilities, AccountEntry, AccountEntryExtensionV1, OfferEntry}
+use prelude.{LedgerEntry, LedgerEntryBody, LedgerKey, i64, EntryMap, account_at, account_in, with_account}
+use prelude.{with_account_of, with_account_in, account_liabilities, liabilities_in, is_nothing, with_liabilities_in}
+use prelude.{second_in, sponsor_of, with_offer, with_offer_of, with_offer_in, greatest_i64, bound_of, holder, risen}
+use prelude.{bound_account, bound_line, binding, acquiring, releasing, IsEncoded, filter, Asset, offers_by}
+use prelude.{map_after_cancelling, offer_key, map_after_revoking, trades_in, map_after_cancelling_all}
+use prelude.{map_without_offers, sub_natural_at_most}
+use Rattle.std.specs.Prelude.{ℕ, if◌then◌else◌}
 use Rattle.close_rules.specs.ledger_types.declared.entry.LedgerEntryBody.TheVariants as body
-use Rattle.close_rules.specs.ledger_types.declared.key.LedgerKey.{LedgerKey}
 use Rattle.close_rules.specs.ledger_types.declared.key.LedgerKey.TheVariants as key
-use Rattle.close_rules.specs.xdr_core.Leaves.{i64}
-use Rattle.bucket_levels.specs.entry_map.EntryMap.{EntryMap}
-use Rattle.close_rules.specs.entry_slots.Accounts.{account_at, account_of, account_in, with_account, with_account_of}
-use Rattle.close_rules.specs.entry_slots.Accounts.{with_account_in}
-use Rattle.close_rules.specs.entry_slots.AccountExtensions.{account_liabilities, liabilities_in, is_nothing}
-use Rattle.close_rules.specs.entry_slots.AccountExtensions.{with_liabilities_in}
-use Rattle.close_rules.specs.entry_slots.AccountExtensions.{second_in}
-use Rattle.close_rules.specs.entry_slots.EntrySponsor.{sponsor_of}
-use Rattle.close_rules.specs.entry_slots.Offers.{with_offer, with_offer_of, with_offer_in}
-use Rattle.close_rules.specs.reserve_rules.Reserve.{greatest_i64}
-use Rattle.close_rules.specs.legal_rules.OfferLiabilities.{bound_of}
-use Rattle.close_rules.specs.legal_rules.Trades.{holder}
-use Rattle.close_rules.specs.legal_rules.Binding.{risen, bound_account, bound_line, binding, acquiring, releasing}
-use Rattle.close_rules.specs.State.{IsSpelled}
+use Rattle.close_rules.specs.entry_slots.Accounts.{account_of}
 use Rattle.close_laws.proofs.Bytes.{IsIdIf, sponsors_in, AreAccountBytes, AreOfferBytes, AreBodyBytes}
 use Rattle.close_laws.proofs.Bytes.{AreBytes, put_bytes, with_line_bytes}
-use Rattle.std.specs.List.{filter}
-use Rattle.close_rules.specs.ledger_types.declared.asset.Asset.{Asset}
-use Rattle.close_rules.specs.offer_book.Book.{offers_by}
-use Rattle.close_rules.specs.trade_cross.Cancelling.{map_after_cancelling}
-use Rattle.close_rules.specs.trade_cross.Crossing.{offer_key}
-use Rattle.close_rules.specs.op_flags.LineFlags.{map_after_revoking}
-use Rattle.close_rules.specs.op_flags.Revoking.{trades_in, map_after_cancelling_all, map_without_offers}
 use Rattle.close_laws.proofs.BytesMaps.{removing_bytes}
 
 -- ---- offers
@@ -46,13 +22,13 @@ use Rattle.close_laws.proofs.BytesMaps.{removing_bytes}
 abbrev pub KeepsOffers : (OfferEntry → OfferEntry) → Type 0
 KeepsOffers change = (offer : OfferEntry) → AreOfferBytes offer → AreOfferBytes (change offer)
 
-pub other_amount : (amount : ℤ) → IsSpelled i64 amount → KeepsOffers (λ was. record was { amount = amount })
-other_amount amount spelled offer bytes = record {
+pub other_amount : (amount : ℤ) → IsEncoded i64 amount → KeepsOffers (λ was. record was { amount = amount })
+other_amount amount encoded offer bytes = record {
   id = bytes.id;
   offer_id = bytes.offer_id;
   selling = bytes.selling;
   buying = bytes.buying;
-  amount = spelled;
+  amount = encoded;
   price = bytes.price;
 }
 
@@ -95,7 +71,7 @@ module _ (m : EntryMap) (id : AccountId) (change : AccountEntry → AccountEntry
   by_found None there = each
   by_found (Some e) there = by_body e e.body there refl
 
-  -- a change of an account that keeps the bytes of the one that stands
+  -- a change of an account that keeps the bytes of the existing one
   pub with_one_account_bytes : AreBytes (with_account m id change)
   unfolding with_account
   with_one_account_bytes = by_found (get m (key.Account id)) refl
@@ -150,14 +126,11 @@ binding_bytes m (Some (key.TrustLine id held)) selling buying may each =
     (λ t bytes. record { id = bytes.id; asset = bytes.asset }) each
 binding_bytes m (Some other) selling buying may each = each
 
-no_more : (was : ℤ) (n : ℕ) → was ≤ℤ greatest_i64 → (was +ℤ neg_ℤ (pos n)) ≤ℤ greatest_i64
-no_more was n le = omega (arith, ints)
-
 as_much : (was : ℤ) → was ≤ℤ greatest_i64 → (was +ℤ pos 0) ≤ℤ greatest_i64
 as_much was le = omega (arith, ints)
 
 less_may : (m : EntryMap) (o : Option LedgerKey) (n : ℕ) → MaySell m o (neg_ℤ (pos n))
-less_may m (Some (key.Account id)) n = λ a at le. no_more (account_liabilities a).selling n le
+less_may m (Some (key.Account id)) n = λ a at le. sub_natural_at_most (account_liabilities a).selling greatest_i64 n le
 less_may m other n = tt
 
 pub same_may : (m : EntryMap) (o : Option LedgerKey) → MaySell m o (pos 0)

@@ -1,26 +1,13 @@
 -- Counts and signers that change leave the bytes of accounts.
-use Rattle.std.proofs.Common.{ℕ, suc, take, drop, List, [], ◌∷◌, map, All, Option, Some, None}
-use Rattle.std.proofs.Common.{Bool, true, false, if◌then◌else◌, nat_eq, slice_set}
-use Rattle.std.proofs.lemmas.List.Elements.{All-nil, All-cons, All-append, All-take, All-drop, All-set}
-use Rattle.std.specs.Prelude.{◌≤ℤ◌}
-use Rattle.std.specs.List.{insert, remove}
-use Rattle.close_rules.specs.ledger_types.declared.ids.AccountId.{AccountId}
-use Rattle.close_rules.specs.ledger_types.declared.signer.Signer.{Signer}
-use Rattle.close_rules.specs.ledger_types.declared.account.AccountEntry.{AccountEntry}
-use Rattle.close_rules.specs.ledger_types.declared.account.AccountEntryExtensionV1.{AccountEntryExtensionV1}
-use Rattle.close_rules.specs.ledger_types.declared.account.AccountEntryExtensionV2.{AccountEntryExtensionV2}
-use Rattle.close_rules.specs.xdr_entries.Basic.{signer_key}
-use Rattle.bucket_levels.specs.entry_map.EntryMap.{EntryMap}
-use Rattle.close_rules.specs.entry_slots.AccountExtensions.{liabilities_in, second_in, sponsorship_of, sponsorship_in}
-use Rattle.close_rules.specs.entry_slots.AccountExtensions.{with_sponsorship}
-use Rattle.close_rules.specs.reserve_rules.Reserve.{greatest_i64}
+use Rattle.close_laws.proofs.Prelude as prelude
+use prelude.{ℕ, List, [], ◌∷◌, map, All, Option, Some, None, Bool, true, false, if◌then◌else◌, nat_eq, slice_set}
+use prelude.{All-nil, All-cons, All-set, ◌≤ℤ◌, insert, remove, AccountId, Signer, AccountEntry, AccountEntryExtensionV1}
+use prelude.{AccountEntryExtensionV2, signer_key, EntryMap, liabilities_in, second_in, sponsorship_of, sponsorship_in}
+use prelude.{with_sponsorship, greatest_i64, SubEntries, Sponsoring, Sponsored, count_in, with_count, with_new_count}
+use prelude.{with_more, with_less, with_sponsors_in, with_sponsors, with_signer_at, without_signer, with_signer_sponsor}
+use prelude.{IsEncoded, all_insert, all_remove}
 use Rattle.close_rules.specs.sponsor_rules.declared.count.Count.{Count}
-use Rattle.close_rules.specs.sponsor_rules.declared.count.Count.TheVariants.{SubEntries, Sponsoring, Sponsored}
-use Rattle.close_rules.specs.sponsor_rules.Counting.{count_in, with_count, with_new_count, with_more, with_less}
 use Rattle.close_rules.specs.sponsor_rules.Paying as paying
-use Rattle.close_rules.specs.sponsor_rules.SignerPlace.{with_sponsors_in, with_sponsors, with_signer_at, without_signer}
-use Rattle.close_rules.specs.sponsor_rules.SignerPlace.{with_signer_sponsor}
-use Rattle.close_rules.specs.State.{IsSpelled}
 use Rattle.close_laws.proofs.Bytes.{IsIdIf, no_id, sponsors_in, IsKey, AreAccountBytes, AreBytes}
 use Rattle.close_laws.proofs.Bytes.{KeepsAccounts, with_account_bytes}
 
@@ -138,47 +125,40 @@ same_selling : (change : List (Option AccountId) → List (Option AccountId)) (e
 same_selling change None le = le
 same_selling change (Some ext) le = le
 
-insert_all : {X : Type 0} (P : X → Type 0) (xs : List X) (i : ℕ) (x : X) → All P xs → P x → All P (insert xs i x)
-insert_all P xs i x all here = All-append P (take i xs) (x ∷ drop i xs) (All-take P i xs all)
-    (All-cons P x (drop i xs) here (All-drop P i xs all))
-
-remove_all : {X : Type 0} (P : X → Type 0) (xs : List X) (i : ℕ) → All P xs → All P (remove xs i)
-remove_all P xs i all = All-append P (take i xs) (drop (suc i) xs) (All-take P i xs all) (All-drop P (suc i) xs all)
-
-pub signer_at_bytes : (place : ℕ) (signer : Signer) (sponsor : Option AccountId) → IsSpelled signer_key signer.key
-    → IsIdIf sponsor → KeepsAccounts (with_signer_at place signer sponsor)
-signer_at_bytes place signer sponsor spelled named account bytes = record {
+pub signer_at_bytes : (index : ℕ) (signer : Signer) (sponsor : Option AccountId) → IsEncoded signer_key signer.key
+    → IsIdIf sponsor → KeepsAccounts (with_signer_at index signer sponsor)
+signer_at_bytes index signer sponsor encoded named account bytes = record {
   id = bytes.id;
   inflation_dest = bytes.inflation_dest;
   home_domain = bytes.home_domain;
   thresholds = bytes.thresholds;
-  signers = insert_all IsKey account.signers place signer bytes.signers spelled;
-  sponsors = changed_sponsors (λ sponsors. insert sponsors place sponsor) account.ext
-      (λ xs all. insert_all IsIdIf xs place sponsor all named) bytes.sponsors;
-  selling = same_selling (λ sponsors. insert sponsors place sponsor) account.ext bytes.selling;
+  signers = all_insert IsKey account.signers index signer bytes.signers encoded;
+  sponsors = changed_sponsors (λ sponsors. insert sponsors index sponsor) account.ext
+      (λ xs all. all_insert IsIdIf xs index sponsor all named) bytes.sponsors;
+  selling = same_selling (λ sponsors. insert sponsors index sponsor) account.ext bytes.selling;
 }
 
-pub without_signer_bytes : (place : ℕ) → KeepsAccounts (without_signer place)
-without_signer_bytes place account bytes = record {
+pub without_signer_bytes : (index : ℕ) → KeepsAccounts (without_signer index)
+without_signer_bytes index account bytes = record {
   id = bytes.id;
   inflation_dest = bytes.inflation_dest;
   home_domain = bytes.home_domain;
   thresholds = bytes.thresholds;
-  signers = remove_all IsKey account.signers place bytes.signers;
-  sponsors = changed_sponsors (λ sponsors. remove sponsors place) account.ext
-      (λ xs all. remove_all IsIdIf xs place all) bytes.sponsors;
-  selling = same_selling (λ sponsors. remove sponsors place) account.ext bytes.selling;
+  signers = all_remove IsKey account.signers index bytes.signers;
+  sponsors = changed_sponsors (λ sponsors. remove sponsors index) account.ext
+      (λ xs all. all_remove IsIdIf xs index all) bytes.sponsors;
+  selling = same_selling (λ sponsors. remove sponsors index) account.ext bytes.selling;
 }
 
-pub signer_sponsor_bytes : (place : ℕ) (sponsor : Option AccountId) → IsIdIf sponsor
-    → KeepsAccounts (with_signer_sponsor place sponsor)
-signer_sponsor_bytes place sponsor named account bytes = record {
+pub signer_sponsor_bytes : (index : ℕ) (sponsor : Option AccountId) → IsIdIf sponsor
+    → KeepsAccounts (with_signer_sponsor index sponsor)
+signer_sponsor_bytes index sponsor named account bytes = record {
   id = bytes.id;
   inflation_dest = bytes.inflation_dest;
   home_domain = bytes.home_domain;
   thresholds = bytes.thresholds;
   signers = bytes.signers;
-  sponsors = changed_sponsors (λ sponsors. slice_set sponsors place sponsor) account.ext
-      (λ xs all. All-set IsIdIf xs place sponsor named all) bytes.sponsors;
-  selling = same_selling (λ sponsors. slice_set sponsors place sponsor) account.ext bytes.selling;
+  sponsors = changed_sponsors (λ sponsors. slice_set sponsors index sponsor) account.ext
+      (λ xs all. All-set IsIdIf xs index sponsor named all) bytes.sponsors;
+  selling = same_selling (λ sponsors. slice_set sponsors index sponsor) account.ext bytes.selling;
 }

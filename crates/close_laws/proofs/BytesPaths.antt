@@ -1,43 +1,30 @@
--- An amount that goes along a path leaves the bytes of entries, hop by hop, and what is told of it can be written.
-use Rattle.std.proofs.Common.{◌≡◌, refl, ℕ, ◌+◌, ◌*◌, ◌-◌, ◌≤◌, suc, Bool, true, false, List, [], ◌∷◌}
-use Rattle.std.proofs.Common.{◌++◌, All, length, Result, Ok, Err, arith}
+-- An amount that goes along a path leaves the bytes of entries, hop by hop, and what is reported of it can be written.
+use Rattle.close_laws.proofs.Prelude.{◌≡◌, refl, ℕ, ◌+◌, ◌*◌, ◌-◌, ◌≤◌, suc, Bool, true, false, List, [], ◌∷◌, ◌++◌}
+use Rattle.close_laws.proofs.Prelude.{All, length, Result, Ok, Err, arith, All-nil, All-append, ℤ, AllByRecursion}
+use Rattle.close_laws.proofs.Prelude.{Asset, ClaimAtom, EntryMap, Ctx, CrossEnd, CrossSelf, TooMany, Trade, IsCrossable}
+use Rattle.close_laws.proofs.Prelude.{most_crossings, Crossing, hop, is_served, PathFault, Carried, set_out, and_then}
+use Rattle.close_laws.proofs.Prelude.{by_end, hopped, after_hop, receiving, sending, needed_before, carried_on}
+use Rattle.close_laws.proofs.Prelude.{is_same_asset, received_hop, sent_hop, received, sent}
 use Rattle.std.proofs.lemmas.List.{length-append}
-use Rattle.std.proofs.lemmas.List.Elements.{All-nil, All-append}
-use Rattle.std.specs.Prelude.{ℤ, if◌then◌else◌}
-use Rattle.std.specs.List.{AllByRecursion}
-use Rattle.close_rules.specs.ledger_types.declared.asset.Asset.{Asset}
-use Rattle.close_rules.specs.ledger_types.declared.claim_atom.ClaimAtom.{ClaimAtom}
+use Rattle.std.specs.Prelude.{if◌then◌else◌}
 use Rattle.close_rules.specs.xdr_entries.Basic as basic
-use Rattle.bucket_levels.specs.entry_map.EntryMap.{EntryMap}
-use Rattle.close_rules.specs.sponsor_rules.declared.context.Ctx.{Ctx}
-use Rattle.close_rules.specs.trade_cross.declared.crossed.CrossEnd.{CrossEnd}
-use Rattle.close_rules.specs.trade_cross.declared.crossed.CrossEnd.TheVariants.{CrossSelf, TooMany}
-use Rattle.close_rules.specs.trade_cross.declared.trade.Trade.{Trade}
-use Rattle.close_rules.specs.trade_cross.Crossable.{IsCrossable}
-use Rattle.close_rules.specs.trade_cross.Crossing.{most_crossings, Crossing}
-use Rattle.close_rules.specs.trade_cross.Hop.{hop, is_served}
 use Rattle.close_rules.specs.trade_cross.HopLaws.{crossings_in, IsHopTrade}
 use Rattle.close_rules.proofs.trade_cross_proofs.HopsKeep.{hop_keeps}
-use Rattle.close_rules.specs.op_payment.declared.path_fault.PathFault.{PathFault}
 use Rattle.close_rules.specs.op_payment.declared.path_fault.PathFault.TheVariants as fault
-use Rattle.close_rules.specs.op_payment.Paths.{Carried, set_out, and_then, by_end, hopped, after_hop, receiving}
-use Rattle.close_rules.specs.op_payment.Paths.{sending}
-use Rattle.close_rules.specs.op_payment.Paths.{needed_before, carried_on, is_same_asset, received_hop, sent_hop}
-use Rattle.close_rules.specs.op_payment.Paths.{received, sent}
 use Rattle.close_rules.proofs.op_payment_proofs.HopsMade.{receiving_asks, sending_asks}
 use Rattle.close_laws.proofs.Bytes.{AreBytes}
-use Rattle.close_laws.proofs.BytesCrossing.{IsTold}
+use Rattle.close_laws.proofs.BytesCrossing.{IsReported}
 use Rattle.close_laws.proofs.BytesHops.{most_atoms, AreHopBytes, AreNamed, hop_bytes}
 
--- an asset that can be told
+-- an asset that can be written
 abbrev pub IsNamed : Asset → Type 0
 IsNamed held = basic.asset.within held
 
--- what an amount on its way leaves and tells, in so many atoms at most
+-- what an amount on its way leaves and reports, in so many atoms at most
 pub record AreWayBytes (most : ℕ) (carried : Carried) : Type 0 where
   pub entries : AreBytes carried.entries
   pub crossable : IsCrossable carried.entries
-  pub told : All IsTold carried.atoms
+  pub reported : All IsReported carried.atoms
   pub few : length carried.atoms ≤ most
   -- so many offers may still be crossed at most
   pub crossings : carried.crossings ≤ most_crossings
@@ -57,7 +44,7 @@ pub set_out_bytes : (amount : ℤ) (m : EntryMap) → AreBytes m → IsCrossable
 set_out_bytes amount m each k = record {
   entries = each;
   crossable = k;
-  told = All-nil IsTold;
+  reported = All-nil IsReported;
   few = none_few;
   crossings = all_crossings;
 }
@@ -70,9 +57,9 @@ still_few n most le = omega arith
 fewer_left : (n k most : ℕ) → n ≤ most → (n - k) ≤ most
 fewer_left n k most le = omega arith
 
-front_few : (first later : List ClaimAtom) (most : ℕ) → length first ≤ most_atoms → length later ≤ most
+prefix_few : (first later : List ClaimAtom) (most : ℕ) → length first ≤ most_atoms → length later ≤ most
     → length (first ++ later) ≤ (most + most_atoms)
-front_few first later most one other = omega (arith, length-append first later)
+prefix_few first later most one other = omega (arith, length-append first later)
 
 back_few : (first later : List ClaimAtom) (most : ℕ) → length first ≤ most → length later ≤ most_atoms
     → length (first ++ later) ≤ (most + most_atoms)
@@ -84,7 +71,7 @@ still_way : (most : ℕ) (carried : Carried) → AreWayBytes most carried → Ar
 still_way most carried way = record {
   entries = way.entries;
   crossable = way.crossable;
-  told = way.told;
+  reported = way.reported;
   few = still_few (length carried.atoms) most way.few;
   crossings = way.crossings;
 }
@@ -124,8 +111,8 @@ module _ (ctx : Ctx) (trade : Trade) (most : ℕ) (carried : Carried) (way : Are
   back_bytes = by_its_end (most + most_atoms) trade (needed_before carried) done done.end (record {
     entries = left.entries;
     crossable = then_crossable;
-    told = All-append IsTold done.atoms carried.atoms left.told way.told;
-    few = front_few done.atoms carried.atoms most left.few way.few;
+    reported = All-append IsReported done.atoms carried.atoms left.reported way.reported;
+    few = prefix_few done.atoms carried.atoms most left.few way.few;
     crossings = fewer_left carried.crossings (crossings_in done.atoms) most_crossings way.crossings;
   })
 
@@ -133,7 +120,7 @@ module _ (ctx : Ctx) (trade : Trade) (most : ℕ) (carried : Carried) (way : Are
   on_bytes = by_its_end (most + most_atoms) trade (carried_on carried) done done.end (record {
     entries = left.entries;
     crossable = then_crossable;
-    told = All-append IsTold carried.atoms done.atoms way.told left.told;
+    reported = All-append IsReported carried.atoms done.atoms way.reported left.reported;
     few = back_few carried.atoms done.atoms most way.few left.few;
     crossings = fewer_left carried.crossings (crossings_in done.atoms) most_crossings way.crossings;
   })
@@ -163,9 +150,9 @@ module _ (ctx : Ctx) (sheep wheat : Asset) (from : IsNamed sheep) (to : IsNamed 
 -- ---- along the path
 
 -- so many atoms more at most, by a path
-abbrev pub most_behind : ℕ → List Asset → ℕ
-most_behind most [] = most + most_atoms
-most_behind most (next ∷ path) = most_behind most path + most_atoms
+abbrev pub most_after : ℕ → List Asset → ℕ
+most_after most [] = most + most_atoms
+most_after most (next ∷ path) = most_after most path + most_atoms
 
 -- so many atoms more at most, by a path whose first hop was made
 abbrev pub most_before : ℕ → List Asset → ℕ
@@ -179,13 +166,13 @@ next_way most more (Ok carried) next way on = on carried way
 
 pub received_bytes : (ctx : Ctx) (first : Asset) (path : List Asset) (last : Asset) (most : ℕ) (carried : Carried)
     → IsNamed first → AllByRecursion basic.asset.within path → IsNamed last → AreWayBytes most carried
-    → WayIf (most_behind most path) (received ctx first path last carried)
+    → WayIf (most_after most path) (received ctx first path last carried)
 received_bytes ctx first [] last most carried from all to way =
     received_hop_bytes ctx first last from to most carried way
 received_bytes ctx first (next ∷ path) last most carried from all to way =
-    next_way (most_behind most path) (most_behind most path + most_atoms) (received ctx next path last carried)
+    next_way (most_after most path) (most_after most path + most_atoms) (received ctx next path last carried)
     (received_hop ctx first next) (received_bytes ctx next path last most carried all.0 all.1 to way)
-    (λ c so_far. received_hop_bytes ctx first next from all.0 (most_behind most path) c so_far)
+    (λ c so_far. received_hop_bytes ctx first next from all.0 (most_after most path) c so_far)
 
 pub sent_bytes : (ctx : Ctx) (first : Asset) (path : List Asset) (last : Asset) (most : ℕ) (carried : Carried)
     → IsNamed first → AllByRecursion basic.asset.within path → IsNamed last → AreWayBytes most carried
@@ -201,15 +188,15 @@ sent_bytes ctx first (next ∷ path) last most carried from all to way =
 first_few : (most : ℕ) → (most + 1001) ≤ (most + (1 * 1001))
 first_few most = omega arith
 
-behind_more : (n most k : ℕ) → n ≤ (most + (suc k * 1001)) → (n + 1001) ≤ (most + (suc (suc k) * 1001))
-behind_more n most k le = omega arith
+after_more : (n most k : ℕ) → n ≤ (most + (suc k * 1001)) → (n + 1001) ≤ (most + (suc (suc k) * 1001))
+after_more n most k le = omega arith
 
 before_more : (n most k : ℕ) → n ≤ ((most + 1001) + (suc k * 1001)) → n ≤ (most + (suc (suc k) * 1001))
 before_more n most k le = omega arith
 
-behind_few : (path : List Asset) (most : ℕ) → most_behind most path ≤ (most + (suc (length path) * 1001))
-behind_few [] most = first_few most
-behind_few (next ∷ path) most = behind_more (most_behind most path) most (length path) (behind_few path most)
+after_few : (path : List Asset) (most : ℕ) → most_after most path ≤ (most + (suc (length path) * 1001))
+after_few [] most = first_few most
+after_few (next ∷ path) most = after_more (most_after most path) most (length path) (after_few path most)
 
 before_few : (path : List Asset) (most : ℕ) → most_before most path ≤ (most + (suc (length path) * 1001))
 before_few [] most = first_few most
@@ -223,8 +210,8 @@ most_in_paths = 6006
 in_all : (n k : ℕ) → n ≤ (0 + (suc k * 1001)) → k ≤ 5 → n ≤ most_in_paths
 in_all n k few le = omega arith
 
-pub behind_path : (path : List Asset) → length path ≤ 5 → most_behind 0 path ≤ most_in_paths
-behind_path path le = in_all (most_behind 0 path) (length path) (behind_few path 0) le
+pub past_path : (path : List Asset) → length path ≤ 5 → most_after 0 path ≤ most_in_paths
+past_path path le = in_all (most_after 0 path) (length path) (after_few path 0) le
 
 pub before_path : (path : List Asset) → length path ≤ 5 → most_before 0 path ≤ most_in_paths
 before_path path le = in_all (most_before 0 path) (length path) (before_few path 0) le

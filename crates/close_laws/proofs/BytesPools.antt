@@ -1,33 +1,15 @@
 -- Pools that are made, change or go, and lines of their shares that are counted, leave the bytes of entries.
-use Rattle.std.proofs.Common.{◌≡◌, refl, sym, ap, subst, ◌∙◌, ℕ, Bool, true, false, if◌then◌else◌}
-use Rattle.std.proofs.Common.{Option, Some, None, arith}
-use Rattle.std.proofs.lemmas.Int.{ints}
-use Rattle.std.specs.Prelude.{ℤ, pos, neg_ℤ, ◌+ℤ◌, ◌≤ℤ◌}
-use Rattle.std.specs.FinMap.{get}
-use Rattle.close_rules.specs.ledger_types.declared.ids.AccountId.{AccountId}
-use Rattle.close_rules.specs.ledger_types.declared.ids.Hash.{Hash}
-use Rattle.close_rules.specs.ledger_types.declared.asset.PoolParams.{PoolParams}
+use Rattle.close_laws.proofs.Prelude as prelude
+use prelude.{◌≡◌, refl, sym, ap, subst, ◌∙◌, ℕ, Bool, true, false, if◌then◌else◌, Option, Some, None, arith, ints, ℤ}
+use prelude.{pos, neg_ℤ, ◌+ℤ◌, ◌≤ℤ◌, get, AccountId, Hash, PoolParams, LiquidityPoolEntry, LedgerEntry, LedgerEntryBody}
+use prelude.{LedgerKey, hash, pool_params, EntryMap, erase, pool_in, pool_of, pool_at, with_pool, with_pool_of}
+use prelude.{with_pool_in, map_after_removing, greatest_i64, new_pool, needed_line, with_uses, map_with_uses_at}
+use prelude.{map_with_uses, with_lines, map_with_share_lines, paying, empty_pool, map_with_pool_by, has_no_line}
+use prelude.{map_without_bare_pool, map_without_share_line, with_change, share_key, map_with_shares, IsEncoded}
+use prelude.{natural_nonnegative}
 use Rattle.close_rules.specs.ledger_types.declared.asset.TrustLineAsset.TheVariants as line
-use Rattle.close_rules.specs.ledger_types.declared.liquidity_pool.LiquidityPoolEntry.{LiquidityPoolEntry}
-use Rattle.close_rules.specs.ledger_types.declared.entry.LedgerEntry.{LedgerEntry}
-use Rattle.close_rules.specs.ledger_types.declared.entry.LedgerEntryBody.{LedgerEntryBody}
 use Rattle.close_rules.specs.ledger_types.declared.entry.LedgerEntryBody.TheVariants as body
-use Rattle.close_rules.specs.ledger_types.declared.key.LedgerKey.{LedgerKey}
 use Rattle.close_rules.specs.ledger_types.declared.key.LedgerKey.TheVariants as key
-use Rattle.close_rules.specs.xdr_entries.Basic.{hash, pool_params}
-use Rattle.bucket_levels.specs.entry_map.EntryMap.{EntryMap, erase}
-use Rattle.close_rules.specs.entry_slots.Pools.{pool_in, pool_of, pool_at, with_pool, with_pool_of, with_pool_in}
-use Rattle.close_rules.specs.sponsor_rules.Removing.{map_after_removing}
-use Rattle.close_rules.specs.reserve_rules.Reserve.{greatest_i64}
-use Rattle.close_rules.specs.legal_rules.PoolLaws.{new_pool}
-use Rattle.close_rules.specs.legal_rules.PoolShares.{needed_line}
-use Rattle.close_rules.specs.legal_rules.ShareLaws.{with_uses, map_with_uses_at, map_with_uses, with_lines}
-use Rattle.close_rules.specs.legal_rules.ShareLaws.{map_with_share_lines}
-use Rattle.close_rules.specs.trade_cross.Holdings.{paying}
-use Rattle.close_rules.specs.pool_shares.ShareLines.{empty_pool, map_with_pool_by, has_no_line, map_without_bare_pool}
-use Rattle.close_rules.specs.pool_shares.ShareLines.{map_without_share_line}
-use Rattle.close_rules.specs.pool_shares.Withdrawing.{with_change, share_key, map_with_shares}
-use Rattle.close_rules.specs.State.{IsSpelled}
 use Rattle.close_laws.proofs.Bytes.{ArePoolBytes, AreBodyBytes, AreBytes, no_id, put_bytes, erase_bytes}
 use Rattle.close_laws.proofs.Bytes.{with_line_bytes}
 use Rattle.close_laws.proofs.BytesCrossing.{paying_bytes}
@@ -55,12 +37,12 @@ module _ (m : EntryMap) (pool : Hash) (change : LiquidityPoolEntry → Liquidity
   by_found None there = each
   by_found (Some e) there = by_body e e.body there refl
 
-  -- a change of a pool that keeps the bytes of the one that stands
+  -- a change of a pool that keeps the bytes of the existing one
   pub with_pool_bytes : AreBytes (with_pool m pool change)
   unfolding with_pool
   with_pool_bytes = by_found (get m (key.LiquidityPool pool)) refl
 
--- the same pool stands where the same entry does
+-- the same pool exists where the same entry does
 pub same_pool : (m n : EntryMap) (pool : Hash) → get m (key.LiquidityPool pool) ≡ get n (key.LiquidityPool pool)
     → pool_at m pool ≡ pool_at n pool
 unfolding pool_at
@@ -98,15 +80,12 @@ shares_bytes id pool a b shares m may each =
 less_of : (was n : ℤ) → was ≤ℤ greatest_i64 → pos 0 ≤ℤ n → (was +ℤ neg_ℤ n) ≤ℤ greatest_i64
 less_of was n le low = omega (arith, ints)
 
-least : (n : ℕ) → pos 0 ≤ℤ pos n
-least n = omega (arith, ints)
-
 -- what a pool gives it may give
 pub may_give : (a b : ℕ) (shares : ℤ) (p : LiquidityPoolEntry) → ArePoolBytes p → pos 0 ≤ℤ shares
     → MayHave (neg_ℤ (pos a)) (neg_ℤ (pos b)) (neg_ℤ shares) p
 may_give a b shares p bytes low = record {
-  first = less_of p.reserve_a (pos a) bytes.reserve_a (least a);
-  second = less_of p.reserve_b (pos b) bytes.reserve_b (least b);
+  first = less_of p.reserve_a (pos a) bytes.reserve_a (natural_nonnegative a);
+  second = less_of p.reserve_b (pos b) bytes.reserve_b (natural_nonnegative b);
   total = less_of p.total_pool_shares shares bytes.shares low;
 }
 
@@ -127,7 +106,7 @@ pub share_lines_bytes : (n : ℤ) (id : AccountId) (pool : Hash) (params : PoolP
 share_lines_bytes n id pool params m may each =
     let first = map_with_uses n id params.asset_a m in
     let both = map_with_uses n id params.asset_b first in
-    let stands = same_pool both m pool (beside_uses pool n (needed_line id params.asset_b) first
+    let exists = same_pool both m pool (beside_uses pool n (needed_line id params.asset_b) first
     ∙ beside_uses pool n (needed_line id params.asset_a) m) in
     with_pool_bytes both pool (with_lines n) (λ p at bytes. record {
       id = bytes.id;
@@ -135,7 +114,7 @@ share_lines_bytes n id pool params m may each =
       reserve_a = bytes.reserve_a;
       reserve_b = bytes.reserve_b;
       shares = bytes.shares;
-      lines = may p (sym stands ∙ at) bytes;
+      lines = may p (sym exists ∙ at) bytes;
     })
     (uses_bytes n (needed_line id params.asset_b) first (uses_bytes n (needed_line id params.asset_a) m each))
 
@@ -164,11 +143,11 @@ share_line_removed id pool params m each =
 none_is_least : pos 0 ≤ℤ greatest_i64
 none_is_least = omega (arith, ints)
 
-empty_bytes : (id : Hash) (params : PoolParams) → IsSpelled hash id → IsSpelled pool_params params
+empty_bytes : (id : Hash) (params : PoolParams) → IsEncoded hash id → IsEncoded pool_params params
     → ArePoolBytes (empty_pool id params)
-empty_bytes id params named spelled = record {
+empty_bytes id params named encoded = record {
   id = named;
-  params = spelled;
+  params = encoded;
   reserve_a = none_is_least;
   reserve_b = none_is_least;
   shares = none_is_least;
@@ -176,8 +155,8 @@ empty_bytes id params named spelled = record {
 }
 
 pub pool_made : (seq : ℕ) (id : Hash) (params : PoolParams) (m : EntryMap) (found : Option LiquidityPoolEntry)
-    → IsSpelled hash id → IsSpelled pool_params params → AreBytes m → AreBytes (map_with_pool_by seq id params m found)
-pool_made seq id params m None named spelled each =
+    → IsEncoded hash id → IsEncoded pool_params params → AreBytes m → AreBytes (map_with_pool_by seq id params m found)
+pool_made seq id params m None named encoded each =
     put_bytes m (new_pool seq (empty_pool id params)) each
-    (record { body = empty_bytes id params named spelled; sponsor = no_id })
-pool_made seq id params m (Some pool) named spelled each = each
+    (record { body = empty_bytes id params named encoded; sponsor = no_id })
+pool_made seq id params m (Some pool) named encoded each = each

@@ -1,55 +1,26 @@
 -- A revocation of pool shares leaves the bytes of entries.
-use Rattle.std.proofs.Common.{◌≡◌, refl, sym, subst, ℕ, zero, suc, ◌≤◌, Bool, true, false}
-use Rattle.std.proofs.Common.{if◌then◌else◌, List, [], ◌∷◌, Option, Some, None, Result, Ok, Err, arith}
-use Rattle.std.proofs.lemmas.Int.{ints}
-use Rattle.std.proofs.lemmas.List.Elements.{All-nil, All-cons}
-use Rattle.std.specs.Prelude.{ℤ, pos, ◌≤ℤ◌, unsigned_abs, is_some}
-use Rattle.std.specs.FinMap.{get}
-use Rattle.close_rules.specs.ledger_types.declared.ids.AccountId.{AccountId}
-use Rattle.close_rules.specs.ledger_types.declared.ids.Hash.{Hash}
-use Rattle.close_rules.specs.ledger_types.declared.asset.Asset.{Asset}
-use Rattle.close_rules.specs.ledger_types.declared.asset.PoolParams.{PoolParams}
+use Rattle.close_laws.proofs.Prelude as prelude
+use prelude.{◌≡◌, refl, sym, subst, ℕ, zero, suc, ◌≤◌, Bool, true, false, if◌then◌else◌, List, [], ◌∷◌, Option, Some}
+use prelude.{None, Result, Ok, Err, arith, ints, All-nil, All-cons, ℤ, pos, ◌≤ℤ◌, unsigned_abs, is_some, get, AccountId}
+use prelude.{Hash, Asset, PoolParams, Unconditional, TrustLineEntry, LiquidityPoolEntry, LedgerEntry, LedgerKey}
+use prelude.{OperationResult, NotSupported, EntryMap, balance_at, with_sponsor, line_at, pool_at, greatest_i64, Ctx}
+use prelude.{AddFault, map_after_adding, payer_of, payer_tests_at, map_after_charging, unlimited, withdrawn, IsKeyed}
+use prelude.{pool_entry, Part, part_of, is_issued_by, Revoked, Given, given_of, IsEncoded, natural_at_most_trans}
+use prelude.{unsigned_abs_at_most, unless_first_ok}
 use Rattle.close_rules.specs.ledger_types.declared.asset.TrustLineAsset.TheVariants as line
-use Rattle.close_rules.specs.ledger_types.declared.predicate.ClaimPredicate.TheVariants.{Unconditional}
-use Rattle.close_rules.specs.ledger_types.declared.trust_line.TrustLineEntry.{TrustLineEntry}
-use Rattle.close_rules.specs.ledger_types.declared.liquidity_pool.LiquidityPoolEntry.{LiquidityPoolEntry}
-use Rattle.close_rules.specs.ledger_types.declared.entry.LedgerEntry.{LedgerEntry}
-use Rattle.close_rules.specs.ledger_types.declared.key.LedgerKey.{LedgerKey}
 use Rattle.close_rules.specs.ledger_types.declared.key.LedgerKey.TheVariants as key
-use Rattle.close_rules.specs.op_types.declared.operation_result.OperationResult.{OperationResult}
-use Rattle.close_rules.specs.op_types.declared.operation_result.OperationResult.TheVariants.{NotSupported}
 use Rattle.close_rules.specs.xdr_entries.Basic as basic
-use Rattle.bucket_levels.specs.entry_map.EntryMap.{EntryMap}
-use Rattle.close_rules.specs.entry_slots.Balances.{balance_at}
-use Rattle.close_rules.specs.entry_slots.EntrySponsor.{with_sponsor}
-use Rattle.close_rules.specs.entry_slots.Lines.{line_at}
-use Rattle.close_rules.specs.entry_slots.Pools.{pool_at}
-use Rattle.close_rules.specs.reserve_rules.Reserve.{greatest_i64}
-use Rattle.close_rules.specs.sponsor_rules.declared.context.Ctx.{Ctx}
-use Rattle.close_rules.specs.sponsor_rules.declared.fault.AddFault.{AddFault}
-use Rattle.close_rules.specs.sponsor_rules.Adding.{map_after_adding}
-use Rattle.close_rules.specs.sponsor_rules.Payers.{payer_of, payer_tests_at}
-use Rattle.close_rules.specs.sponsor_rules.Paying.{map_after_charging}
-use Rattle.close_rules.specs.offer_exchange.Exchange.{unlimited}
-use Rattle.close_rules.specs.pool_math.Pools.{withdrawn}
 use Rattle.close_rules.proofs.pool_math_proofs.WithdrawalLaws.{withdrawn_fair}
-use Rattle.close_rules.specs.legal_rules.Holdings.{IsKeyed}
-use Rattle.close_rules.proofs.legal_rules_proofs.Changed.{pool_entry}
-use Rattle.close_rules.proofs.legal_rules_proofs.Passed.{passed}
-use Rattle.close_rules.specs.pool_shares.Withdrawing.{Part, part_of}
-use Rattle.close_rules.specs.op_form.Assets.{is_issued_by}
 use Rattle.close_rules.specs.op_flags.LineFlags as flagging
 use Rattle.close_rules.specs.op_flags.RevokedShares as revoking
-use Rattle.close_rules.specs.op_flags.RevokedShares.{Revoked, Given, given_of}
-use Rattle.close_rules.specs.State.{IsSpelled}
 use Rattle.close_laws.proofs.Bytes.{IsId, IsIdIf, no_id, IsClaimant, ArePoolBytes, AreBodyBytes, AreEntryBytes}
 use Rattle.close_laws.proofs.Bytes.{AreBytes, AreSponsors, IsOpener, payer_id, payer_of_id}
-use Rattle.close_laws.proofs.BytesClaims.{id_spelled}
-use Rattle.close_laws.proofs.BytesCrossing.{amount_spelled}
+use Rattle.close_laws.proofs.BytesClaims.{id_encoded}
+use Rattle.close_laws.proofs.BytesCrossing.{amount_encoded}
 use Rattle.close_laws.proofs.BytesMaps.{made_bytes, adding_balance_bytes}
 use Rattle.close_laws.proofs.BytesPredicates.{unconditional_claimant}
-use Rattle.close_laws.proofs.BytesSteps.{Gives, behind, behind_made, behind_step}
-use Rattle.close_laws.proofs.Digests.{hash_spelled}
+use Rattle.close_laws.proofs.BytesSteps.{Gives, past, past_made, past_step}
+use Rattle.close_laws.proofs.Digests.{hash_encoded}
 use Rattle.close_laws.proofs.SharesBeside.{KeepsPools, keeps_itself, keeps_twice, charging_keeps, putting_keeps}
 use Rattle.close_laws.proofs.SharesGiven.{IsWithdrawable, CanRevoke, still_can, left_can, left_bytes}
 
@@ -58,7 +29,7 @@ use Rattle.close_laws.proofs.SharesGiven.{IsWithdrawable, CanRevoke, still_can, 
 -- what is given can be written
 pub record IsGiven (given : Given) : Type 0 where
   pub trustor : IsId given.trustor
-  pub asset : IsSpelled basic.asset given.asset
+  pub asset : IsEncoded basic.asset given.asset
   pub amount : given.amount ≤ unlimited
   pub payer : IsId given.payer
 
@@ -66,11 +37,11 @@ balance_bytes : (ctx : Ctx) (given : Given) (m : EntryMap) → IsGiven given
     → AreEntryBytes (revoking.revoked_balance ctx given m)
 balance_bytes ctx given m is = record {
   body = record {
-    id = id_spelled _ (hash_spelled _);
+    id = id_encoded _ (hash_encoded _);
     claimants = All-cons IsClaimant (record { destination = given.trustor; predicate = Unconditional }) []
         (unconditional_claimant given.trustor is.trustor) (All-nil IsClaimant);
     asset = is.asset;
-    amount = amount_spelled given.amount is.amount;
+    amount = amount_encoded given.amount is.amount;
   };
   sponsor = no_id;
 }
@@ -103,15 +74,15 @@ module _ (ctx : Ctx) (low : OperationResult) where
     added_keeps new done =
         let first = charging_keeps 1 (Some payer) m can.keyed in
         subst (KeepsPools m)
-        (passed (payer_tests_at (revoking.alone ctx) m payer 1) _ new done).1
+        (unless_first_ok (payer_tests_at (revoking.alone ctx) m payer 1) _ new done).1
         (keeps_twice m (map_after_charging 1 (Some payer) m) _ first
         (putting_keeps (map_after_charging 1 (Some payer) m) (with_sponsor (Some payer) balance) (λ none. none)
         first.keyed))
 
     balance_added : Gives (IsLeft m) (revoking.balance_added ctx low given m)
     balance_added =
-        behind (IsLeft m) ((is_some (balance_at m (revoking.revoked_id ctx given)), NotSupported) ∷ []) _
-        (behind_made (IsLeft m) made low _ (λ added done. record {
+        past (IsLeft m) ((is_some (balance_at m (revoking.revoked_id ctx given)), NotSupported) ∷ []) _
+        (past_made (IsLeft m) made low _ (λ added done. record {
           gives = record {
             entries = made_bytes made added done (adding_balance_bytes (revoking.alone ctx) balance payer 1 m
                 (balance_bytes ctx given m is) (payer_of_id (revoking.alone ctx) given.payer is.payer (none_opened ctx))
@@ -140,8 +111,8 @@ module _ (ctx : Ctx) (low : OperationResult) where
   both_left : (a b : Given) (m : EntryMap) → IsGiven a → IsGiven b → CanLeave m
       → Gives (IsLeft m) (revoking.both_left ctx low a b m)
   both_left a b m first second can =
-      behind_step (IsLeft m) (IsLeft m) (revoking.left ctx low a m) _ (amount_left a first m can)
-      (λ left is. behind_step (IsLeft left.entries) (IsLeft m) (revoking.left ctx low b left.entries) _
+      past_step (IsLeft m) (IsLeft m) (revoking.left ctx low a m) _ (amount_left a first m can)
+      (λ left is. past_step (IsLeft left.entries) (IsLeft m) (revoking.left ctx low b left.entries) _
       (amount_left b second left.entries (record { keyed = is.keeps.keyed; each = is.entries }))
       (λ next after. record {
         gives = record {
@@ -164,34 +135,28 @@ gives_as P Q (Err result) weaker holds = record { gives = tt }
 
 pool_bytes_at : (m : EntryMap) (id : Hash) (p : LiquidityPoolEntry) → pool_at m id ≡ Some p → AreBytes m
     → ArePoolBytes p
-pool_bytes_at m id p stands each =
-    let found = pool_entry m id p stands in
+pool_bytes_at m id p exists each =
+    let found = pool_entry m id p exists in
     subst AreBodyBytes found.1.is (each (key.LiquidityPool id) found.0 found.1.there).body
 
-first_asset : (params : PoolParams) → IsSpelled basic.pool_params params → IsSpelled basic.asset params.asset_a
+first_asset : (params : PoolParams) → IsEncoded basic.pool_params params → IsEncoded basic.asset params.asset_a
 unfolding basic.pool_params
-first_asset params spelled = record { within = spelled.within.1.0; sized = spelled.sized.1.0 }
+first_asset params encoded = record { within = encoded.within.1.0; sized = encoded.sized.1.0 }
 
-second_asset : (params : PoolParams) → IsSpelled basic.pool_params params → IsSpelled basic.asset params.asset_b
+second_asset : (params : PoolParams) → IsEncoded basic.pool_params params → IsEncoded basic.asset params.asset_b
 unfolding basic.pool_params
-second_asset params spelled = record { within = spelled.within.1.1.0; sized = spelled.sized.1.1.0 }
-
-same_order : (n s : ℤ) → pos 0 ≤ℤ n → n ≤ℤ s → unsigned_abs n ≤ unsigned_abs s
-same_order n s low le = omega (arith, ints)
+second_asset params encoded = record { within = encoded.within.1.1.0; sized = encoded.sized.1.1.0 }
 
 few_reserves : (n : ℤ) → pos 0 ≤ℤ n → n ≤ℤ greatest_i64 → unsigned_abs n ≤ unlimited
 few_reserves n low le = omega (arith, ints)
-
-at_most : (a b c : ℕ) → a ≤ b → b ≤ c → a ≤ c
-at_most a b c le more = omega arith
 
 -- no more is given than there is
 few_given : (reserve total shares : ℤ) → pos 0 ≤ℤ reserve → reserve ≤ℤ greatest_i64 → pos 0 ≤ℤ shares
     → shares ≤ℤ total → withdrawn (unsigned_abs reserve) (unsigned_abs total) (unsigned_abs shares) ≤ unlimited
 few_given reserve total shares reserve_low most low within =
-    at_most _ (unsigned_abs reserve) unlimited
+    natural_at_most_trans _ (unsigned_abs reserve) unlimited
     (withdrawn_fair (unsigned_abs reserve) (unsigned_abs total) (unsigned_abs shares)
-    (same_order shares total low within)).within
+    (unsigned_abs_at_most shares total low within)).within
     (few_reserves reserve reserve_low most)
 
 sponsor_named : (m : EntryMap) (k : LedgerKey) (found : Option LedgerEntry) → get m k ≡ found → AreBytes m
@@ -202,7 +167,7 @@ sponsor_named m k (Some e) there each = (each k e there).sponsor
 module _ (ctx : Ctx) (low : OperationResult) (trustor : AccountId) (named : IsId trustor) where
   -- the account's line of a pool's shares goes
   module _ (id : Hash) (m : EntryMap) (share : TrustLineEntry) (pool : LiquidityPoolEntry)
-      (held : line_at m trustor (line.PoolShare id) ≡ Some share) (stands : pool_at m id ≡ Some pool)
+      (held : line_at m trustor (line.PoolShare id) ≡ Some share) (exists : pool_at m id ≡ Some pool)
       (can : CanRevoke trustor m) (each : AreBytes m) where
     abbrev part : Part
     part = part_of pool share.balance
@@ -214,10 +179,10 @@ module _ (ctx : Ctx) (low : OperationResult) (trustor : AccountId) (named : IsId
     without = revoking.map_without_shares trustor id pool share part m
 
     its : IsWithdrawable share pool
-    its = can.shares id share pool held stands
+    its = can.shares id share pool held exists
 
     bytes : ArePoolBytes pool
-    bytes = pool_bytes_at m id pool stands each
+    bytes = pool_bytes_at m id pool exists each
 
     payer_named : IsId its_payer
     payer_named = payer_id trustor _ named
@@ -256,9 +221,9 @@ module _ (ctx : Ctx) (low : OperationResult) (trustor : AccountId) (named : IsId
   one_revoked : (id : Hash) (m : EntryMap) (share : Option TrustLineEntry) (pool : Option LiquidityPoolEntry)
       → line_at m trustor (line.PoolShare id) ≡ share → pool_at m id ≡ pool → CanRevoke trustor m → AreBytes m
       → Gives (IsRevoked trustor) (revoking.share_revoked_of ctx low trustor id m share pool)
-  one_revoked id m (Some share) (Some pool) held stands can each = line_revoked id m share pool held stands can each
-  one_revoked id m (Some share) None held stands can each = record { gives = record { entries = each; can = can } }
-  one_revoked id m None pool held stands can each = record { gives = record { entries = each; can = can } }
+  one_revoked id m (Some share) (Some pool) held exists can each = line_revoked id m share pool held exists can each
+  one_revoked id m (Some share) None held exists can each = record { gives = record { entries = each; can = can } }
+  one_revoked id m None pool held exists can each = record { gives = record { entries = each; can = can } }
 
   -- ---- all pools
 
@@ -266,9 +231,9 @@ module _ (ctx : Ctx) (low : OperationResult) (trustor : AccountId) (named : IsId
       → Gives (IsRevoked trustor) (revoking.all_revoked ctx low trustor ids m)
   all_revoked [] m can each = record { gives = record { entries = each; can = can } }
   all_revoked (id ∷ ids) m can each =
-      behind_step (IsRevoked trustor) (IsRevoked trustor) (revoking.share_revoked ctx low trustor id m) _
+      past_step (IsRevoked trustor) (IsRevoked trustor) (revoking.share_revoked ctx low trustor id m) _
       (one_revoked id m (line_at m trustor (line.PoolShare id)) (pool_at m id) refl refl can each)
-      (λ first is. behind_step (IsRevoked trustor) (IsRevoked trustor)
+      (λ first is. past_step (IsRevoked trustor) (IsRevoked trustor)
       (revoking.all_revoked ctx low trustor ids first.entries) _ (all_revoked ids first.entries is.can is.entries)
       (λ second left. record { gives = record { entries = left.entries; can = left.can } }))
 

@@ -1,34 +1,17 @@
 -- An offer that is out of the book and sold leaves the bytes of entries.
-use Rattle.std.proofs.Common.{◌≡◌, refl, subst, ℕ, ◌≤◌, zero, suc, All, Ok, length, arith}
-use Rattle.std.proofs.lemmas.Int.{ints}
-use Rattle.std.specs.Prelude.{ℤ, pos, neg_ℤ, ◌≤ℤ◌, unsigned_abs}
-use Rattle.close_rules.specs.ledger_types.declared.offer.OfferEntry.{OfferEntry}
-use Rattle.close_rules.specs.ledger_types.declared.entry.LedgerEntry.{LedgerEntry}
+use Rattle.close_laws.proofs.Prelude as prelude
+use prelude.{◌≡◌, refl, subst, ℕ, ◌≤◌, zero, suc, All, Ok, length, ℤ, pos, neg_ℤ, unsigned_abs, OfferEntry, LedgerEntry}
+use prelude.{i64, EntryMap, put, sponsor_of, adjusted, unlimited, acquiring, View, trade_aggregates, bound_of, one_more}
+use prelude.{IsOwedRightly, Owed, IsLegalOwing, CrossEnd, Converted, Partial, BadPrice, CrossSelf, TooMany}
+use prelude.{most_crossings, Crossing, converted, left_of_trade, most_given, most_taken, paying, given_fits, Asked}
+use prelude.{source_gives_at, source_takes_at, trade_of, settled, offer_left, map_after_keeping, kept, Sold, sold}
+use prelude.{IsAskedRightly, IsEncoded, natural_nonnegative, unsigned_abs_positive, zero_at_most}
 use Rattle.close_rules.specs.ledger_types.declared.entry.LedgerEntryBody.TheVariants as body
-use Rattle.close_rules.specs.xdr_core.Leaves.{i64}
-use Rattle.bucket_levels.specs.entry_map.EntryMap.{EntryMap, put}
-use Rattle.close_rules.specs.entry_slots.EntrySponsor.{sponsor_of}
-use Rattle.close_rules.specs.offer_exchange.Exchange.{adjusted, unlimited}
-use Rattle.close_rules.specs.legal_rules.Binding.{acquiring}
-use Rattle.close_rules.specs.legal_rules.Books.{View}
-use Rattle.close_rules.specs.legal_rules.OfferLaws.{trade_books}
-use Rattle.close_rules.specs.legal_rules.OfferLiabilities.{bound_of}
-use Rattle.close_rules.specs.legal_rules.OneMore.{one_more, IsOwedRightly}
-use Rattle.close_rules.specs.legal_rules.Owing.{Owed, IsLegalOwing}
 use Rattle.close_rules.proofs.legal_rules_proofs.MayOwe.{one_more_is_right}
-use Rattle.close_rules.specs.trade_cross.declared.crossed.CrossEnd.{CrossEnd}
-use Rattle.close_rules.specs.trade_cross.declared.crossed.CrossEnd.TheVariants.{Converted, Partial, BadPrice, CrossSelf}
-use Rattle.close_rules.specs.trade_cross.declared.crossed.CrossEnd.TheVariants.{TooMany}
-use Rattle.close_rules.specs.trade_cross.Crossing.{most_crossings, Crossing, converted, left_of as left_of_trade}
-use Rattle.close_rules.specs.trade_cross.Holdings.{most_given, most_taken, paying}
-use Rattle.close_rules.proofs.trade_cross_proofs.Binding.{given_fits}
-use Rattle.close_rules.specs.op_offers.Selling.{Asked, source_gives_at, source_takes_at, trade_of, settled, left_of}
-use Rattle.close_rules.specs.op_offers.Selling.{offer_left, map_after_keeping, kept, Sold, sold}
-use Rattle.close_rules.specs.op_offers.SellingLaws.{IsAskedRightly}
+use Rattle.close_rules.specs.op_offers.Selling.{left_of}
 use Rattle.close_rules.proofs.op_offers_proofs.Sold.{capped_fits, legal_now, sells_fit, legal_paid, right_then, sold_is}
-use Rattle.close_rules.specs.State.{IsSpelled}
 use Rattle.close_laws.proofs.Bytes.{IsIdIf, AreOfferBytes, AreBytes, put_bytes}
-use Rattle.close_laws.proofs.BytesCrossing.{paying_bytes, available_may, amount_spelled, adjusted_few, abs_some, IsTold}
+use Rattle.close_laws.proofs.BytesCrossing.{paying_bytes, available_may, amount_encoded, adjusted_few, IsReported}
 use Rattle.close_laws.proofs.BytesCrossing.{AreCrossed, crossed_bytes}
 use Rattle.close_laws.proofs.BytesMaps.{discounting_bytes}
 use Rattle.close_laws.proofs.BytesOffers.{other_amount, acquiring_bytes}
@@ -39,30 +22,24 @@ pub record IsAskedBytes (asked : Asked) : Type 0 where
   pub sponsor : IsIdIf (sponsor_of asked.entry)
   pub flags : asked.offer.flags ≤ 1
 
--- what a sale leaves and tells, and how much is still offered
+-- what a sale leaves and reports, and how much is still offered
 pub record AreSold (done : Sold) : Type 0 where
   pub entries : AreBytes done.entries
-  pub told : All IsTold done.crossed.atoms
+  pub reported : All IsReported done.crossed.atoms
   pub few : length done.crossed.atoms ≤ 1000
-  pub amount : IsSpelled i64 (pos done.amount)
+  pub amount : IsEncoded i64 (pos done.amount)
 
 -- what is left of an offer can be written
-pub left_bytes : (asked : Asked) (amount : ℕ) → IsAskedBytes asked → IsSpelled i64 (pos amount)
+pub left_bytes : (asked : Asked) (amount : ℕ) → IsAskedBytes asked → IsEncoded i64 (pos amount)
     → AreOfferBytes (offer_left asked amount)
-left_bytes asked amount bytes spelled = other_amount (pos amount) spelled asked.offer bytes.offer
-
-no_less : pos 0 ≤ℤ pos 0
-no_less = omega (arith, ints)
-
-none_few : 0 ≤ unlimited
-none_few = omega arith
+left_bytes asked amount bytes encoded = other_amount (pos amount) encoded asked.offer bytes.offer
 
 -- ---- what is kept
 
 -- a map that can be written, with an amount that can
 record AreKept (n : ℕ) (m : EntryMap) : Type 0 where
   entries : AreBytes m
-  amount : IsSpelled i64 (pos n)
+  amount : IsEncoded i64 (pos n)
 
 module _ (v : View) (id_pool next base : ℕ) (sum : ℤ) (asked : Asked) (m : EntryMap)
     (legal : IsLegalOwing v id_pool (one_more asked.offer.seller_id (sponsor_of asked.entry)) sum m)
@@ -76,7 +53,7 @@ module _ (v : View) (id_pool next base : ℕ) (sum : ℤ) (asked : Asked) (m : E
   none_kept : AreKept zero (map_after_keeping asked zero m)
   none_kept = record {
     entries = discounting_bytes asked.offer.seller_id 1 (sponsor_of asked.entry) m each;
-    amount = amount_spelled 0 none_few;
+    amount = amount_encoded 0 (zero_at_most unlimited);
   }
 
   module _ (j send receive : ℕ) (send_fits : send ≤ most_given base m (source_gives_at asked))
@@ -91,21 +68,21 @@ module _ (v : View) (id_pool next base : ℕ) (sum : ℤ) (asked : Asked) (m : E
     few : suc j ≤ unlimited
     few = subst (λ x. x ≤ unlimited) is
         (adjusted_few (unsigned_abs asked.offer.price.n) (unsigned_abs asked.offer.price.d) send receive
-        (most_given base m (source_gives_at asked)) (abs_some asked.offer.price.n right.n)
-        (abs_some asked.offer.price.d right.d) send_fits
+        (most_given base m (source_gives_at asked)) (unsigned_abs_positive asked.offer.price.n right.n)
+        (unsigned_abs_positive asked.offer.price.d right.d) send_fits
         (given_fits v id_pool base owed sum m legal owed_right.covered (source_gives_at asked) right.gives))
 
     some_kept : AreKept (suc j) (acquiring new (put m e))
     some_kept = record {
       entries = acquiring_bytes new (put m e)
-          (available_may v next (trade_books new) sum (put m e)
+          (available_may v next (trade_aggregates new) sum (put m e)
           (legal_now v id_pool next base sum asked m legal wide right.n right.d right.id_low right j send receive
-          send_fits receive_fits is) base (λ q. no_less) (source_gives_at asked) (bound_of new).wheat
+          send_fits receive_fits is) base (λ q. (natural_nonnegative 0)) (source_gives_at asked) (bound_of new).wheat
           (sells_fit v id_pool next base sum asked m legal wide right.n right.d right.id_low right j send receive
           send_fits receive_fits is))
           (put_bytes m e each
-          (record { body = left_bytes asked (suc j) bytes (amount_spelled (suc j) few); sponsor = bytes.sponsor }));
-      amount = amount_spelled (suc j) few;
+          (record { body = left_bytes asked (suc j) bytes (amount_encoded (suc j) few); sponsor = bytes.sponsor }));
+      amount = amount_encoded (suc j) few;
     }
 
   by_amount : (done : Crossing) (end : CrossEnd) (amount : ℕ) → left_of base asked done end m ≡ amount
@@ -124,7 +101,7 @@ module _ (v : View) (id_pool next base : ℕ) (sum : ℤ) (asked : Asked) (m : E
   kept_bytes : (done : Crossing) → AreKept (kept base asked done m).amount (kept base asked done m).entries
   kept_bytes done = by_amount done done.end (left_of base asked done done.end m) refl
 
--- ---- the whole
+-- ---- the complete sale
 
 module _ (v : View) (id_pool next base : ℕ) (sum : ℤ) (asked : Asked) (m : EntryMap)
     (legal : IsLegalOwing v id_pool (one_more asked.offer.seller_id (sponsor_of asked.entry)) sum m)
@@ -155,7 +132,7 @@ module _ (v : View) (id_pool next base : ℕ) (sum : ℤ) (asked : Asked) (m : E
   pub sold_bytes : (done : Sold) → sold base asked m ≡ Ok done → AreSold done
   sold_bytes done is = subst AreSold (sold_is v id_pool next base sum asked m legal wide right done is) (record {
     entries = its_kept.entries;
-    told = crossed.told;
+    reported = crossed.reported;
     few = crossed.few;
     amount = its_kept.amount;
   })

@@ -1,63 +1,34 @@
 -- Sets leave the bytes of entries.
-use Rattle.std.proofs.Common.{◌≡◌, refl, sym, subst, ℕ, suc, ◌+◌, ◌<◌, ◌≤◌, ℤ, List, [], ◌∷◌, All, Option, Some, None}
-use Rattle.std.proofs.Common.{Bool, true, false, if◌then◌else◌, not, length, nat_eq, neg_ℤ, arith}
-use Rattle.std.proofs.lemmas.List.Elements.{All-nil, All-head, All-tail}
-use Rattle.close_rules.specs.ledger_types.declared.ids.AccountId.{AccountId}
-use Rattle.close_rules.specs.ledger_types.declared.ids.Hash.{Hash}
-use Rattle.close_rules.specs.ledger_types.declared.ids.MuxedAccount.{MuxedAccount}
-use Rattle.close_rules.specs.ledger_types.declared.account.AccountEntry.{AccountEntry}
+use Rattle.close_laws.proofs.Prelude as prelude
+use prelude.{◌≡◌, refl, sym, subst, ℕ, suc, ◌+◌, ◌<◌, ◌≤◌, List, [], ◌∷◌, All, Option, Some, None, Bool, true, false}
+use prelude.{if◌then◌else◌, not, length, nat_eq, arith, All-nil, All-head, All-tail, AccountId, Hash, MuxedAccount}
+use prelude.{AccountEntry, Operation, Transaction, FeeBumpTransaction, TransactionV1Envelope, TransactionEnvelope}
+use prelude.{TransactionSet, TransactionOutcome, option, optional, muxed_account, operation, transaction}
+use prelude.{fee_bump_transaction, fee_bump_envelope, transaction_envelope, transaction_set, EntryMap, account_at}
+use prelude.{first_fault, Ctx, map_after_removing_preauth, HeldSignature, apply_order_of, paid, numbered, Low}
+use prelude.{AllLawful, TransactionLaws, LegalSettles, IsSettled, IsUnderway, signed_hash_of, transaction_hash_of}
+use prelude.{operations_of, fee_of, map_after_fee, fees_taken, operation_total, CanDraw, CanClose, inserted, done_by}
+use prelude.{done_at, Ran, run, Setting, ctx_in, all_held, envelope_applied, all_applied, envelopes_in_order}
+use prelude.{fees_taken_of, set_done, Auth, source_by, source_of, auth_of, are_used, all_at, IsEncoded}
+use Rattle.std.proofs.Common.{ℤ}
+use Rattle.std.proofs.Common.{neg_ℤ}
 use Rattle.close_rules.specs.ledger_types.declared.signer.SignerKey.TheVariants.{PreAuthTx}
-use Rattle.close_rules.specs.op_types.declared.operation.Operation.{Operation}
-use Rattle.close_rules.specs.op_types.declared.transaction.Transaction.{Transaction}
-use Rattle.close_rules.specs.op_types.declared.transaction.FeeBumpTransaction.{FeeBumpTransaction}
-use Rattle.close_rules.specs.op_types.declared.transaction.TransactionV1Envelope.{TransactionV1Envelope}
 use Rattle.close_rules.specs.op_types.declared.transaction.FeeBumpTransactionEnvelope.{FeeBumpTransactionEnvelope}
-use Rattle.close_rules.specs.op_types.declared.transaction.TransactionEnvelope.{TransactionEnvelope}
 use Rattle.close_rules.specs.op_types.declared.transaction.TransactionEnvelope.TheVariants as envelope
-use Rattle.close_rules.specs.op_types.declared.transaction.TransactionSet.{TransactionSet}
-use Rattle.close_rules.specs.op_types.declared.transaction_result.TransactionOutcome.{TransactionOutcome}
 use Rattle.close_rules.specs.op_types.declared.transaction_result.TransactionOutcome.TheVariants as outcome
-use Rattle.close_rules.specs.xdr_core.Combinators.{option}
-use Rattle.close_rules.specs.xdr_core.Xdr.{optional}
-use Rattle.close_rules.specs.xdr_entries.Basic.{muxed_account}
-use Rattle.close_rules.specs.xdr_tx.Operations.{operation}
-use Rattle.close_rules.specs.xdr_tx.Transactions.{transaction, fee_bump_transaction}
-use Rattle.close_rules.specs.xdr_tx.Transactions.{fee_bump_envelope, transaction_envelope, transaction_set}
-use Rattle.bucket_levels.specs.entry_map.EntryMap.{EntryMap}
-use Rattle.close_rules.specs.entry_slots.Accounts.{account_at}
-use Rattle.close_rules.specs.entry_slots.Tests.{first_fault}
-use Rattle.close_rules.specs.sponsor_rules.declared.context.Ctx.{Ctx}
-use Rattle.close_rules.specs.sponsor_rules.Signers.{map_after_removing_preauth}
-use Rattle.close_rules.specs.signer_check.declared.held.HeldSignature.{HeldSignature}
 use Rattle.close_rules.specs.fee_rules.Envelopes.{fee_source_of}
 use Rattle.close_rules.specs.fee_rules.Fees.{set_base_fee}
-use Rattle.close_rules.specs.fee_rules.Turns.{apply_order_of}
-use Rattle.close_rules.specs.legal_rules.Payments.{paid, numbered}
-use Rattle.close_rules.specs.op_form.declared.levels.ThresholdLevel.TheVariants.{Low}
-use Rattle.close_rules.specs.op_laws.Laws.{AllLawful}
-use Rattle.close_rules.specs.op_laws.Steps.{TransactionLaws, LegalSettles}
-use Rattle.close_rules.specs.op_laws.Underway.{IsSettled, IsUnderway}
-use Rattle.close_rules.specs.value_hashes.Hashes.{signed_hash_of, transaction_hash_of}
-use Rattle.close_rules.specs.tx_apply.Operations.{operations_of}
 use Rattle.close_rules.specs.tx_apply.Checks as checks
 use Rattle.close_rules.specs.tx_apply.FeeBump as bump
-use Rattle.close_rules.specs.tx_apply.Fees.{fee_of, map_after_fee, fees_taken}
-use Rattle.close_rules.specs.tx_apply.Laws.{operation_total, CanDraw, CanClose}
-use Rattle.close_rules.specs.tx_apply.Running.{placed, done_by, done_at, Ran, run}
-use Rattle.close_rules.specs.tx_apply.Set.{Setting, ctx_in, all_held, envelope_applied, all_applied, envelopes_in_order}
-use Rattle.close_rules.specs.tx_apply.Set.{fees_taken_of, set_done}
-use Rattle.close_rules.specs.tx_apply.Signing.{Auth, source_by, source_of, auth_of, are_used}
 use Rattle.close_rules.specs.tx_apply.Transaction as spec
-use Rattle.close_rules.proofs.tx_apply_proofs.Conserving.{all_at}
 use Rattle.close_rules.proofs.tx_apply_proofs.Judging as judging
 use Rattle.close_rules.proofs.tx_apply_proofs.Judging.{settled_judged}
-use Rattle.close_rules.proofs.tx_apply_proofs.Lawful.{underway_placed, lawful_at, none_open}
+use Rattle.close_rules.proofs.tx_apply_proofs.Lawful.{underway_at_index, lawful_at, none_open}
 use Rattle.close_rules.proofs.tx_apply_proofs.Sound.{envelope_sound}
 use Rattle.close_rules.proofs.tx_apply_proofs.TakenFees.{all_taken}
-use Rattle.close_rules.specs.State.{IsSpelled}
-use Rattle.close_laws.proofs.Spelled.{each_spelled}
-use Rattle.close_laws.proofs.SpelledSets.{envelopes_spelled, operations_spelled, all_operations_spelled, v1_spelled}
-use Rattle.close_laws.proofs.SpelledSets.{body_spelled, body_fit, operations_fit}
+use Rattle.close_laws.proofs.Encoded.{each_encoded}
+use Rattle.close_laws.proofs.EncodedSets.{envelopes_encoded, operations_encoded, all_operations_encoded, v1_encoded}
+use Rattle.close_laws.proofs.EncodedSets.{body_encoded, body_fit, operations_fit}
 use Rattle.close_laws.proofs.FewDrawn.{set_fits}
 use Rattle.close_laws.proofs.ManagedOffers.{CanTrade}
 use Rattle.close_laws.proofs.Bytes.{IsId, muxed_id, AreBytes, with_account_bytes, IsOpener, AreSponsors}
@@ -67,28 +38,28 @@ use Rattle.close_laws.proofs.BytesOperations.{any_bytes}
 
 -- ---- sources
 
-some_source : (source : MuxedAccount) → IsSpelled (optional muxed_account) (Some source)
-    → IsSpelled muxed_account source
+some_source : (source : MuxedAccount) → IsEncoded (optional muxed_account) (Some source)
+    → IsEncoded muxed_account source
 unfolding option
-some_source source spelled = record { within = spelled.within; sized = spelled.sized }
+some_source source encoded = record { within = encoded.within; sized = encoded.sized }
 
-source_by_id : (source : AccountId) (own : Option MuxedAccount) → IsId source → IsSpelled (optional muxed_account) own
+source_by_id : (source : AccountId) (own : Option MuxedAccount) → IsId source → IsEncoded (optional muxed_account) own
     → IsId (source_by source own)
-source_by_id source None id spelled = id
-source_by_id source (Some own) id spelled = muxed_id own (some_source own spelled)
+source_by_id source None id encoded = id
+source_by_id source (Some own) id encoded = muxed_id own (some_source own encoded)
 
-own_source : (of : Operation) → IsSpelled operation of → IsSpelled (optional muxed_account) of.source_account
+own_source : (of : Operation) → IsEncoded operation of → IsEncoded (optional muxed_account) of.source_account
 unfolding operation
-own_source of spelled = record { within = spelled.within.0; sized = spelled.sized.0 }
+own_source of encoded = record { within = encoded.within.0; sized = encoded.sized.0 }
 
 -- ---- operations
 
 abbrev AreOperations : List Operation → Type 0
-AreOperations operations = All (IsSpelled operation) operations
+AreOperations operations = All (IsEncoded operation) operations
 
-placed_bytes : (ctx : Ctx) (place : ℕ) (source : AccountId) (m : EntryMap) → AreWorkBytes ctx m
-    → AreWorkBytes (placed ctx place source) m
-placed_bytes ctx place source m work =
+indexed_bytes : (ctx : Ctx) (index : ℕ) (source : AccountId) (m : EntryMap) → AreWorkBytes ctx m
+    → AreWorkBytes (inserted ctx index source) m
+indexed_bytes ctx index source m work =
     record { entries = work.entries; sponsors = record { all = work.sponsors.all } }
 
 -- what holds before the operations of a transaction that are left: each may draw an id that can be written
@@ -96,7 +67,7 @@ pub record AreRunning (ctx : Ctx) (source : AccountId) (operations : List Operat
   pub work : AreWorkBytes ctx m
   pub under : IsUnderway ctx m
   pub id : IsId source
-  pub spelled : AreOperations operations
+  pub encoded : AreOperations operations
   pub ids : CanDraw (length operations) ctx.id_pool
 
 one_of : (was n : ℕ) → CanDraw (suc n) was → CanDraw 1 was
@@ -105,24 +76,24 @@ one_of was n le = omega arith
 rest_of : (was now n : ℕ) → CanDraw (suc n) was → now ≤ was + 1 → CanDraw n now
 rest_of was now n le drawn = omega arith
 
-module _ (ctx : Ctx) (source : AccountId) (place : ℕ) (of : Operation) (operations : List Operation) (m : EntryMap)
+module _ (ctx : Ctx) (source : AccountId) (index : ℕ) (of : Operation) (operations : List Operation) (m : EntryMap)
     (running : AreRunning ctx source (of ∷ operations) m) where
   abbrev own : Ctx
-  own = placed ctx place (source_of source of)
+  own = inserted ctx index (source_of source of)
 
-  pub here_spelled : IsSpelled operation of
-  here_spelled = All-head (IsSpelled operation) of operations running.spelled
+  pub here_encoded : IsEncoded operation of
+  here_encoded = All-head (IsEncoded operation) of operations running.encoded
 
   pub here_id : IsId own.op_source
-  here_id = source_by_id source of.source_account running.id (own_source of here_spelled)
+  here_id = source_by_id source of.source_account running.id (own_source of here_encoded)
 
   pub here_work : AreWorkBytes own m
-  here_work = placed_bytes ctx place (source_of source of) m running.work
+  here_work = indexed_bytes ctx index (source_of source of) m running.work
 
   pub here_can : (account : AccountEntry) → account_at m (source_of source of) ≡ Some account → CanTrade own m
   here_can account at = record {
-    under = underway_placed ctx place (source_of source of) m running.under;
-    stands = (account, at);
+    under = underway_at_index ctx index (source_of source of) m running.under;
+    exists = (account, at);
     next = one_of ctx.id_pool (length operations) running.ids;
   }
 
@@ -130,30 +101,30 @@ module _ (ctx : Ctx) (source : AccountId) (place : ℕ) (of : Operation) (operat
       → AreWorkBytes (done_by own of m found).ctx (done_by own of m found).entries
   here_done None at = here_work
   here_done (Some account) at =
-      any_bytes own of.body m (here_can account at) here_id (body_spelled of here_spelled) here_work
+      any_bytes own of.body m (here_can account at) here_id (body_encoded of here_encoded) here_work
 
-  pub rest_running : AllLawful → AreRunning (done_at ctx source place of m).ctx source operations
-      (done_at ctx source place of m).entries
+  pub rest_running : AllLawful → AreRunning (done_at ctx source index of m).ctx source operations
+      (done_at ctx source index of m).entries
   rest_running all =
-      let fit = body_fit of.body (body_spelled of here_spelled) in
-      let lawful = lawful_at all ctx source place of m fit running.under in
+      let fit = body_fit of.body (body_encoded of here_encoded) in
+      let lawful = lawful_at all ctx source index of m fit running.under in
       record {
         work = here_done (account_at m (source_of source of)) refl;
         under = lawful.legal;
         id = running.id;
-        spelled = All-tail (IsSpelled operation) of operations running.spelled;
-        ids = rest_of ctx.id_pool (done_at ctx source place of m).ctx.id_pool (length operations) running.ids
+        encoded = All-tail (IsEncoded operation) of operations running.encoded;
+        ids = rest_of ctx.id_pool (done_at ctx source index of m).ctx.id_pool (length operations) running.ids
             lawful.ids.high;
       }
 
-run_bytes : AllLawful → (ctx : Ctx) (source : AccountId) (place : ℕ) (operations : List Operation) (m : EntryMap)
-    → AreRunning ctx source operations m → AreBytes (run ctx source place operations m).entries
+run_bytes : AllLawful → (ctx : Ctx) (source : AccountId) (index : ℕ) (operations : List Operation) (m : EntryMap)
+    → AreRunning ctx source operations m → AreBytes (run ctx source index operations m).entries
 unfolding run
-run_bytes all ctx source place [] m running = running.work.entries
-run_bytes all ctx source place (of ∷ operations) m running =
-    let first = done_at ctx source place of m in
-    run_bytes all first.ctx source (place + 1) operations first.entries
-    (rest_running ctx source place of operations m running all)
+run_bytes all ctx source index [] m running = running.work.entries
+run_bytes all ctx source index (of ∷ operations) m running =
+    let first = done_at ctx source index of m in
+    run_bytes all first.ctx source (index + 1) operations first.entries
+    (rest_running ctx source index of operations m running all)
 
 -- ---- transactions
 
@@ -208,13 +179,13 @@ applied_bytes all ctx tx m None running =
     ran_bytes ctx m (run ctx (checks.source_account tx) 0 tx.operations m) running.work.entries
     (run_bytes all ctx (checks.source_account tx) 0 tx.operations m running)
 
-tx_source : (tx : Transaction) → IsSpelled transaction tx → IsId (checks.source_account tx)
+tx_source : (tx : Transaction) → IsEncoded transaction tx → IsId (checks.source_account tx)
 unfolding transaction
-tx_source tx spelled = muxed_id tx.source_account (record { within = spelled.within.0; sized = spelled.sized.0 })
+tx_source tx encoded = muxed_id tx.source_account (record { within = encoded.within.0; sized = encoded.sized.0 })
 
 -- what holds before a transaction, whose operations may draw ids that can be written
 pub record IsBegun (ctx : Ctx) (tx : Transaction) (m : EntryMap) : Type 0 where
-  pub spelled : IsSpelled transaction tx
+  pub encoded : IsEncoded transaction tx
   pub closed : ctx.sponsorships ≡ []
   pub seq : ctx.seq < 2147483647
   pub settled : IsSettled ctx.id_pool m
@@ -248,8 +219,8 @@ module _ (laws : TransactionLaws) where
           sponsorships = none_open ctx after begun.closed;
           seq = begun.seq;
         };
-        id = tx_source tx begun.spelled;
-        spelled = each_spelled 100 operation tx.operations (operations_spelled tx begun.spelled);
+        id = tx_source tx begun.encoded;
+        encoded = each_encoded 100 operation tx.operations (operations_encoded tx begun.encoded);
         ids = begun.ids;
       }
 
@@ -264,11 +235,11 @@ module _ (laws : TransactionLaws) where
 
 -- ---- fee bumps
 
--- the transaction in a fee bump, behind the signers that its payer used up
-pub begun_behind : TransactionLaws → (ctx : Ctx) (tx : Transaction) (payer : AccountId) (hash : Hash) (m : EntryMap)
+-- the transaction in a fee bump, after the signers that its payer used up
+pub begun_after : TransactionLaws → (ctx : Ctx) (tx : Transaction) (payer : AccountId) (hash : Hash) (m : EntryMap)
     → IsBegun ctx tx m → IsBegun ctx tx (map_after_removing_preauth payer hash m)
-begun_behind laws ctx tx payer hash m begun = record {
-  spelled = begun.spelled;
+begun_after laws ctx tx payer hash m begun = record {
+  encoded = begun.encoded;
   closed = begun.closed;
   seq = begun.seq;
   settled = (laws.preauths ctx.id_pool m payer hash begun.settled).settled;
@@ -277,9 +248,9 @@ begun_behind laws ctx tx payer hash m begun = record {
 }
 
 module _ (laws : TransactionLaws) (base_fee : ℕ) (ctx : Ctx) (signed : bump.BumpSigned) (tx : FeeBumpTransaction) where
-  behind_auth : (after : List HeldSignature) (m : EntryMap) → IsBegun ctx tx.inner_tx.tx m
-      → AreBytes (bump.applied_behind_auth base_fee ctx signed tx after m).entries
-  behind_auth after m begun =
+  past_auth : (after : List HeldSignature) (m : EntryMap) → IsBegun ctx tx.inner_tx.tx m
+      → AreBytes (bump.applied_after_auth base_fee ctx signed tx after m).entries
+  past_auth after m begun =
       either_entries (checks.is_poor ctx (account_at m (bump.payer_of tx)))
       (spec.ended outcome.InsufficientBalance ctx m)
       (if are_used after then bump.inner_applied base_fee ctx signed tx m else spec.ended outcome.BadAuthExtra ctx m)
@@ -293,10 +264,10 @@ module _ (laws : TransactionLaws) (base_fee : ℕ) (ctx : Ctx) (signed : bump.Bu
       → AreBytes (bump.applied_by_auth base_fee ctx signed tx m auth).entries
   by_auth m auth begun =
       either_entries (not auth.passes) (spec.ended outcome.BadAuth ctx m)
-      (bump.applied_behind_auth base_fee ctx signed tx auth.signatures
+      (bump.applied_after_auth base_fee ctx signed tx auth.signatures
       (map_after_removing_preauth (bump.payer_of tx) signed.hash m)) begun.each
-      (behind_auth auth.signatures (map_after_removing_preauth (bump.payer_of tx) signed.hash m)
-      (begun_behind laws ctx tx.inner_tx.tx (bump.payer_of tx) signed.hash m begun))
+      (past_auth auth.signatures (map_after_removing_preauth (bump.payer_of tx) signed.hash m)
+      (begun_after laws ctx tx.inner_tx.tx (bump.payer_of tx) signed.hash m begun))
 
   by_fault : (m : EntryMap) (fault : Option TransactionOutcome) → IsBegun ctx tx.inner_tx.tx m
       → AreBytes (bump.applied_by_fault base_fee ctx signed tx m fault).entries
@@ -311,19 +282,19 @@ module _ (laws : TransactionLaws) (base_fee : ℕ) (ctx : Ctx) (signed : bump.Bu
 -- ---- envelopes
 
 -- what holds before an envelope is applied
-pub record MayApply (setting : Setting) (id_pool : ℕ) (whole : TransactionEnvelope) (m : EntryMap) : Type 0 where
-  pub spelled : IsSpelled transaction_envelope whole
+pub record MayApply (setting : Setting) (id_pool : ℕ) (entire : TransactionEnvelope) (m : EntryMap) : Type 0 where
+  pub encoded : IsEncoded transaction_envelope entire
   pub seq : setting.header.ledger_seq < 2147483647
   pub settled : IsSettled id_pool m
   pub each : AreBytes m
-  pub ids : CanDraw (length (operations_of whole)) id_pool
+  pub ids : CanDraw (length (operations_of entire)) id_pool
 
 pub begun_v1 : (setting : Setting) (id_pool : ℕ) (signed : TransactionV1Envelope) (m : EntryMap)
     → MayApply setting id_pool (envelope.V1 signed) m
     → IsBegun (ctx_in setting id_pool (envelope.V1 signed)) signed.tx m
 unfolding transaction_envelope
 begun_v1 setting id_pool signed m may = record {
-  spelled = v1_spelled signed (record { within = may.spelled.within; sized = may.spelled.sized });
+  encoded = v1_encoded signed (record { within = may.encoded.within; sized = may.encoded.sized });
   closed = refl;
   seq = may.seq;
   settled = may.settled;
@@ -336,8 +307,8 @@ pub begun_bump : (setting : Setting) (id_pool : ℕ) (signed : FeeBumpTransactio
     → IsBegun (ctx_in setting id_pool (envelope.FeeBump signed)) signed.tx.inner_tx.tx m
 unfolding transaction_envelope fee_bump_envelope fee_bump_transaction
 begun_bump setting id_pool signed m may = record {
-  spelled = v1_spelled signed.tx.inner_tx
-      (record { within = may.spelled.within.0.1.1.0.1; sized = may.spelled.sized.0.1.1.0.1 });
+  encoded = v1_encoded signed.tx.inner_tx
+      (record { within = may.encoded.within.0.1.1.0.1; sized = may.encoded.sized.0.1.1.0.1 });
   closed = refl;
   seq = may.seq;
   settled = may.settled;
@@ -345,8 +316,8 @@ begun_bump setting id_pool signed m may = record {
   ids = may.ids;
 }
 
-envelope_bytes : TransactionLaws → (setting : Setting) (id_pool : ℕ) (whole : TransactionEnvelope) (m : EntryMap)
-    → MayApply setting id_pool whole m → AreBytes (envelope_applied setting id_pool whole m).entries
+envelope_bytes : TransactionLaws → (setting : Setting) (id_pool : ℕ) (entire : TransactionEnvelope) (m : EntryMap)
+    → MayApply setting id_pool entire m → AreBytes (envelope_applied setting id_pool entire m).entries
 unfolding envelope_applied
 envelope_bytes laws setting id_pool (envelope.V0 signed) m may =
     without_used (signed_hash_of setting.network (envelope.V0 signed))
@@ -364,7 +335,7 @@ envelope_bytes laws setting id_pool (envelope.FeeBump signed) m may =
 -- what holds before envelopes are applied: their operations may draw ids that can be written
 pub record MayApplyAll (setting : Setting) (id_pool : ℕ) (envelopes : List TransactionEnvelope)
     (m : EntryMap) : Type 0 where
-  pub spelled : All (IsSpelled transaction_envelope) envelopes
+  pub encoded : All (IsEncoded transaction_envelope) envelopes
   pub seq : setting.header.ledger_seq < 2147483647
   pub settled : IsSettled id_pool m
   pub each : AreBytes m
@@ -376,33 +347,33 @@ first_ids was first rest le = omega arith
 other_ids : (was now first rest : ℕ) → CanDraw (first + rest) was → now ≤ was + first → CanDraw rest now
 other_ids was now first rest le drawn = omega arith
 
-module _ (setting : Setting) (id_pool : ℕ) (whole : TransactionEnvelope) (others : List TransactionEnvelope)
-    (m : EntryMap) (may : MayApplyAll setting id_pool (whole ∷ others) m) where
-  its_ids : CanDraw (length (operations_of whole) + operation_total others) id_pool
+module _ (setting : Setting) (id_pool : ℕ) (entire : TransactionEnvelope) (others : List TransactionEnvelope)
+    (m : EntryMap) (may : MayApplyAll setting id_pool (entire ∷ others) m) where
+  its_ids : CanDraw (length (operations_of entire) + operation_total others) id_pool
   unfolding operation_total
   its_ids = may.ids
 
-  pub may_first : MayApply setting id_pool whole m
+  pub may_first : MayApply setting id_pool entire m
   may_first = record {
-    spelled = All-head (IsSpelled transaction_envelope) whole others may.spelled;
+    encoded = All-head (IsEncoded transaction_envelope) entire others may.encoded;
     seq = may.seq;
     settled = may.settled;
     each = may.each;
-    ids = first_ids id_pool (length (operations_of whole)) (operation_total others) its_ids;
+    ids = first_ids id_pool (length (operations_of entire)) (operation_total others) its_ids;
   }
 
-  pub may_others : TransactionLaws → MayApplyAll setting (envelope_applied setting id_pool whole m).id_pool others
-      (envelope_applied setting id_pool whole m).entries
+  pub may_others : TransactionLaws → MayApplyAll setting (envelope_applied setting id_pool entire m).id_pool others
+      (envelope_applied setting id_pool entire m).entries
   may_others laws =
-      let fit = operations_fit (operations_of whole)
-      (each_spelled 100 operation (operations_of whole) (all_operations_spelled whole may_first.spelled)) in
-      let sound = envelope_sound laws setting id_pool whole m may.settled may.seq fit in
+      let fit = operations_fit (operations_of entire)
+      (each_encoded 100 operation (operations_of entire) (all_operations_encoded entire may_first.encoded)) in
+      let sound = envelope_sound laws setting id_pool entire m may.settled may.seq fit in
       record {
-        spelled = All-tail (IsSpelled transaction_envelope) whole others may.spelled;
+        encoded = All-tail (IsEncoded transaction_envelope) entire others may.encoded;
         seq = may.seq;
         settled = sound.left.settled;
-        each = envelope_bytes laws setting id_pool whole m may_first;
-        ids = other_ids id_pool (envelope_applied setting id_pool whole m).id_pool (length (operations_of whole))
+        each = envelope_bytes laws setting id_pool entire m may_first;
+        ids = other_ids id_pool (envelope_applied setting id_pool entire m).id_pool (length (operations_of entire))
             (operation_total others) its_ids sound.ids.high;
       }
 
@@ -411,11 +382,11 @@ all_bytes : TransactionLaws → (setting : Setting) (id_pool : ℕ) (envelopes :
     → AreBytes (all_applied setting id_pool envelopes fees m).entries
 unfolding all_applied
 all_bytes laws setting id_pool [] fees m may = may.each
-all_bytes laws setting id_pool (whole ∷ others) [] m may = may.each
-all_bytes laws setting id_pool (whole ∷ others) (fee ∷ fees) m may =
-    let first = envelope_applied setting id_pool whole m in
+all_bytes laws setting id_pool (entire ∷ others) [] m may = may.each
+all_bytes laws setting id_pool (entire ∷ others) (fee ∷ fees) m may =
+    let first = envelope_applied setting id_pool entire m in
     all_bytes laws setting first.id_pool others fees first.entries
-    (may_others setting id_pool whole others m may laws)
+    (may_others setting id_pool entire others m may laws)
 
 -- ---- fees
 
@@ -423,9 +394,9 @@ fees_bytes : (base : ℕ) (envelopes : List TransactionEnvelope) (m : EntryMap) 
     → AreBytes (fees_taken base envelopes m).entries
 unfolding fees_taken
 fees_bytes base [] m each = each
-fees_bytes base (whole ∷ others) m each =
-    fees_bytes base others (map_after_fee base whole m)
-    (with_account_bytes m (fee_source_of whole) (paid (neg_ℤ (fee_of base whole m)))
+fees_bytes base (entire ∷ others) m each =
+    fees_bytes base others (map_after_fee base entire m)
+    (with_account_bytes m (fee_source_of entire) (paid (neg_ℤ (fee_of base entire m)))
     (λ account bytes. record {
       id = bytes.id;
       inflation_dest = bytes.inflation_dest;
@@ -438,22 +409,22 @@ fees_bytes base (whole ∷ others) m each =
 
 -- ---- sets
 
--- what holds before the transactions of a set, behind their fees
+-- what holds before the transactions of a set, after their fees
 pub set_begun : TransactionLaws → LegalSettles → (setting : Setting) (set : TransactionSet) (m : EntryMap)
-    → CanClose setting set m → IsSpelled transaction_set set → length set.txs ≤ 16777216 → AreBytes m
+    → CanClose setting set m → IsEncoded transaction_set set → length set.txs ≤ 16777216 → AreBytes m
     → MayApplyAll setting setting.header.id_pool (envelopes_in_order set) (fees_taken_of setting set m).entries
-set_begun laws settles setting set m can spelled few each = record {
-  spelled = all_at (IsSpelled transaction_envelope) set.txs (apply_order_of set) (envelopes_spelled set spelled);
+set_begun laws settles setting set m can encoded few each = record {
+  encoded = all_at (IsEncoded transaction_envelope) set.txs (apply_order_of set) (envelopes_encoded set encoded);
   seq = can.seq;
   settled = (all_taken laws setting.header.id_pool (set_base_fee setting.header set.txs) (envelopes_in_order set) m
       (settles setting.header m can.legal)).settled;
   each = fees_bytes (set_base_fee setting.header set.txs) (envelopes_in_order set) m each;
-  ids = set_fits setting.header.ledger_seq setting.header.id_pool set spelled few can.legal.header.id_pool can.seq;
+  ids = set_fits setting.header.ledger_seq setting.header.id_pool set encoded few can.legal.header.id_pool can.seq;
 }
 
 pub set_bytes : TransactionLaws → LegalSettles → (setting : Setting) (set : TransactionSet) (m : EntryMap)
-    → CanClose setting set m → IsSpelled transaction_set set → length set.txs ≤ 16777216 → AreBytes m
+    → CanClose setting set m → IsEncoded transaction_set set → length set.txs ≤ 16777216 → AreBytes m
     → AreBytes (set_done setting set m).entries
-set_bytes laws settles setting set m can spelled few each =
+set_bytes laws settles setting set m can encoded few each =
     all_bytes laws setting setting.header.id_pool (envelopes_in_order set) (fees_taken_of setting set m).fees
-    (fees_taken_of setting set m).entries (set_begun laws settles setting set m can spelled few each)
+    (fees_taken_of setting set m).entries (set_begun laws settles setting set m can encoded few each)

@@ -1,42 +1,19 @@
 -- CHANGE_TRUST for shares of a pool leaves the bytes of entries.
-use Rattle.std.proofs.Common.{◌≡◌, refl, sym, ap, subst, ◌∙◌, [], ◌∷◌, ℕ, ◌+◌, false, ◌||◌, not}
-use Rattle.std.proofs.Common.{Option, Some, None, Ok, arith}
-use Rattle.std.proofs.lemmas.Int.{ints}
-use Rattle.std.specs.Prelude.{ℤ, pos, ◌+ℤ◌, ◌≤ℤ◌, int_le}
-use Rattle.std.specs.Ordering.{int_eq}
-use Rattle.close_rules.specs.ledger_types.declared.ids.AccountId.{AccountId}
-use Rattle.close_rules.specs.ledger_types.declared.ids.Hash.{Hash}
-use Rattle.close_rules.specs.ledger_types.declared.asset.PoolParams.{PoolParams}
+use Rattle.close_laws.proofs.Prelude as prelude
+use prelude.{◌≡◌, refl, sym, ap, subst, ◌∙◌, [], ◌∷◌, ℕ, ◌+◌, false, ◌||◌, not, Option, Some, None, Ok, arith, ints, ℤ}
+use prelude.{pos, ◌+ℤ◌, ◌≤ℤ◌, int_le, int_eq, AccountId, Hash, PoolParams, TrustLineEntry, LiquidityPoolEntry}
+use prelude.{LedgerEntry, LedgerKey, hash, trust_line_asset, pool_params, EntryMap, put, line_at, use_count, pool_of}
+use prelude.{pool_at, first_fault, greatest_i64, Ctx, map_after_adding, new_pool, needed_line, share_line, empty_pool}
+use prelude.{map_with_pool, map_with_pool_by, pool_named_by, IsEncoded, put_there, or_parts}
 use Rattle.close_rules.specs.ledger_types.declared.asset.TrustLineAsset.TheVariants as line
-use Rattle.close_rules.specs.ledger_types.declared.trust_line.TrustLineEntry.{TrustLineEntry}
-use Rattle.close_rules.specs.ledger_types.declared.liquidity_pool.LiquidityPoolEntry.{LiquidityPoolEntry}
-use Rattle.close_rules.specs.ledger_types.declared.entry.LedgerEntry.{LedgerEntry}
-use Rattle.close_rules.specs.ledger_types.declared.key.LedgerKey.{LedgerKey}
 use Rattle.close_rules.specs.op_types.declared.trust_results.ChangeTrustResult.TheVariants as trust
-use Rattle.close_rules.specs.xdr_entries.Basic.{hash, trust_line_asset, pool_params}
-use Rattle.bucket_levels.specs.entry_map.EntryMap.{EntryMap, put}
-use Rattle.close_rules.specs.entry_slots.Lines.{line_at}
-use Rattle.close_rules.specs.entry_slots.LineExtensions.{use_count}
-use Rattle.close_rules.specs.entry_slots.Pools.{pool_of, pool_at}
-use Rattle.close_rules.specs.entry_slots.Tests.{first_fault}
-use Rattle.close_rules.proofs.entry_sums_proofs.Lookups.{put_there}
-use Rattle.close_rules.specs.reserve_rules.Reserve.{greatest_i64}
-use Rattle.close_rules.specs.sponsor_rules.declared.context.Ctx.{Ctx}
-use Rattle.close_rules.specs.sponsor_rules.Adding.{map_after_adding}
-use Rattle.close_rules.specs.legal_rules.PoolLaws.{new_pool}
-use Rattle.close_rules.specs.legal_rules.PoolShares.{needed_line}
-use Rattle.close_rules.specs.legal_rules.ShareLaws.{share_line}
-use Rattle.close_rules.proofs.legal_rules_proofs.Passed.{neither}
-use Rattle.close_rules.specs.pool_shares.ShareLines.{empty_pool, map_with_pool, map_with_pool_by}
 use Rattle.close_rules.specs.op_trust.ChangeTrust.{answer, limit_tests, with_limit}
 use Rattle.close_rules.specs.op_trust.ShareTrust as sharing
-use Rattle.close_rules.specs.op_trust.ShareTrust.{pool_named_by}
-use Rattle.close_rules.specs.State.{IsSpelled}
 use Rattle.close_laws.proofs.Bytes.{IsId, no_id, AreEntryBytes, KeepsLines, with_line_bytes}
 use Rattle.close_laws.proofs.BytesMaps.{AreBytesIf, made_bytes, adding_subentry_bytes}
 use Rattle.close_laws.proofs.BytesPools.{same_pool, share_line_removed, share_lines_bytes, pool_made, MayCount}
-use Rattle.close_laws.proofs.BytesSteps.{AreWorkBytes, Work, Leaves, tested, behind, behind_made, either_leaves}
-use Rattle.close_laws.proofs.Digests.{hash_spelled}
+use Rattle.close_laws.proofs.BytesSteps.{AreWorkBytes, Work, Leaves, tested, past, past_made, either_leaves}
+use Rattle.close_laws.proofs.Digests.{hash_encoded}
 use Rattle.close_laws.proofs.PassedTests.{all_pass}
 use Rattle.close_laws.proofs.PoolsBeside.{beside_subentry}
 
@@ -45,16 +22,16 @@ use Rattle.close_laws.proofs.PoolsBeside.{beside_subentry}
 pub other_limit : (limit : ℤ) → KeepsLines (with_limit limit)
 other_limit limit held bytes = record { id = bytes.id; asset = bytes.asset }
 
-share_asset_spelled : (pool : Hash) → IsSpelled hash pool → IsSpelled trust_line_asset (line.PoolShare pool)
+share_asset_encoded : (pool : Hash) → IsEncoded hash pool → IsEncoded trust_line_asset (line.PoolShare pool)
 unfolding trust_line_asset
-share_asset_spelled pool spelled = record { within = spelled.within; sized = spelled.sized }
+share_asset_encoded pool encoded = record { within = encoded.within; sized = encoded.sized }
 
-new_share_bytes : (seq : ℕ) (id : AccountId) (pool : Hash) (limit : ℤ) → IsId id → IsSpelled hash pool
+new_share_bytes : (seq : ℕ) (id : AccountId) (pool : Hash) (limit : ℤ) → IsId id → IsEncoded hash pool
     → AreEntryBytes (share_line seq None id pool (pos 0) limit)
-new_share_bytes seq id pool limit named spelled =
-    record { body = record { id = named; asset = share_asset_spelled pool spelled }; sponsor = no_id }
+new_share_bytes seq id pool limit named encoded =
+    record { body = record { id = named; asset = share_asset_encoded pool encoded }; sponsor = no_id }
 
--- ---- lines that stand
+-- ---- lines that exist
 
 share_limited : (ctx : Ctx) (pool : Hash) (limit : ℤ) (m : EntryMap) → AreWorkBytes ctx m
     → Leaves (sharing.share_limited ctx pool limit m)
@@ -68,7 +45,7 @@ share_limited ctx pool limit m work = record {
 share_removed : (ctx : Ctx) (params : PoolParams) (share : TrustLineEntry) (m : EntryMap) → AreWorkBytes ctx m
     → Leaves (sharing.share_removed ctx params share m)
 share_removed ctx params share m work =
-    behind Work ((not (int_eq (use_count share) (pos 0)), answer trust.CannotDelete) ∷ []) _ (record {
+    past Work ((not (int_eq (use_count share) (pos 0)), answer trust.CannotDelete) ∷ []) _ (record {
       gives = record {
         entries = share_line_removed ctx.op_source (pool_named_by params) params m work.entries;
         sponsors = work.sponsors;
@@ -106,7 +83,7 @@ module _ (seq : ℕ) (params : PoolParams) (m : EntryMap) where
   may_count (Some was) there less p at = was_held was p less (that_one was p there at)
 
 module _ (ctx : Ctx) (params : PoolParams) (limit : ℤ) (m : EntryMap) (id : IsId ctx.op_source)
-    (spelled : IsSpelled pool_params params) (work : AreWorkBytes ctx m) where
+    (encoded : IsEncoded pool_params params) (work : AreWorkBytes ctx m) where
   abbrev its_pool : Hash
   its_pool = pool_named_by params
 
@@ -119,8 +96,8 @@ module _ (ctx : Ctx) (params : PoolParams) (limit : ℤ) (m : EntryMap) (id : Is
   line_added : AreBytesIf (map_after_adding ctx ctx.op_source new_line with_pool)
   line_added =
       adding_subentry_bytes ctx new_line ctx.op_source 2 with_pool
-      (new_share_bytes (ctx.seq + 1) ctx.op_source its_pool limit id (hash_spelled _)) work.sponsors
-      (pool_made (ctx.seq + 1) its_pool params m (pool_at m its_pool) (hash_spelled _) spelled work.entries)
+      (new_share_bytes (ctx.seq + 1) ctx.op_source its_pool limit id (hash_encoded _)) work.sponsors
+      (pool_made (ctx.seq + 1) its_pool params m (pool_at m its_pool) (hash_encoded _) encoded work.entries)
 
   counted : sharing.is_held_fully (pool_at m its_pool) ≡ false → (added : EntryMap)
       → map_after_adding ctx ctx.op_source new_line with_pool ≡ Ok added → (p : LiquidityPoolEntry)
@@ -133,7 +110,7 @@ module _ (ctx : Ctx) (params : PoolParams) (limit : ℤ) (m : EntryMap) (id : Is
   share_added : sharing.is_held_fully (pool_at m its_pool) ≡ false
       → Leaves (sharing.share_added ctx params limit m)
   share_added less =
-      behind_made Work (map_after_adding ctx ctx.op_source new_line with_pool) (answer trust.LowReserve) _
+      past_made Work (map_after_adding ctx ctx.op_source new_line with_pool) (answer trust.LowReserve) _
       (λ added is. record {
         gives = record {
           entries = share_lines_bytes (pos 1) ctx.op_source its_pool params added
@@ -151,24 +128,24 @@ module _ (ctx : Ctx) (params : PoolParams) (limit : ℤ) (m : EntryMap) (id : Is
   held_below : first_fault (sharing.count_tests needs_a needs_b its_pool m) ≡ None
       → sharing.is_held_fully (pool_at m its_pool) ≡ false
   held_below none =
-      (neither (sharing.is_used_fully_at m needs_a || sharing.is_used_fully_at m needs_b)
+      (or_parts (sharing.is_used_fully_at m needs_a || sharing.is_used_fully_at m needs_b)
       (sharing.is_held_fully (pool_at m its_pool)) (all_pass (sharing.count_tests needs_a needs_b its_pool m) none).0).1
 
   share_changed : (found : Option TrustLineEntry) → Leaves (sharing.share_changed ctx params limit m found)
   share_changed (Some share) =
-      behind Work (limit_tests limit share) _
+      past Work (limit_tests limit share) _
       (either_leaves (int_eq limit (pos 0)) (sharing.share_removed ctx params share m)
       (sharing.share_limited ctx its_pool limit m) (share_removed ctx params share m work)
       (share_limited ctx its_pool limit m work))
   share_changed None =
-      behind Work (sharing.zero_tests limit) _
-      (behind Work (sharing.needed_tests_at m needs_a) _
-      (behind Work (sharing.needed_tests_at m needs_b) _
+      past Work (sharing.zero_tests limit) _
+      (past Work (sharing.needed_tests_at m needs_a) _
+      (past Work (sharing.needed_tests_at m needs_b) _
       (tested Work (sharing.count_tests needs_a needs_b its_pool m) (sharing.share_added ctx params limit m)
       (λ none. share_added (held_below none)))))
 
   pub share_trusted : Leaves (sharing.share_trust ctx params limit m)
   share_trusted =
-      behind Work (sharing.share_tests params limit) _
-      (behind Work (sharing.pool_tests params m) _
+      past Work (sharing.share_tests params limit) _
+      (past Work (sharing.pool_tests params m) _
       (share_changed (line_at m ctx.op_source (line.PoolShare its_pool))))

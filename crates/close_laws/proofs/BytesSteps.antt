@@ -1,12 +1,8 @@
 -- What the steps of an operation leave: the bytes of entries, and who opened sponsorships.
-use Rattle.std.proofs.Common.{◌≡◌, refl, Option, Some, None, Result, Ok, Err, IfOk, Bool, true, false, if◌then◌else◌}
-use Rattle.close_rules.specs.op_types.declared.operation_result.OperationResult.{OperationResult}
-use Rattle.bucket_levels.specs.entry_map.EntryMap.{EntryMap}
-use Rattle.close_rules.specs.entry_slots.Tests.{Tests, first_fault}
-use Rattle.close_rules.specs.sponsor_rules.declared.context.Ctx.{Ctx}
-use Rattle.close_rules.specs.sponsor_rules.declared.fault.AddFault.{AddFault}
-use Rattle.close_rules.specs.op_form.Done.{Done, Attempt, done_of}
-use Rattle.close_rules.specs.op_form.Steps.{unless_result, unless_refused, after, after_some, after_charge, after_step}
+use Rattle.close_laws.proofs.Prelude.{◌≡◌, refl, Option, Some, None, Result, Ok, Err, IfOk, Bool, true, false}
+use Rattle.close_laws.proofs.Prelude.{if◌then◌else◌, OperationResult, EntryMap, Tests, first_fault, Ctx, AddFault, Done}
+use Rattle.close_laws.proofs.Prelude.{Attempt, done_of, unless_result, unless_refused, after, after_some, after_charge}
+use Rattle.close_laws.proofs.Prelude.{after_step}
 use Rattle.close_laws.proofs.Bytes.{AreBytes, AreSponsors}
 use Rattle.close_laws.proofs.BytesMaps.{AreBytesIf}
 
@@ -25,7 +21,7 @@ pub record Gives {A : Type 0} (P : A → Type 0) (made : Result A OperationResul
 abbrev pub Leaves : Attempt → Type 0
 Leaves attempt = Gives Work attempt
 
--- behind tests that find nothing
+-- after tests that find nothing
 tested_by : {A : Type 0} (P : A → Type 0) (found : Option OperationResult) (next : Result A OperationResult)
     → (found ≡ None → Gives P next) → Gives P (unless_result found next)
 tested_by P None next holds = holds refl
@@ -35,40 +31,40 @@ pub tested : {A : Type 0} (P : A → Type 0) (tests : Tests OperationResult) (ne
     → (first_fault tests ≡ None → Gives P next) → Gives P (unless_refused tests next)
 tested P tests next holds = tested_by P (first_fault tests) next holds
 
-pub behind : {A : Type 0} (P : A → Type 0) (tests : Tests OperationResult) (next : Result A OperationResult)
+pub past : {A : Type 0} (P : A → Type 0) (tests : Tests OperationResult) (next : Result A OperationResult)
     → Gives P next → Gives P (unless_refused tests next)
-behind P tests next holds = tested P tests next (λ none. holds)
+past P tests next holds = tested P tests next (λ none. holds)
 
-pub behind_some : {A B : Type 0} (P : B → Type 0) (found : Option A) (result : OperationResult)
+pub past_some : {A B : Type 0} (P : B → Type 0) (found : Option A) (result : OperationResult)
     (next : A → Result B OperationResult) → ((a : A) → found ≡ Some a → Gives P (next a))
     → Gives P (after_some found result next)
-behind_some P None result next holds = record { gives = tt }
-behind_some P (Some a) result next holds = holds a refl
+past_some P None result next holds = record { gives = tt }
+past_some P (Some a) result next holds = holds a refl
 
-pub behind_charge : {B : Type 0} (P : B → Type 0) (made : Result EntryMap AddFault) (low : OperationResult)
+pub past_charge : {B : Type 0} (P : B → Type 0) (made : Result EntryMap AddFault) (low : OperationResult)
     (next : EntryMap → Result B OperationResult) → AreBytesIf made → ((m : EntryMap) → AreBytes m → Gives P (next m))
     → Gives P (after_charge made low next)
-behind_charge P (Err fault) low next made holds = record { gives = tt }
-behind_charge P (Ok m) low next made holds = holds m made
+past_charge P (Err fault) low next made holds = record { gives = tt }
+past_charge P (Ok m) low next made holds = holds m made
 
 -- by the map that is made
-pub behind_made : {B : Type 0} (P : B → Type 0) (made : Result EntryMap AddFault) (low : OperationResult)
+pub past_made : {B : Type 0} (P : B → Type 0) (made : Result EntryMap AddFault) (low : OperationResult)
     (next : EntryMap → Result B OperationResult) → ((m : EntryMap) → made ≡ Ok m → Gives P (next m))
     → Gives P (after_charge made low next)
-behind_made P (Err fault) low next holds = record { gives = tt }
-behind_made P (Ok m) low next holds = holds m refl
+past_made P (Err fault) low next holds = record { gives = tt }
+past_made P (Ok m) low next holds = holds m refl
 
-pub behind_change : {B F : Type 0} (P : B → Type 0) (made : Result EntryMap F) (answers : F → OperationResult)
+pub past_change : {B F : Type 0} (P : B → Type 0) (made : Result EntryMap F) (answers : F → OperationResult)
     (next : EntryMap → Result B OperationResult) → AreBytesIf made → ((m : EntryMap) → AreBytes m → Gives P (next m))
     → Gives P (after_step made answers next)
-behind_change P (Err fault) answers next made holds = record { gives = tt }
-behind_change P (Ok m) answers next made holds = holds m made
+past_change P (Err fault) answers next made holds = record { gives = tt }
+past_change P (Ok m) answers next made holds = holds m made
 
-pub behind_step : {A B : Type 0} (Q : A → Type 0) (P : B → Type 0) (made : Result A OperationResult)
+pub past_step : {A B : Type 0} (Q : A → Type 0) (P : B → Type 0) (made : Result A OperationResult)
     (next : A → Result B OperationResult) → Gives Q made → ((a : A) → Q a → Gives P (next a))
     → Gives P (after made next)
-behind_step Q P (Err result) next made holds = record { gives = tt }
-behind_step Q P (Ok a) next made holds = holds a made.gives
+past_step Q P (Err result) next made holds = record { gives = tt }
+past_step Q P (Ok a) next made holds = holds a made.gives
 
 pub either_leaves : (b : Bool) (x y : Attempt) → Leaves x → Leaves y → Leaves (if b then x else y)
 either_leaves true x y here there = here

@@ -1,12 +1,11 @@
 -- What operations on claimable balances, and clawback, answer keeps the bounds on lengths.
-use Rattle.std.proofs.Common.{[], ◌∷◌, Bool}
-use Rattle.std.specs.Prelude.{is_some}
+use Rattle.close_laws.proofs.Prelude as prelude
+use prelude.{[], ◌∷◌, Bool, is_some, account_of, ClaimClaimableBalanceOp, ClawbackClaimableBalanceOp}
+use prelude.{CreateClaimableBalanceOp, ClawbackOp, claimable_balance_id, create_claimable_balance_result}
+use prelude.{claim_claimable_balance_result, clawback_result, clawback_claimable_balance_result, operation_result_tr}
+use prelude.{operation_result, EntryMap, balance_at, Ctx, map_after_adding, map_after_removing, CreditFault, DebitFault}
+use prelude.{map_after_credit, map_after_debit, line_of_asset}
 use Rattle.close_rules.specs.ledger_types.declared.key.LedgerKey.TheVariants as key
-use Rattle.close_rules.specs.ledger_types.Ids.{account_of}
-use Rattle.close_rules.specs.op_types.declared.balance_ops.ClaimClaimableBalanceOp.{ClaimClaimableBalanceOp}
-use Rattle.close_rules.specs.op_types.declared.balance_ops.ClawbackClaimableBalanceOp.{ClawbackClaimableBalanceOp}
-use Rattle.close_rules.specs.op_types.declared.balance_ops.CreateClaimableBalanceOp.{CreateClaimableBalanceOp}
-use Rattle.close_rules.specs.op_types.declared.trust_ops.ClawbackOp.{ClawbackOp}
 use Rattle.close_rules.specs.op_types.declared.operation_result.OperationResult.TheVariants as operation
 use Rattle.close_rules.specs.op_types.declared.balance_results.ClaimClaimableBalanceResult.{ClaimClaimableBalanceResult}
 use Rattle.close_rules.specs.op_types.declared.balance_results.ClaimClaimableBalanceResult.TheVariants as claim
@@ -20,26 +19,13 @@ use Rattle.close_rules.specs.op_types.declared.balance_results.CreateClaimableBa
 use Rattle.close_rules.specs.op_types.declared.balance_results.CreateClaimableBalanceResult.TheVariants as create
 use Rattle.close_rules.specs.op_types.declared.trust_results.ClawbackResult.{ClawbackResult}
 use Rattle.close_rules.specs.op_types.declared.trust_results.ClawbackResult.TheVariants as clawback
-use Rattle.close_rules.specs.xdr_entries.Basic.{claimable_balance_id}
-use Rattle.close_rules.specs.xdr_results.Answers.{create_claimable_balance_result, claim_claimable_balance_result}
-use Rattle.close_rules.specs.xdr_results.Answers.{clawback_result, clawback_claimable_balance_result}
-use Rattle.close_rules.specs.xdr_results.Results.{operation_result_tr, operation_result}
-use Rattle.bucket_levels.specs.entry_map.EntryMap.{EntryMap}
-use Rattle.close_rules.specs.entry_slots.Balances.{balance_at}
-use Rattle.close_rules.specs.sponsor_rules.declared.context.Ctx.{Ctx}
-use Rattle.close_rules.specs.sponsor_rules.Adding.{map_after_adding}
-use Rattle.close_rules.specs.sponsor_rules.Removing.{map_after_removing}
-use Rattle.close_rules.specs.op_form.declared.amounts.CreditFault.{CreditFault}
 use Rattle.close_rules.specs.op_form.declared.amounts.CreditFault.TheVariants as credit
-use Rattle.close_rules.specs.op_form.declared.amounts.DebitFault.{DebitFault}
 use Rattle.close_rules.specs.op_form.declared.amounts.DebitFault.TheVariants as debit
-use Rattle.close_rules.specs.op_form.Amounts.{map_after_credit, map_after_debit}
-use Rattle.close_rules.specs.op_form.Assets.{line_of_asset}
 use Rattle.close_rules.specs.op_claim.ClaimClaimableBalance as claiming
 use Rattle.close_rules.specs.op_claim.Clawback as clawing
 use Rattle.close_rules.specs.op_claim.ClawbackClaimableBalance as taking
 use Rattle.close_rules.specs.op_claim.CreateClaimableBalance as creating
-use Rattle.close_laws.proofs.BytesClaims.{new_id_spelled}
+use Rattle.close_laws.proofs.BytesClaims.{new_id_encoded}
 use Rattle.close_laws.proofs.AnswerSteps.{IsAnswer, not_supported, Answers, IsDone, first_answers, some_answers}
 use Rattle.close_laws.proofs.AnswerSteps.{charge_answers, change_answers}
 
@@ -79,7 +65,7 @@ added_answers : (ctx : Ctx) (op : CreateClaimableBalanceOp) (clawback : Bool) (m
 added_answers ctx op clawback m =
     charge_answers IsDone (map_after_adding ctx ctx.op_source (creating.new_balance ctx op clawback) m)
     (creating.answer create.LowReserve) _ (created create.LowReserve tt)
-    (λ added. record { ends = created (create.Success (creating.new_id ctx)) (new_id_spelled ctx).within })
+    (λ added. record { ends = created (create.Success (creating.new_id ctx)) (new_id_encoded ctx).within })
 
 pub create_balance_answers : (ctx : Ctx) (op : CreateClaimableBalanceOp) (m : EntryMap)
     → Answers IsDone (creating.create_claimable_balance ctx op m)

@@ -1,20 +1,13 @@
 -- A record has no more transactions than bytes.
-use Rattle.std.proofs.Common.{◌≡◌, ℕ, ◌≤◌, List, [], ◌∷◌, ◌++◌, length, Ok, Err, refl, ap, subst, arith, length-append}
-use Rattle.close_rules.specs.xdr_core.declared.fault.XdrFault.{XdrFault}
-use Rattle.close_rules.specs.xdr_core.Format.{IsBytes}
-use Rattle.close_rules.specs.xdr_core.Leaves.{u32}
-use Rattle.close_rules.specs.xdr_core.Place.{Place, Reading, start_of, ◌>>=◌}
-use Rattle.close_rules.specs.xdr_tx.Transactions.{transaction_set}
-use Rattle.close_rules.specs.xdr_header.declared.record.CloseRecord.{CloseRecord}
-use Rattle.close_rules.specs.xdr_header.Header.{stellar_value}
-use Rattle.close_rules.specs.xdr_header.Records.{close_record}
-use Rattle.close_rules.proofs.xdr_header_proofs.HeaderLaws.{close_record_laws}
+use Rattle.close_laws.proofs.Prelude.{◌≡◌, ℕ, ◌≤◌, List, [], ◌∷◌, ◌++◌, length, Ok, Err, refl, ap, subst, arith}
+use Rattle.close_laws.proofs.Prelude.{length-append, XdrFault, IsBytes, u32, Position, Reading, start_of, ◌>>=◌}
+use Rattle.close_laws.proofs.Prelude.{transaction_set, CloseRecord, stellar_value, close_record, close_record_laws}
+use Rattle.close_laws.proofs.Prelude.{ended_by, ended, record_in}
 use Rattle.close_rules.proofs.tx_apply_proofs.FewOperations.{few_transactions}
-use Rattle.close_rules.specs.Refusals.{ended_by, ended, record_in}
 
--- ---- the bytes of a record are its spelling
+-- ---- the bytes of a record are its encoding
 
-pub ended_is : (rest : List ℕ) (p : Place) (found closing : CloseRecord) → ended_by rest p found ≡ Ok closing
+pub ended_is : (rest : List ℕ) (p : Position) (found closing : CloseRecord) → ended_by rest p found ≡ Ok closing
     → found ≡ closing
 ended_is [] p found closing is = cc
 ended_is (byte ∷ rest) p found closing is = absurd (cc)
@@ -24,16 +17,16 @@ begins bytes text rest is = let same = ap length is in omega (arith, same, lengt
 
 reading_len : (bytes : List ℕ) (read : Reading XdrFault CloseRecord) (closing : CloseRecord) → IsBytes bytes
     → close_record.read (start_of bytes) ≡ read → (read >>= ended) ≡ Ok closing
-    → length (close_record.spell closing) ≤ length bytes
+    → length (close_record.encoding closing) ≤ length bytes
 reading_len bytes (Err wrong) closing text is reads = absurd (cc)
 reading_len bytes (Ok x) closing text is reads =
-    let spelled = close_record_laws.lawful.takes (start_of bytes) x.1 x.0 text is in
-    subst (λ (found : CloseRecord). length (close_record.spell found) ≤ length bytes)
+    let encoded = close_record_laws.lawful.takes (start_of bytes) x.1 x.0 text is in
+    subst (λ (found : CloseRecord). length (close_record.encoding found) ≤ length bytes)
     (ended_is x.1.rest x.1 x.0 closing reads)
-    (begins bytes (close_record.spell x.0) x.1.rest spelled.taken.parts)
+    (begins bytes (close_record.encoding x.0) x.1.rest encoded.taken.parts)
 
 record_len : (bytes : List ℕ) (closing : CloseRecord) → IsBytes bytes → record_in bytes ≡ Ok closing
-    → length (close_record.spell closing) ≤ length bytes
+    → length (close_record.encoding closing) ≤ length bytes
 unfolding record_in
 record_len bytes closing text reads =
     reading_len bytes (close_record.read (start_of bytes)) closing text refl reads
@@ -43,10 +36,10 @@ record_len bytes closing text reads =
 middle : (first part last : List ℕ) → length part ≤ length (first ++ (part ++ last))
 middle first part last = omega (arith, length-append first (part ++ last), length-append part last)
 
-set_len : (closing : CloseRecord) → length (transaction_set.spell closing.tx_set) ≤ length (close_record.spell closing)
+set_len : (closing : CloseRecord) → length (transaction_set.encoding closing.tx_set) ≤ length (close_record.encoding closing)
 unfolding close_record
-set_len closing = middle (u32.spell closing.ledger_seq) (transaction_set.spell closing.tx_set)
-    (stellar_value.spell closing.scp_value)
+set_len closing = middle (u32.encoding closing.ledger_seq) (transaction_set.encoding closing.tx_set)
+    (stellar_value.encoding closing.scp_value)
 
 pub record_few : {most : ℕ} (bytes : List ℕ) (closing : CloseRecord) → IsBytes bytes → record_in bytes ≡ Ok closing
     → length bytes ≤ most → length closing.tx_set.txs ≤ most

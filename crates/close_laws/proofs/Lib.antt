@@ -1,7 +1,7 @@
 pub mod Unmarked
 pub mod AlikeLegal
-pub mod Spelled
-pub mod SpelledSets
+pub mod Encoded
+pub mod EncodedSets
 pub mod FewDrawn
 pub mod FewOfRecords
 pub mod Unrefused
@@ -52,7 +52,7 @@ pub mod TrustAnswers
 pub mod ClaimAnswers
 pub mod OperationAnswers
 pub mod SetResults
-pub mod HeaderSpelled
+pub mod HeaderEncoded
 pub mod Taken
 pub mod NextClosing
 pub mod OneClose
@@ -64,3 +64,4 @@ pub use Rattle.close_rules.proofs.ledger_types_proofs
 pub use Rattle.close_rules.proofs.sponsor_laws_proofs
 pub use Rattle.close_rules.proofs.tx_apply_proofs
 pub use Rattle.close_rules.proofs.xdr_header_proofs
+pub mod Prelude

@@ -1,20 +1,18 @@
 -- Operations on offers leave the bytes of entries, and what they answer keeps the bounds on lengths.
-use Rattle.std.proofs.Common.{◌≡◌, refl, sym, ap, subst, ◌∙◌, ℕ, ◌+◌, ◌≤◌, zero, suc, Bool, true, false, List, []}
-use Rattle.std.proofs.Common.{length, All, Option, Some, None, Result, Ok, Err, arith}
-use Rattle.std.proofs.lemmas.List.Elements.{All-nil}
-use Rattle.std.specs.Prelude.{ℤ, pos, if◌then◌else◌}
-use Rattle.std.specs.FinMap.{get}
-use Rattle.std.specs.Ordering.{int_eq}
-use Rattle.close_rules.specs.ledger_types.declared.ids.AccountId.{AccountId}
+use Rattle.close_laws.proofs.Prelude as prelude
+use prelude.{◌≡◌, refl, sym, ap, subst, ◌∙◌, ℕ, ◌+◌, ◌≤◌, zero, suc, Bool, true, false, List, [], length, All, Option}
+use prelude.{Some, None, Result, Ok, Err, arith, All-nil, ℤ, pos, get, int_eq, AccountId, ClaimAtom, Price, OfferEntry}
+use prelude.{LedgerEntry, LedgerEntryBody, key_of_body, Inner, i64, list, operation_body, manage_sell_offer_op}
+use prelude.{create_passive_sell_offer_op, manage_buy_offer_op, manage_offer_effect, manage_offer_success}
+use prelude.{manage_offer_result, operation_result_tr, operation_result, EntryMap, HasAccount, sponsor_of, total, Ctx}
+use prelude.{AddFault, sponsored_entry, map_after_counting_subentry, open_sponsor, unlimited, releasing, view, one_more}
+use prelude.{nothing_owed, IsLegalOwing, IsSponsorReady, held, holder, map_after_cancelling, offer_key, answer_of}
+use prelude.{code_of, fault_answer, effect_of, attempt_of_managed, attempt_of, Asked, offer_left, Sold, sold}
+use prelude.{map_without_offer, IsAskedRightly, IsUnderway, CanDraw, IsEncoded, zero_at_most}
+use Rattle.std.specs.Prelude.{if◌then◌else◌}
 use Rattle.close_rules.specs.ledger_types.declared.asset.Asset.TheVariants as asset
-use Rattle.close_rules.specs.ledger_types.declared.claim_atom.ClaimAtom.{ClaimAtom}
-use Rattle.close_rules.specs.ledger_types.declared.price.Price.{Price}
-use Rattle.close_rules.specs.ledger_types.declared.offer.OfferEntry.{OfferEntry}
-use Rattle.close_rules.specs.ledger_types.declared.entry.LedgerEntry.{LedgerEntry}
-use Rattle.close_rules.specs.ledger_types.declared.entry.LedgerEntryBody.{LedgerEntryBody}
 use Rattle.close_rules.specs.ledger_types.declared.entry.LedgerEntryBody.TheVariants as body
 use Rattle.close_rules.specs.ledger_types.declared.key.LedgerKey.TheVariants as key
-use Rattle.close_rules.specs.ledger_types.Keys.{key_of_body}
 use Rattle.close_rules.specs.op_types.declared.offer_ops.ManageSellOfferOp.{ManageSellOfferOp}
 use Rattle.close_rules.specs.op_types.declared.offer_ops.CreatePassiveSellOfferOp.{CreatePassiveSellOfferOp}
 use Rattle.close_rules.specs.op_types.declared.offer_ops.ManageBuyOfferOp.{ManageBuyOfferOp}
@@ -23,33 +21,8 @@ use Rattle.close_rules.specs.op_types.declared.offer_results.ManageOfferEffect.T
 use Rattle.close_rules.specs.op_types.declared.offer_results.ManageOfferResult.{ManageOfferResult}
 use Rattle.close_rules.specs.op_types.declared.offer_results.ManageOfferResult.TheVariants as manage
 use Rattle.close_rules.specs.op_types.declared.operation.OperationBody.TheVariants as operation
-use Rattle.close_rules.specs.op_types.declared.operation_result.OperationResult.TheVariants.{Inner}
-use Rattle.close_rules.specs.xdr_core.Leaves.{i64}
-use Rattle.close_rules.specs.xdr_core.Combinators.{list}
 use Rattle.close_rules.specs.xdr_entries.Basic as basic
-use Rattle.close_rules.specs.xdr_tx.Operations.{operation_body, manage_sell_offer_op, create_passive_sell_offer_op}
-use Rattle.close_rules.specs.xdr_tx.Operations.{manage_buy_offer_op}
-use Rattle.close_rules.specs.xdr_results.Answers.{manage_offer_effect, manage_offer_success, manage_offer_result}
-use Rattle.close_rules.specs.xdr_results.Results.{operation_result_tr, operation_result}
-use Rattle.bucket_levels.specs.entry_map.EntryMap.{EntryMap}
-use Rattle.close_rules.specs.entry_slots.Accounts.{HasAccount}
-use Rattle.close_rules.specs.entry_slots.EntrySponsor.{sponsor_of}
-use Rattle.close_rules.specs.entry_sums.Sums.{total}
-use Rattle.close_rules.specs.sponsor_rules.declared.context.Ctx.{Ctx}
-use Rattle.close_rules.specs.sponsor_rules.declared.fault.AddFault.{AddFault}
-use Rattle.close_rules.specs.sponsor_rules.Adding.{sponsored_entry, map_after_counting_subentry}
-use Rattle.close_rules.specs.sponsor_rules.Payers.{open_sponsor}
-use Rattle.close_rules.specs.offer_exchange.Exchange.{unlimited}
-use Rattle.close_rules.specs.legal_rules.Binding.{releasing}
-use Rattle.close_rules.specs.legal_rules.Legal.{view}
-use Rattle.close_rules.specs.legal_rules.OneMore.{one_more}
-use Rattle.close_rules.specs.legal_rules.Owing.{nothing_owed, IsLegalOwing}
-use Rattle.close_rules.specs.legal_rules.Sponsorships.{IsSponsorReady}
-use Rattle.close_rules.specs.legal_rules.Supply.{held}
-use Rattle.close_rules.specs.legal_rules.Trades.{holder}
-use Rattle.close_rules.proofs.legal_rules_proofs.Given.{sponsors_ready}
-use Rattle.close_rules.specs.trade_cross.Cancelling.{map_after_cancelling}
-use Rattle.close_rules.specs.trade_cross.Crossing.{offer_key}
+use Rattle.close_rules.proofs.legal_rules_proofs.LegalConsequences.{sponsors_ready}
 use Rattle.close_rules.specs.op_offers.declared.answers.Kind.{Kind}
 use Rattle.close_rules.specs.op_offers.declared.answers.Kind.TheVariants as kind
 use Rattle.close_rules.specs.op_offers.declared.ask.Ask.{Ask}
@@ -60,20 +33,13 @@ use Rattle.close_rules.specs.op_offers.Managing.{Effect, Made, Changed, Managed,
 use Rattle.close_rules.specs.op_offers.Managing.{unless_lines, sell_fault, buy_fault, offer_asked, with_reserve}
 use Rattle.close_rules.specs.op_offers.Managing.{new_asked, made}
 use Rattle.close_rules.specs.op_offers.Managing.{old_asked, changed, managed_old, managed_at, managed}
-use Rattle.close_rules.specs.op_offers.Operations.{answer_of, code_of, fault_answer, effect_of, attempt_of_managed}
-use Rattle.close_rules.specs.op_offers.Operations.{attempt_of}
-use Rattle.close_rules.specs.op_offers.Selling.{Asked, offer_left, Sold, sold, map_without_offer}
-use Rattle.close_rules.specs.op_offers.SellingLaws.{IsAskedRightly}
 use Rattle.close_rules.proofs.op_offers_proofs.NewOffers.{new_counted, new_rightly}
 use Rattle.close_rules.proofs.op_offers_proofs.OldOffers.{old_counted, old_rightly}
 use Rattle.close_rules.proofs.op_offers_proofs.Tested.{IsValidAsk, valid_ask}
-use Rattle.close_rules.specs.op_laws.Underway.{IsUnderway}
-use Rattle.close_rules.specs.tx_apply.Laws.{CanDraw}
-use Rattle.close_rules.specs.State.{IsSpelled}
 use Rattle.close_laws.proofs.AnswerSteps.{IsAnswer, exceeded, charged, Answers, IsDone}
 use Rattle.close_laws.proofs.Bytes.{IsId, no_id, AreOfferBytes, AreBodyBytes, AreEntryBytes, AreBytes}
 use Rattle.close_laws.proofs.Bytes.{erase_bytes, open_sponsor_id}
-use Rattle.close_laws.proofs.BytesCrossing.{amount_spelled, IsTold, all_told}
+use Rattle.close_laws.proofs.BytesCrossing.{amount_encoded, IsReported, all_reported}
 use Rattle.close_laws.proofs.BytesMaps.{AreBytesIf, sponsored_bytes, counting_bytes}
 use Rattle.close_laws.proofs.BytesOffers.{releasing_bytes, cancelling_bytes}
 use Rattle.close_laws.proofs.BytesSales.{IsAskedBytes, AreSold, left_bytes, sold_bytes}
@@ -85,55 +51,52 @@ use Rattle.close_laws.proofs.TradeSteps.{IsTraded}
 
 -- what is asked for can be written
 record IsAskBytes (ask : Ask) : Type 0 where
-  selling : IsSpelled basic.asset ask.selling
-  buying : IsSpelled basic.asset ask.buying
-  price : IsSpelled basic.price ask.price
+  selling : IsEncoded basic.asset ask.selling
+  buying : IsEncoded basic.asset ask.buying
+  price : IsEncoded basic.price ask.price
 
-inverse_spelled : (price : Price) → IsSpelled basic.price price → IsSpelled basic.price (inverse price)
+inverse_encoded : (price : Price) → IsEncoded basic.price price → IsEncoded basic.price (inverse price)
 unfolding basic.price
-inverse_spelled price spelled = record {
-  within = (spelled.within.1, spelled.within.0);
-  sized = (spelled.sized.1, spelled.sized.0);
+inverse_encoded price encoded = record {
+  within = (encoded.within.1, encoded.within.0);
+  sized = (encoded.sized.1, encoded.sized.0);
 }
 
-sale_asked : (op : ManageSellOfferOp) → IsSpelled operation_body (operation.ManageSellOffer op)
+sale_asked : (op : ManageSellOfferOp) → IsEncoded operation_body (operation.ManageSellOffer op)
     → IsAskBytes (ask_to_sell op)
 unfolding operation_body manage_sell_offer_op
-sale_asked op spelled = record {
-  selling = record { within = spelled.within.0; sized = spelled.sized.0 };
-  buying = record { within = spelled.within.1.0; sized = spelled.sized.1.0 };
-  price = record { within = spelled.within.1.1.1.0; sized = spelled.sized.1.1.1.0 };
+sale_asked op encoded = record {
+  selling = record { within = encoded.within.0; sized = encoded.sized.0 };
+  buying = record { within = encoded.within.1.0; sized = encoded.sized.1.0 };
+  price = record { within = encoded.within.1.1.1.0; sized = encoded.sized.1.1.1.0 };
 }
 
-passive_asked : (op : CreatePassiveSellOfferOp) → IsSpelled operation_body (operation.CreatePassiveSellOffer op)
+passive_asked : (op : CreatePassiveSellOfferOp) → IsEncoded operation_body (operation.CreatePassiveSellOffer op)
     → IsAskBytes (ask_passively op)
 unfolding operation_body create_passive_sell_offer_op
-passive_asked op spelled = record {
-  selling = record { within = spelled.within.0; sized = spelled.sized.0 };
-  buying = record { within = spelled.within.1.0; sized = spelled.sized.1.0 };
-  price = record { within = spelled.within.1.1.1; sized = spelled.sized.1.1.1 };
+passive_asked op encoded = record {
+  selling = record { within = encoded.within.0; sized = encoded.sized.0 };
+  buying = record { within = encoded.within.1.0; sized = encoded.sized.1.0 };
+  price = record { within = encoded.within.1.1.1; sized = encoded.sized.1.1.1 };
 }
 
-purchase_asked : (op : ManageBuyOfferOp) → IsSpelled operation_body (operation.ManageBuyOffer op)
+purchase_asked : (op : ManageBuyOfferOp) → IsEncoded operation_body (operation.ManageBuyOffer op)
     → IsAskBytes (ask_to_buy op)
 unfolding operation_body manage_buy_offer_op
-purchase_asked op spelled = record {
-  selling = record { within = spelled.within.0; sized = spelled.sized.0 };
-  buying = record { within = spelled.within.1.0; sized = spelled.sized.1.0 };
-  price = inverse_spelled op.price (record { within = spelled.within.1.1.1.0; sized = spelled.sized.1.1.1.0 });
+purchase_asked op encoded = record {
+  selling = record { within = encoded.within.0; sized = encoded.sized.0 };
+  buying = record { within = encoded.within.1.0; sized = encoded.sized.1.0 };
+  price = inverse_encoded op.price (record { within = encoded.within.1.1.1.0; sized = encoded.sized.1.1.1.0 });
 }
 
-none_few : 0 ≤ unlimited
-none_few = omega arith
-
 offer_asked_bytes : (source : AccountId) (ask : Ask) (id : ℤ) (flags : ℕ) → IsId source → IsAskBytes ask
-    → IsSpelled i64 id → AreOfferBytes (offer_asked source ask id flags)
-offer_asked_bytes source ask id flags named asks spelled = record {
+    → IsEncoded i64 id → AreOfferBytes (offer_asked source ask id flags)
+offer_asked_bytes source ask id flags named asks encoded = record {
   id = named;
-  offer_id = spelled;
+  offer_id = encoded;
   selling = asks.selling;
   buying = asks.buying;
-  amount = amount_spelled 0 none_few;
+  amount = amount_encoded 0 (zero_at_most unlimited);
   price = asks.price;
 }
 
@@ -142,7 +105,7 @@ offer_asked_bytes source ask id flags named asks spelled = record {
 -- what holds before an operation on offers: one more id can be written
 pub record CanTrade (ctx : Ctx) (m : EntryMap) : Type 0 where
   pub under : IsUnderway ctx m
-  pub stands : HasAccount m ctx.op_source
+  pub exists : HasAccount m ctx.op_source
   pub next : CanDraw 1 ctx.id_pool
 
 abbrev AreManaged : Result Managed OfferFault → Type 0
@@ -194,7 +157,7 @@ module _ (ctx : Ctx) (ask : Ask) (m : EntryMap) (can : CanTrade ctx m) (flags : 
 
   new_offer_bytes : AreOfferBytes new_offer
   new_offer_bytes = offer_asked_bytes ctx.op_source ask (pos (ctx.id_pool + 1)) ask.flags id asks
-      (amount_spelled (ctx.id_pool + 1) can.next)
+      (amount_encoded (ctx.id_pool + 1) can.next)
 
   abbrev new_entry : LedgerEntry
   new_entry = record { last_modified_ledger_seq = ctx.seq + 1; body = body.Offer new_offer; ext = None }
@@ -216,8 +179,8 @@ module _ (ctx : Ctx) (ask : Ask) (m : EntryMap) (can : CanTrade ctx m) (flags : 
     by_reserve gives takes (Err other) counted each = tt
     by_reserve gives takes (Ok now) counted each =
         by_sale Made (ctx.id_pool + 1) (new_asked ctx ask) now
-        (new_counted ctx ask m (view m) lumens legal can.stands paid_for now counted) one_above
-        (new_rightly ctx ask m (view m) lumens legal can.stands paid_for now counted valid flags gives takes)
+        (new_counted ctx ask m (view m) lumens legal can.exists paid_for now counted) one_above
+        (new_rightly ctx ask m (view m) lumens legal can.exists paid_for now counted valid flags gives takes)
         new_bytes each _ refl
 
     its_made : AreManaged (made ctx ask m)
@@ -238,7 +201,7 @@ module _ (ctx : Ctx) (ask : Ask) (m : EntryMap) (can : CanTrade ctx m) (flags : 
       right : sell_fault m (holder ctx.op_source ask.selling) ≡ None
           → buy_fault m (holder ctx.op_source ask.buying) ≡ None
           → IsAskedRightly ctx.id_pool (old_asked ctx ask old e) (map_without_offer old m)
-      right gives takes = old_rightly ctx ask m (view m) lumens legal old e there is_so own can.stands valid gives takes
+      right gives takes = old_rightly ctx ask m (view m) lumens legal old e there is_so own can.exists valid gives takes
 
       old_asked_bytes : old.flags ≤ 1 → IsAskedBytes (old_asked ctx ask old e)
       old_asked_bytes few = record {
@@ -333,20 +296,20 @@ fault_answers of (fault.Reserve other) =
     charged other (Inner (answer_of of manage.LowReserve)) (offered of manage.LowReserve low_within)
 fault_answers of other = offered of (code_of other) (code_within other)
 
-effect_within : (what : Effect) (asked : Asked) (amount : ℕ) → IsAskedBytes asked → IsSpelled i64 (pos amount)
+effect_within : (what : Effect) (asked : Asked) (amount : ℕ) → IsAskedBytes asked → IsEncoded i64 (pos amount)
     → manage_offer_effect.within (effect_of what asked amount)
 unfolding manage_offer_effect
-effect_within what asked zero bytes spelled = tt
-effect_within Made asked (suc n) bytes spelled =
-    (offer_short (offer_left asked (suc n)) (left_bytes asked (suc n) bytes spelled) bytes.flags).within
-effect_within Changed asked (suc n) bytes spelled =
-    (offer_short (offer_left asked (suc n)) (left_bytes asked (suc n) bytes spelled) bytes.flags).within
+effect_within what asked zero bytes encoded = tt
+effect_within Made asked (suc n) bytes encoded =
+    (offer_short (offer_left asked (suc n)) (left_bytes asked (suc n) bytes encoded) bytes.flags).within
+effect_within Changed asked (suc n) bytes encoded =
+    (offer_short (offer_left asked (suc n)) (left_bytes asked (suc n) bytes encoded) bytes.flags).within
 
-success_within : (atoms : List ClaimAtom) (what : ManageOfferEffect) → length atoms ≤ 1000 → All IsTold atoms
+success_within : (atoms : List ClaimAtom) (what : ManageOfferEffect) → length atoms ≤ 1000 → All IsReported atoms
     → manage_offer_effect.within what
     → manage_offer_result.within (manage.Success (record { offers_claimed = atoms; offer = what }))
 unfolding manage_offer_result manage_offer_success list
-success_within atoms what few told within = ((fewer few, all_told atoms told), within)
+success_within atoms what few reported within = ((fewer few, all_reported atoms reported), within)
   where
     fewer : {n : ℕ} → n ≤ 1000 → n ≤ 4294967295
     fewer le = omega arith
@@ -363,53 +326,53 @@ managed_answers : (ctx : Ctx) (of : Kind) (r : Result Managed OfferFault) → Ar
 managed_answers ctx of (Err other) h = record { ends = fault_answers of other }
 managed_answers ctx of (Ok (Removed after)) h = record {
   ends = offered of (manage.Success (record { offers_claimed = []; offer = effect.Deleted }))
-      (success_within [] effect.Deleted none_claimed (All-nil IsTold) deleted_within);
+      (success_within [] effect.Deleted none_claimed (All-nil IsReported) deleted_within);
 }
 managed_answers ctx of (Ok (Traded what asked done ids)) h = record {
   ends = offered of
       (manage.Success (record { offers_claimed = done.crossed.atoms; offer = effect_of what asked done.amount }))
-      (success_within done.crossed.atoms (effect_of what asked done.amount) h.0.few h.0.told
+      (success_within done.crossed.atoms (effect_of what asked done.amount) h.0.few h.0.reported
       (effect_within what asked done.amount h.1 h.0.amount));
 }
 
 -- ---- the operations
 
 sale_managed : (ctx : Ctx) (op : ManageSellOfferOp) (m : EntryMap) → CanTrade ctx m → IsId ctx.op_source
-    → IsSpelled operation_body (operation.ManageSellOffer op) → AreWorkBytes ctx m
+    → IsEncoded operation_body (operation.ManageSellOffer op) → AreWorkBytes ctx m
     → AreManaged (managed ctx (ask_to_sell op) m)
-sale_managed ctx op m can id spelled work =
-    its_managed ctx (ask_to_sell op) m can (omega arith) id (sale_asked op spelled) work
+sale_managed ctx op m can id encoded work =
+    its_managed ctx (ask_to_sell op) m can (omega arith) id (sale_asked op encoded) work
 
 passive_managed : (ctx : Ctx) (op : CreatePassiveSellOfferOp) (m : EntryMap) → CanTrade ctx m → IsId ctx.op_source
-    → IsSpelled operation_body (operation.CreatePassiveSellOffer op) → AreWorkBytes ctx m
+    → IsEncoded operation_body (operation.CreatePassiveSellOffer op) → AreWorkBytes ctx m
     → AreManaged (managed ctx (ask_passively op) m)
-passive_managed ctx op m can id spelled work =
-    its_managed ctx (ask_passively op) m can (omega arith) id (passive_asked op spelled) work
+passive_managed ctx op m can id encoded work =
+    its_managed ctx (ask_passively op) m can (omega arith) id (passive_asked op encoded) work
 
 purchase_managed : (ctx : Ctx) (op : ManageBuyOfferOp) (m : EntryMap) → CanTrade ctx m → IsId ctx.op_source
-    → IsSpelled operation_body (operation.ManageBuyOffer op) → AreWorkBytes ctx m
+    → IsEncoded operation_body (operation.ManageBuyOffer op) → AreWorkBytes ctx m
     → AreManaged (managed ctx (ask_to_buy op) m)
-purchase_managed ctx op m can id spelled work =
-    its_managed ctx (ask_to_buy op) m can (omega arith) id (purchase_asked op spelled) work
+purchase_managed ctx op m can id encoded work =
+    its_managed ctx (ask_to_buy op) m can (omega arith) id (purchase_asked op encoded) work
 
 traded : (ctx : Ctx) (m : EntryMap) (of : Kind) (r : Result Managed OfferFault) → AreWorkBytes ctx m → AreManaged r
     → IsTraded (attempt_of_managed ctx (answer_of of) r)
 traded ctx m of r work h = record { leaves = managed_leaves ctx m of r work h; answers = managed_answers ctx of r h }
 
 pub offer_sold : (ctx : Ctx) (op : ManageSellOfferOp) (m : EntryMap) → CanTrade ctx m → IsId ctx.op_source
-    → IsSpelled operation_body (operation.ManageSellOffer op) → AreWorkBytes ctx m
+    → IsEncoded operation_body (operation.ManageSellOffer op) → AreWorkBytes ctx m
     → IsTraded (attempt_of ctx (operation.ManageSellOffer op) m)
-offer_sold ctx op m can id spelled work =
-    traded ctx m kind.Sell (managed ctx (ask_to_sell op) m) work (sale_managed ctx op m can id spelled work)
+offer_sold ctx op m can id encoded work =
+    traded ctx m kind.Sell (managed ctx (ask_to_sell op) m) work (sale_managed ctx op m can id encoded work)
 
 pub passively_sold : (ctx : Ctx) (op : CreatePassiveSellOfferOp) (m : EntryMap) → CanTrade ctx m → IsId ctx.op_source
-    → IsSpelled operation_body (operation.CreatePassiveSellOffer op) → AreWorkBytes ctx m
+    → IsEncoded operation_body (operation.CreatePassiveSellOffer op) → AreWorkBytes ctx m
     → IsTraded (attempt_of ctx (operation.CreatePassiveSellOffer op) m)
-passively_sold ctx op m can id spelled work =
-    traded ctx m kind.Passive (managed ctx (ask_passively op) m) work (passive_managed ctx op m can id spelled work)
+passively_sold ctx op m can id encoded work =
+    traded ctx m kind.Passive (managed ctx (ask_passively op) m) work (passive_managed ctx op m can id encoded work)
 
 pub offer_bought : (ctx : Ctx) (op : ManageBuyOfferOp) (m : EntryMap) → CanTrade ctx m → IsId ctx.op_source
-    → IsSpelled operation_body (operation.ManageBuyOffer op) → AreWorkBytes ctx m
+    → IsEncoded operation_body (operation.ManageBuyOffer op) → AreWorkBytes ctx m
     → IsTraded (attempt_of ctx (operation.ManageBuyOffer op) m)
-offer_bought ctx op m can id spelled work =
-    traded ctx m kind.Buy (managed ctx (ask_to_buy op) m) work (purchase_managed ctx op m can id spelled work)
+offer_bought ctx op m can id encoded work =
+    traded ctx m kind.Buy (managed ctx (ask_to_buy op) m) work (purchase_managed ctx op m can id encoded work)

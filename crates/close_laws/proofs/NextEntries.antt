@@ -1,66 +1,26 @@
 -- What a close leaves can be written.
-use Rattle.std.proofs.Common.{◌≡◌, ℕ, ◌+◌, ◌^◌, ◌<◌, ◌≤◌, refl, sym, ap, subst, ◌∙◌, List, [], length, All}
-use Rattle.std.proofs.Common.{Option, Some, None, ℤ, pos, inl, inr, arith}
-use Rattle.std.proofs.lemmas.Int.{ints}
-use Rattle.std.proofs.lemmas.List.Elements.{All-nil, All-weaker}
-use Rattle.std.specs.Prelude.{◌+ℤ◌, ◌≤ℤ◌, FitsSigned}
-use Rattle.std.specs.Int.{w64}
-use Rattle.std.specs.FinMap.{get}
-use Rattle.close_rules.specs.ledger_types.declared.signer.Signer.{Signer}
-use Rattle.close_rules.specs.ledger_types.declared.account.AccountEntry.{AccountEntry}
-use Rattle.close_rules.specs.ledger_types.declared.account.AccountEntryExtensionV1.{AccountEntryExtensionV1}
-use Rattle.close_rules.specs.ledger_types.declared.account.AccountEntryExtensionV2.{AccountEntryExtensionV2}
-use Rattle.close_rules.specs.ledger_types.declared.asset.TrustLineAsset.{TrustLineAsset}
+use Rattle.close_laws.proofs.Prelude as prelude
+use prelude.{◌≡◌, ℕ, ◌+◌, ◌^◌, ◌<◌, ◌≤◌, refl, sym, ap, subst, ◌∙◌, List, [], length, All, Option, Some, None, inl, inr}
+use prelude.{arith, ints, All-nil, All-weaker, ◌+ℤ◌, ◌≤ℤ◌, FitsSigned, w64, get, Signer, AccountEntry}
+use prelude.{AccountEntryExtensionV1, AccountEntryExtensionV2, TrustLineAsset, TrustLineEntry, Liabilities, OfferEntry}
+use prelude.{DataEntry, ClaimableBalanceEntry, LiquidityPoolEntry, LedgerEntry, LedgerEntryBody, LedgerEntryExtensionV1}
+use prelude.{LedgerKey, key_of_body, u32, i64, extension, list_of, optional, extension_of, CloseRecord, account_id}
+use prelude.{signer, liabilities, account_extension_v2, account_extension_v1, account_head, account_tail, account_entry}
+use prelude.{trust_line_entry, claimant, claimable_balance_entry, offer_entry, liquidity_pool_entry, data_entry}
+use prelude.{ledger_entry_body, ledger_entry_extension_v1, ledger_entry, EntryMap, parts_of, IsNextAt, account_at}
+use prelude.{account_in, account_liabilities, liabilities_in, num_sponsoring, num_sponsored, second_in, sponsorship_in}
+use prelude.{use_count, sponsor_in, greatest_i64, IsReadyAccount, Uses, stated, stated_at, AreSubentriesFew}
+use prelude.{DoReservesFit, IsLegal, IsAccountInRange, AreLineFlags, IsTrustLineInRange, IsBalanceInRange}
+use prelude.{IsPoolInRange, IsBodyInRange, TransactionLaws, LegalSettles, SettledLegal, AreEncodable, finished}
+use prelude.{SetsConserve, ClosingState, IsEncoded, setting_in, applied_in, upgraded_header, IsClosable, AreClosed}
+use prelude.{EntriesStayEncodable}
+use Rattle.std.proofs.Common.{ℤ, pos}
 use Rattle.close_rules.specs.ledger_types.declared.asset.TrustLineAsset.TheVariants as line
-use Rattle.close_rules.specs.ledger_types.declared.trust_line.TrustLineEntry.{TrustLineEntry}
-use Rattle.close_rules.specs.ledger_types.declared.price.Liabilities.{Liabilities}
-use Rattle.close_rules.specs.ledger_types.declared.offer.OfferEntry.{OfferEntry}
-use Rattle.close_rules.specs.ledger_types.declared.data_entry.DataEntry.{DataEntry}
-use Rattle.close_rules.specs.ledger_types.declared.claimable_balance.ClaimableBalanceEntry.{ClaimableBalanceEntry}
-use Rattle.close_rules.specs.ledger_types.declared.liquidity_pool.LiquidityPoolEntry.{LiquidityPoolEntry}
-use Rattle.close_rules.specs.ledger_types.declared.entry.LedgerEntry.{LedgerEntry}
-use Rattle.close_rules.specs.ledger_types.declared.entry.LedgerEntryBody.{LedgerEntryBody}
 use Rattle.close_rules.specs.ledger_types.declared.entry.LedgerEntryBody.TheVariants as body
-use Rattle.close_rules.specs.ledger_types.declared.entry.LedgerEntryExtensionV1.{LedgerEntryExtensionV1}
-use Rattle.close_rules.specs.ledger_types.declared.key.LedgerKey.{LedgerKey}
-use Rattle.close_rules.specs.ledger_types.Keys.{key_of_body}
-use Rattle.close_rules.specs.xdr_core.Leaves.{u32, i64}
-use Rattle.close_rules.specs.xdr_core.Combinators.{extension}
-use Rattle.close_rules.specs.xdr_core.Xdr.{list_of, optional, extension_of}
-use Rattle.close_rules.specs.xdr_header.declared.record.CloseRecord.{CloseRecord}
-use Rattle.close_rules.specs.xdr_entries.Basic.{account_id, signer, liabilities}
-use Rattle.close_rules.specs.xdr_entries.Entries.{account_extension_v2, account_extension_v1, account_head}
-use Rattle.close_rules.specs.xdr_entries.Entries.{account_tail}
-use Rattle.close_rules.specs.xdr_entries.Entries.{account_entry, trust_line_entry, claimant, claimable_balance_entry}
-use Rattle.close_rules.specs.xdr_entries.Entries.{offer_entry, liquidity_pool_entry}
-use Rattle.close_rules.specs.xdr_entries.Entries.{data_entry, ledger_entry_body, ledger_entry_extension_v1}
-use Rattle.close_rules.specs.xdr_entries.Entries.{ledger_entry}
-use Rattle.bucket_levels.specs.entry_map.EntryMap.{EntryMap}
-use Rattle.bucket_levels.specs.entry_map.Batch.{parts_of}
-use Rattle.close_rules.specs.entry_changes.Next.{IsNextAt}
-use Rattle.close_rules.specs.entry_slots.Accounts.{account_at, account_of, account_in}
-use Rattle.close_rules.specs.entry_slots.AccountExtensions.{account_liabilities, liabilities_in, num_sponsoring}
-use Rattle.close_rules.specs.entry_slots.AccountExtensions.{num_sponsored}
-use Rattle.close_rules.specs.entry_slots.AccountExtensions.{second_in, sponsorship_in}
-use Rattle.close_rules.specs.entry_slots.LineExtensions.{use_count}
-use Rattle.close_rules.specs.entry_slots.EntrySponsor.{sponsor_in}
-use Rattle.close_rules.specs.reserve_rules.Reserve.{greatest_i64}
-use Rattle.close_rules.specs.sponsor_rules.Payers.{IsReadyAccount}
-use Rattle.close_rules.specs.legal_rules.Books.{Uses, stated, stated_at}
-use Rattle.close_rules.specs.legal_rules.Bounds.{AreSubentriesFew, DoReservesFit}
-use Rattle.close_rules.specs.legal_rules.Legal.{IsLegal}
-use Rattle.close_rules.specs.legal_rules.Ranges.{IsAccountInRange, AreLineFlags, IsTrustLineInRange, IsBalanceInRange}
-use Rattle.close_rules.specs.legal_rules.Ranges.{IsPoolInRange, IsBodyInRange}
-use Rattle.close_rules.specs.op_laws.Steps.{TransactionLaws, LegalSettles, SettledLegal}
-use Rattle.close_rules.specs.entry_changes.Spellable.{AreSpellable}
-use Rattle.close_rules.specs.header_chain.SkipList.{finished}
-use Rattle.close_rules.specs.tx_apply.Laws.{SetsConserve}
-use Rattle.close_rules.specs.State.{ClosingState, IsSpelled}
-use Rattle.close_rules.specs.Close.{setting_in, applied_in, upgraded_header}
-use Rattle.close_laws.specs.Legal.{IsClosable, AreClosed, EntriesStaySpellable}
-use Rattle.close_laws.proofs.Unmarked.{AreMapsAlike, next_alike, stood}
-use Rattle.close_laws.proofs.Spelled.{each_spelled}
-use Rattle.close_laws.proofs.SpelledSets.{set_spelled}
+use Rattle.close_rules.specs.entry_slots.Accounts.{account_of}
+use Rattle.close_laws.proofs.Unmarked.{AreMapsAlike, next_alike, existed}
+use Rattle.close_laws.proofs.Encoded.{each_encoded}
+use Rattle.close_laws.proofs.EncodedSets.{set_encoded}
 use Rattle.close_laws.proofs.Unrefused.{seq_below}
 use Rattle.close_laws.proofs.NextLegal.{can_close, next_settled, next_is_legal}
 use Rattle.close_laws.proofs.Bytes.{IsIdIf, no_id, IsKey, sponsors_in, AreAccountBytes, AreDataBytes, AreBodyBytes}
@@ -68,176 +28,176 @@ use Rattle.close_laws.proofs.Bytes.{AreLineBytes, AreBalanceBytes, AreOfferBytes
 use Rattle.close_laws.proofs.BytesSets.{set_bytes}
 use Rattle.close_laws.proofs.ShortBalances.{AreLineNumbers, AreBalanceNumbers}
 use Rattle.close_laws.proofs.ShortPools.{ArePoolNumbers}
-use Rattle.close_laws.proofs.ShortEntries.{AreAccountNumbers, AreBodyNumbers, entry_spellable}
+use Rattle.close_laws.proofs.ShortEntries.{AreAccountNumbers, AreBodyNumbers, entry_encodable}
 use Rattle.close_laws.proofs.UsesFew.{uses_few}
 
 -- ---- the bytes of entries that can be written
 
-signer_key_spelled : (one : Signer) → IsSpelled signer one → IsKey one
+signer_key_encoded : (one : Signer) → IsEncoded signer one → IsKey one
 unfolding signer
-signer_key_spelled one spelled = record { within = spelled.within.0; sized = spelled.sized.0 }
+signer_key_encoded one encoded = record { within = encoded.within.0; sized = encoded.sized.0 }
 
-all_keys : (all : List Signer) → IsSpelled (list_of 20 signer) all → All IsKey all
-all_keys all spelled = λ k d within. signer_key_spelled _ (each_spelled 20 signer all spelled k d within)
+all_keys : (all : List Signer) → IsEncoded (list_of 20 signer) all → All IsKey all
+all_keys all encoded = λ k d within. signer_key_encoded _ (each_encoded 20 signer all encoded k d within)
 
-v2_sponsors : (ext : AccountEntryExtensionV2) → IsSpelled account_extension_v2 ext
+v2_sponsors : (ext : AccountEntryExtensionV2) → IsEncoded account_extension_v2 ext
     → All IsIdIf ext.signer_sponsoring_ids
 unfolding account_extension_v2
-v2_sponsors ext spelled =
-    each_spelled 20 (optional account_id) ext.signer_sponsoring_ids
-    (record { within = spelled.within.1.1.0; sized = spelled.sized.1.1.0 })
+v2_sponsors ext encoded =
+    each_encoded 20 (optional account_id) ext.signer_sponsoring_ids
+    (record { within = encoded.within.1.1.0; sized = encoded.sized.1.1.0 })
 
 second_sponsors : (second : Option AccountEntryExtensionV2)
-    → IsSpelled (extension_of (pos 2) account_extension_v2) second → All IsIdIf (sponsors_in second)
+    → IsEncoded (extension_of (pos 2) account_extension_v2) second → All IsIdIf (sponsors_in second)
 unfolding extension
-second_sponsors None spelled = All-nil IsIdIf
-second_sponsors (Some ext) spelled = v2_sponsors ext (record { within = spelled.within; sized = spelled.sized })
+second_sponsors None encoded = All-nil IsIdIf
+second_sponsors (Some ext) encoded = v2_sponsors ext (record { within = encoded.within; sized = encoded.sized })
 
-v1_second : (ext : AccountEntryExtensionV1) → IsSpelled account_extension_v1 ext
-    → IsSpelled (extension_of (pos 2) account_extension_v2) ext.ext
+v1_second : (ext : AccountEntryExtensionV1) → IsEncoded account_extension_v1 ext
+    → IsEncoded (extension_of (pos 2) account_extension_v2) ext.ext
 unfolding account_extension_v1
-v1_second ext spelled = record { within = spelled.within.1; sized = spelled.sized.1 }
+v1_second ext encoded = record { within = encoded.within.1; sized = encoded.sized.1 }
 
-ext_sponsors : (ext : Option AccountEntryExtensionV1) → IsSpelled (extension_of (pos 1) account_extension_v1) ext
+ext_sponsors : (ext : Option AccountEntryExtensionV1) → IsEncoded (extension_of (pos 1) account_extension_v1) ext
     → All IsIdIf (sponsors_in (second_in ext))
 unfolding extension
-ext_sponsors None spelled = All-nil IsIdIf
-ext_sponsors (Some ext) spelled =
-    second_sponsors ext.ext (v1_second ext (record { within = spelled.within; sized = spelled.sized }))
+ext_sponsors None encoded = All-nil IsIdIf
+ext_sponsors (Some ext) encoded =
+    second_sponsors ext.ext (v1_second ext (record { within = encoded.within; sized = encoded.sized }))
 
-signers_spelled : (account : AccountEntry) → IsSpelled account_entry account
-    → IsSpelled (list_of 20 signer) account.signers
+signers_encoded : (account : AccountEntry) → IsEncoded account_entry account
+    → IsEncoded (list_of 20 signer) account.signers
 unfolding account_entry account_tail
-signers_spelled account spelled = record { within = spelled.within.1.1.1.0; sized = spelled.sized.1.1.1.0 }
+signers_encoded account encoded = record { within = encoded.within.1.1.1.0; sized = encoded.sized.1.1.1.0 }
 
-at_most : (n : ℤ) → i64.sized n → n ≤ℤ greatest_i64
+sized_at_most_greatest : (n : ℤ) → i64.sized n → n ≤ℤ greatest_i64
 unfolding i64
-at_most n sized = most n sized
+sized_at_most_greatest n sized = most n sized
   where
     most : (n : ℤ) → FitsSigned w64 n → n ≤ℤ greatest_i64
     most n fits = grind (arith, ints)
 
-liabilities_selling : (owed : Liabilities) → IsSpelled liabilities owed → owed.selling ≤ℤ greatest_i64
+liabilities_selling : (owed : Liabilities) → IsEncoded liabilities owed → owed.selling ≤ℤ greatest_i64
 unfolding liabilities i64
-liabilities_selling owed spelled = at_most owed.selling spelled.sized.1
+liabilities_selling owed encoded = sized_at_most_greatest owed.selling encoded.sized.1
 
-v1_selling : (ext : AccountEntryExtensionV1) → IsSpelled account_extension_v1 ext
+v1_selling : (ext : AccountEntryExtensionV1) → IsEncoded account_extension_v1 ext
     → ext.liabilities.selling ≤ℤ greatest_i64
 unfolding account_extension_v1
-v1_selling ext spelled =
-    liabilities_selling ext.liabilities (record { within = spelled.within.0; sized = spelled.sized.0 })
+v1_selling ext encoded =
+    liabilities_selling ext.liabilities (record { within = encoded.within.0; sized = encoded.sized.0 })
 
-ext_selling : (ext : Option AccountEntryExtensionV1) → IsSpelled (extension_of (pos 1) account_extension_v1) ext
+ext_selling : (ext : Option AccountEntryExtensionV1) → IsEncoded (extension_of (pos 1) account_extension_v1) ext
     → (liabilities_in ext).selling ≤ℤ greatest_i64
 unfolding extension
-ext_selling None spelled = omega (arith, ints)
-ext_selling (Some ext) spelled = v1_selling ext (record { within = spelled.within; sized = spelled.sized })
+ext_selling None encoded = omega (arith, ints)
+ext_selling (Some ext) encoded = v1_selling ext (record { within = encoded.within; sized = encoded.sized })
 
-account_bytes : (account : AccountEntry) → IsSpelled account_entry account → AreAccountBytes account
+account_bytes : (account : AccountEntry) → IsEncoded account_entry account → AreAccountBytes account
 unfolding account_entry account_head account_tail
-account_bytes account spelled = record {
-  id = record { within = spelled.within.0.0; sized = spelled.sized.0.0 };
-  inflation_dest = record { within = spelled.within.0.1.1.1.1.0; sized = spelled.sized.0.1.1.1.1.0 };
-  home_domain = record { within = spelled.within.1.0; sized = spelled.sized.1.0 };
-  thresholds = record { within = spelled.within.1.1.0; sized = spelled.sized.1.1.0 };
-  signers = all_keys account.signers (signers_spelled account spelled);
-  sponsors = ext_sponsors account.ext (record { within = spelled.within.1.1.1.1; sized = spelled.sized.1.1.1.1 });
-  selling = ext_selling account.ext (record { within = spelled.within.1.1.1.1; sized = spelled.sized.1.1.1.1 });
+account_bytes account encoded = record {
+  id = record { within = encoded.within.0.0; sized = encoded.sized.0.0 };
+  inflation_dest = record { within = encoded.within.0.1.1.1.1.0; sized = encoded.sized.0.1.1.1.1.0 };
+  home_domain = record { within = encoded.within.1.0; sized = encoded.sized.1.0 };
+  thresholds = record { within = encoded.within.1.1.0; sized = encoded.sized.1.1.0 };
+  signers = all_keys account.signers (signers_encoded account encoded);
+  sponsors = ext_sponsors account.ext (record { within = encoded.within.1.1.1.1; sized = encoded.sized.1.1.1.1 });
+  selling = ext_selling account.ext (record { within = encoded.within.1.1.1.1; sized = encoded.sized.1.1.1.1 });
 }
 
-data_bytes : (entry : DataEntry) → IsSpelled data_entry entry → AreDataBytes entry
+data_bytes : (entry : DataEntry) → IsEncoded data_entry entry → AreDataBytes entry
 unfolding data_entry
-data_bytes entry spelled = record {
-  id = record { within = spelled.within.0; sized = spelled.sized.0 };
-  name = record { within = spelled.within.1.0; sized = spelled.sized.1.0 };
-  value = record { within = spelled.within.1.1.0; sized = spelled.sized.1.1.0 };
+data_bytes entry encoded = record {
+  id = record { within = encoded.within.0; sized = encoded.sized.0 };
+  name = record { within = encoded.within.1.0; sized = encoded.sized.1.0 };
+  value = record { within = encoded.within.1.1.0; sized = encoded.sized.1.1.0 };
 }
 
-line_bytes : (held : TrustLineEntry) → IsSpelled trust_line_entry held → AreLineBytes held
+line_bytes : (held : TrustLineEntry) → IsEncoded trust_line_entry held → AreLineBytes held
 unfolding trust_line_entry
-line_bytes held spelled = record {
-  id = record { within = spelled.within.0; sized = spelled.sized.0 };
-  asset = record { within = spelled.within.1.0; sized = spelled.sized.1.0 };
+line_bytes held encoded = record {
+  id = record { within = encoded.within.0; sized = encoded.sized.0 };
+  asset = record { within = encoded.within.1.0; sized = encoded.sized.1.0 };
 }
 
-balance_bytes : (balance : ClaimableBalanceEntry) → IsSpelled claimable_balance_entry balance
+balance_bytes : (balance : ClaimableBalanceEntry) → IsEncoded claimable_balance_entry balance
     → AreBalanceBytes balance
 unfolding claimable_balance_entry
-balance_bytes balance spelled = record {
-  id = record { within = spelled.within.0; sized = spelled.sized.0 };
-  claimants = each_spelled 10 claimant balance.claimants
-      (record { within = spelled.within.1.0; sized = spelled.sized.1.0 });
-  asset = record { within = spelled.within.1.1.0; sized = spelled.sized.1.1.0 };
-  amount = record { within = spelled.within.1.1.1.0; sized = spelled.sized.1.1.1.0 };
+balance_bytes balance encoded = record {
+  id = record { within = encoded.within.0; sized = encoded.sized.0 };
+  claimants = each_encoded 10 claimant balance.claimants
+      (record { within = encoded.within.1.0; sized = encoded.sized.1.0 });
+  asset = record { within = encoded.within.1.1.0; sized = encoded.sized.1.1.0 };
+  amount = record { within = encoded.within.1.1.1.0; sized = encoded.sized.1.1.1.0 };
 }
 
-offer_bytes : (offer : OfferEntry) → IsSpelled offer_entry offer → AreOfferBytes offer
+offer_bytes : (offer : OfferEntry) → IsEncoded offer_entry offer → AreOfferBytes offer
 unfolding offer_entry
-offer_bytes offer spelled = record {
-  id = record { within = spelled.within.0; sized = spelled.sized.0 };
-  offer_id = record { within = spelled.within.1.0; sized = spelled.sized.1.0 };
-  selling = record { within = spelled.within.1.1.0; sized = spelled.sized.1.1.0 };
-  buying = record { within = spelled.within.1.1.1.0; sized = spelled.sized.1.1.1.0 };
-  amount = record { within = spelled.within.1.1.1.1.0; sized = spelled.sized.1.1.1.1.0 };
-  price = record { within = spelled.within.1.1.1.1.1.0; sized = spelled.sized.1.1.1.1.1.0 };
+offer_bytes offer encoded = record {
+  id = record { within = encoded.within.0; sized = encoded.sized.0 };
+  offer_id = record { within = encoded.within.1.0; sized = encoded.sized.1.0 };
+  selling = record { within = encoded.within.1.1.0; sized = encoded.sized.1.1.0 };
+  buying = record { within = encoded.within.1.1.1.0; sized = encoded.sized.1.1.1.0 };
+  amount = record { within = encoded.within.1.1.1.1.0; sized = encoded.sized.1.1.1.1.0 };
+  price = record { within = encoded.within.1.1.1.1.1.0; sized = encoded.sized.1.1.1.1.1.0 };
 }
 
-pool_bytes : (pool : LiquidityPoolEntry) → IsSpelled liquidity_pool_entry pool → ArePoolBytes pool
+pool_bytes : (pool : LiquidityPoolEntry) → IsEncoded liquidity_pool_entry pool → ArePoolBytes pool
 unfolding liquidity_pool_entry
-pool_bytes pool spelled = record {
-  id = record { within = spelled.within.0; sized = spelled.sized.0 };
-  params = record { within = spelled.within.1.0; sized = spelled.sized.1.0 };
-  reserve_a = at_most pool.reserve_a spelled.sized.1.1.0;
-  reserve_b = at_most pool.reserve_b spelled.sized.1.1.1.0;
-  shares = at_most pool.total_pool_shares spelled.sized.1.1.1.1.0;
-  lines = at_most pool.pool_shares_trust_line_count spelled.sized.1.1.1.1.1;
+pool_bytes pool encoded = record {
+  id = record { within = encoded.within.0; sized = encoded.sized.0 };
+  params = record { within = encoded.within.1.0; sized = encoded.sized.1.0 };
+  reserve_a = sized_at_most_greatest pool.reserve_a encoded.sized.1.1.0;
+  reserve_b = sized_at_most_greatest pool.reserve_b encoded.sized.1.1.1.0;
+  shares = sized_at_most_greatest pool.total_pool_shares encoded.sized.1.1.1.1.0;
+  lines = sized_at_most_greatest pool.pool_shares_trust_line_count encoded.sized.1.1.1.1.1;
 }
 
-body_bytes : (of : LedgerEntryBody) → IsSpelled ledger_entry_body of → AreBodyBytes of
+body_bytes : (of : LedgerEntryBody) → IsEncoded ledger_entry_body of → AreBodyBytes of
 unfolding ledger_entry_body
-body_bytes (body.Account account) spelled =
-    account_bytes account (record { within = spelled.within; sized = spelled.sized })
-body_bytes (body.Data entry) spelled =
-    data_bytes entry (record { within = spelled.within; sized = spelled.sized })
-body_bytes (body.TrustLine held) spelled =
-    line_bytes held (record { within = spelled.within; sized = spelled.sized })
-body_bytes (body.ClaimableBalance balance) spelled =
-    balance_bytes balance (record { within = spelled.within; sized = spelled.sized })
-body_bytes (body.Offer offer) spelled =
-    offer_bytes offer (record { within = spelled.within; sized = spelled.sized })
-body_bytes (body.LiquidityPool pool) spelled =
-    pool_bytes pool (record { within = spelled.within; sized = spelled.sized })
+body_bytes (body.Account account) encoded =
+    account_bytes account (record { within = encoded.within; sized = encoded.sized })
+body_bytes (body.Data entry) encoded =
+    data_bytes entry (record { within = encoded.within; sized = encoded.sized })
+body_bytes (body.TrustLine held) encoded =
+    line_bytes held (record { within = encoded.within; sized = encoded.sized })
+body_bytes (body.ClaimableBalance balance) encoded =
+    balance_bytes balance (record { within = encoded.within; sized = encoded.sized })
+body_bytes (body.Offer offer) encoded =
+    offer_bytes offer (record { within = encoded.within; sized = encoded.sized })
+body_bytes (body.LiquidityPool pool) encoded =
+    pool_bytes pool (record { within = encoded.within; sized = encoded.sized })
 
-sponsor_id : (ext : LedgerEntryExtensionV1) → IsSpelled ledger_entry_extension_v1 ext → IsIdIf ext.sponsoring_id
+sponsor_id : (ext : LedgerEntryExtensionV1) → IsEncoded ledger_entry_extension_v1 ext → IsIdIf ext.sponsoring_id
 unfolding ledger_entry_extension_v1
-sponsor_id ext spelled = record { within = spelled.within.0; sized = spelled.sized.0 }
+sponsor_id ext encoded = record { within = encoded.within.0; sized = encoded.sized.0 }
 
-sponsor_bytes : (ext : Option LedgerEntryExtensionV1) → IsSpelled (extension_of (pos 1) ledger_entry_extension_v1) ext
+sponsor_bytes : (ext : Option LedgerEntryExtensionV1) → IsEncoded (extension_of (pos 1) ledger_entry_extension_v1) ext
     → IsIdIf (sponsor_in ext)
 unfolding extension
-sponsor_bytes None spelled = no_id
-sponsor_bytes (Some ext) spelled = sponsor_id ext (record { within = spelled.within; sized = spelled.sized })
+sponsor_bytes None encoded = no_id
+sponsor_bytes (Some ext) encoded = sponsor_id ext (record { within = encoded.within; sized = encoded.sized })
 
-entry_bytes : (e : LedgerEntry) → IsSpelled ledger_entry e → AreEntryBytes e
+entry_bytes : (e : LedgerEntry) → IsEncoded ledger_entry e → AreEntryBytes e
 unfolding ledger_entry
-entry_bytes e spelled = record {
-  body = body_bytes e.body (record { within = spelled.within.1.0; sized = spelled.sized.1.0 });
-  sponsor = sponsor_bytes e.ext (record { within = spelled.within.1.1; sized = spelled.sized.1.1 });
+entry_bytes e encoded = record {
+  body = body_bytes e.body (record { within = encoded.within.1.0; sized = encoded.sized.1.0 });
+  sponsor = sponsor_bytes e.ext (record { within = encoded.within.1.1; sized = encoded.sized.1.1 });
 }
 
-entry_seq : (e : LedgerEntry) → IsSpelled ledger_entry e → e.last_modified_ledger_seq < 4294967296
+entry_seq : (e : LedgerEntry) → IsEncoded ledger_entry e → e.last_modified_ledger_seq < 4294967296
 unfolding ledger_entry u32
-entry_seq e spelled = below spelled.sized.0
+entry_seq e encoded = below encoded.sized.0
   where
     below : {n : ℕ} → n < 256 ^ 4 → n < 4294967296
     below lt = omega arith
 
-pub map_bytes : (m : EntryMap) → AreSpellable m → AreBytes m
-map_bytes m spellable = λ k e there.
-    let found = spellable k e there in
+pub map_bytes : (m : EntryMap) → AreEncodable m → AreBytes m
+map_bytes m encodable = λ k e there.
+    let found = encodable k e there in
     entry_bytes e (record { within = found.within; sized = found.sized })
 
--- ---- behind the close
+-- ---- after the close
 
 abbrev Parts : Type 0
 Parts = LedgerEntryBody × Option LedgerEntryExtensionV1
@@ -254,7 +214,7 @@ bytes_by_parts x e same bytes =
 
 alike_bytes : (m n : EntryMap) → AreMapsAlike m n → AreBytes m → AreBytes n
 alike_bytes m n alike each = λ k e there.
-    let x = stood (get m k) (get n k) e (alike k) there in
+    let x = existed (get m k) (get n k) e (alike k) there in
     bytes_by_parts x.0 e x.2 (each k x.0 x.1)
 
 some_is : (a b : LedgerEntry) → Some a ≡ Some b → a ≡ b
@@ -283,8 +243,8 @@ seq_of seq (Some was) (Some x) after e lt old is there =
 
 -- ---- the numbers of accounts
 
-at_most_whole : (balance buying : ℤ) → pos 0 ≤ℤ buying → (balance +ℤ buying) ≤ℤ greatest_i64 → balance ≤ℤ greatest_i64
-at_most_whole balance buying low fits = omega (arith, ints)
+at_most_entire : (balance buying : ℤ) → pos 0 ≤ℤ buying → (balance +ℤ buying) ≤ℤ greatest_i64 → balance ≤ℤ greatest_i64
+at_most_entire balance buying low fits = omega (arith, ints)
 
 buying_at_most : (balance buying : ℤ) → pos 0 ≤ℤ balance → (balance +ℤ buying) ≤ℤ greatest_i64 → buying ≤ℤ greatest_i64
 buying_at_most balance buying low fits = omega (arith, ints)
@@ -300,7 +260,7 @@ account_numbers : (account : AccountEntry) → IsAccountInRange account → acco
     → (account_liabilities account).selling ≤ℤ greatest_i64 → AreAccountNumbers account
 account_numbers account range few fits ready selling = record {
   balance_low = range.range.balance;
-  balance_high = at_most_whole account.balance (account_liabilities account).buying range.range.buying range.range.fits;
+  balance_high = at_most_entire account.balance (account_liabilities account).buying range.range.buying range.range.fits;
   seq_low = range.seq_num;
   seq_high = range.greatest_seq_num;
   subentries = few;
@@ -390,13 +350,13 @@ module _ (laws : TransactionLaws) (settles : LegalSettles) (legal : SettledLegal
       alike_bytes (applied_in s closing).entries after
       (next_alike (s.header.ledger_seq + 1) s.entries (applied_in s closing).entries after closed)
       (set_bytes laws settles (setting_in s closing) closing.tx_set s.entries (can_close s closing can)
-      (set_spelled closing can.spelled) can.few (map_bytes s.entries can.state.entries))
+      (set_encoded closing can.encoded) can.few (map_bytes s.entries can.state.entries))
 
   next_seq : (k : LedgerKey) (e : LedgerEntry) → get after k ≡ Some e → e.last_modified_ledger_seq < 4294967296
   next_seq k e there =
       seq_of (s.header.ledger_seq + 1) (get s.entries k) (get (applied_in s closing).entries k) (get after k) e
       (small (seq_below s closing can.unrefused can.state.legal.header.seq_high))
-      (λ was stands. let found = can.state.entries k was stands in
+      (λ was exists. let found = can.state.entries k was exists in
       entry_seq was (record { within = found.within; sized = found.sized }))
       (closed.each k) there
     where
@@ -414,10 +374,10 @@ module _ (laws : TransactionLaws) (settles : LegalSettles) (legal : SettledLegal
       → IsBodyInRange id_pool of
   range k e of there is = subst (IsBodyInRange id_pool) is (next_legal.entries k e there).body
 
-  stands : (k : LedgerKey) (e : LedgerEntry) (account : AccountEntry) → get after k ≡ Some e
+  exists : (k : LedgerKey) (e : LedgerEntry) (account : AccountEntry) → get after k ≡ Some e
       → e.body ≡ body.Account account → account_at after account.account_id ≡ Some account
   unfolding account_at
-  stands k e account there is =
+  exists k e account there is =
       ap (λ (q : LedgerKey). account_of (get after q)) (ap key_of_body (sym is) ∙ next_legal.keyed k e there)
       ∙ ap account_of there ∙ ap account_in is
 
@@ -438,7 +398,7 @@ module _ (laws : TransactionLaws) (settles : LegalSettles) (legal : SettledLegal
       → AreBodyNumbers of
   numbers_of k e (body.Account account) there is =
       let settled = next_settled conserve s closing can after closed in
-      let at = stands k e account there is in
+      let at = exists k e account there is in
       account_numbers account (range k e (body.Account account) there is)
       (subst AreSubentriesFew is (next_legal.few k e there)) (subst DoReservesFit is (next_legal.fits k e there))
       ((laws.ready (applied_in s closing).id_pool after settled).ready account.account_id account at)
@@ -452,10 +412,10 @@ module _ (laws : TransactionLaws) (settles : LegalSettles) (legal : SettledLegal
       pool_numbers pool (range k e (body.LiquidityPool pool) there is)
   numbers_of k e (body.Data entry) there is = tt
 
-  pub next_spellable : AreSpellable after
-  next_spellable k e there =
-      entry_spellable e (next_seq k e there) (next_bytes k e there) (numbers_of k e e.body there refl)
+  pub next_encodable : AreEncodable after
+  next_encodable k e there =
+      entry_encodable e (next_seq k e there) (next_bytes k e there) (numbers_of k e e.body there refl)
 
-pub entries_stay_spellable : TransactionLaws → LegalSettles → SettledLegal → SetsConserve → EntriesStaySpellable
-entries_stay_spellable laws settles legal conserve s closing after can closed =
-    next_spellable laws settles legal conserve s closing after can closed
+pub entries_stay_encodable : TransactionLaws → LegalSettles → SettledLegal → SetsConserve → EntriesStayEncodable
+entries_stay_encodable laws settles legal conserve s closing after can closed =
+    next_encodable laws settles legal conserve s closing after can closed

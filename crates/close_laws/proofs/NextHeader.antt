@@ -1,23 +1,11 @@
--- The header behind a close is in its ranges.
-use Rattle.std.proofs.Common.{◌≡◌, ℕ, ◌+◌, ◌*◌, ◌^◌, ◌<◌, ◌≤◌, refl, List, [], ◌∷◌, map, All}
-use Rattle.std.proofs.Common.{Option, Some, None, arith}
-use Rattle.std.proofs.lemmas.Int.{ints}
-use Rattle.std.proofs.lemmas.List.Elements.{All-head, All-tail}
-use Rattle.std.specs.Prelude.{ℤ, pos, ◌+ℤ◌, ◌≤ℤ◌}
-use Rattle.close_rules.specs.ledger_types.declared.ids.Hash.{Hash}
-use Rattle.close_rules.specs.ledger_types.declared.header.LedgerHeader.{LedgerHeader}
-use Rattle.close_rules.specs.ledger_types.declared.header.LedgerUpgrade.{LedgerUpgrade}
+-- The header after a close is in its ranges.
+use Rattle.close_laws.proofs.Prelude.{◌≡◌, ℕ, ◌+◌, ◌*◌, ◌^◌, ◌<◌, ◌≤◌, refl, List, [], ◌∷◌, map, All, Option, Some}
+use Rattle.close_laws.proofs.Prelude.{None, arith, All-head, All-tail, pos, ◌≤ℤ◌, Hash, LedgerHeader, LedgerUpgrade}
+use Rattle.close_laws.proofs.Prelude.{CloseRecord, TransactionEnvelope, EntryMap, IsHeaderInRange, upgrade_in, upgraded}
+use Rattle.close_laws.proofs.Prelude.{upgraded_if, all_upgraded, finished, map_after_fee, fees_taken, sum_of}
+use Rattle.close_laws.proofs.Prelude.{ClosingState, record_fault, applied_in, filled_header, upgraded_header}
+use Rattle.close_laws.proofs.Prelude.{add_nonnegative, natural_add_nonnegative, natural_nonnegative}
 use Rattle.close_rules.specs.ledger_types.declared.header.LedgerUpgrade.TheVariants as upgrade
-use Rattle.close_rules.specs.xdr_header.declared.record.CloseRecord.{CloseRecord}
-use Rattle.close_rules.specs.op_types.declared.transaction.TransactionEnvelope.{TransactionEnvelope}
-use Rattle.bucket_levels.specs.entry_map.EntryMap.{EntryMap}
-use Rattle.close_rules.specs.legal_rules.Headers.{IsHeaderInRange}
-use Rattle.close_rules.specs.header_chain.Upgrades.{upgrade_in, upgraded, upgraded_if, all_upgraded}
-use Rattle.close_rules.specs.header_chain.SkipList.{finished}
-use Rattle.close_rules.specs.tx_apply.Fees.{map_after_fee, fees_taken, sum_of}
-use Rattle.close_rules.specs.State.{ClosingState}
-use Rattle.close_rules.specs.Refusals.{record_fault}
-use Rattle.close_rules.specs.Close.{applied_in, filled_header, upgraded_header}
 use Rattle.close_laws.proofs.Unrefused.{IsGood, IsGoodRead, upgrades_good}
 
 -- ---- upgrades
@@ -130,23 +118,14 @@ upgraded_all was h (first ∷ others) good from =
 
 -- ---- fees
 
-fee_low : (n : ℕ) (sum : ℤ) → pos 0 ≤ℤ sum → pos 0 ≤ℤ (pos n +ℤ sum)
-fee_low n sum low = grind (arith, ints)
-
-nothing_low : pos 0 ≤ℤ pos 0
-nothing_low = omega (arith, ints)
-
--- fees come to no less than nothing
+-- fees add up to no less than nothing
 pub fees_low : (base : ℕ) (envelopes : List TransactionEnvelope) (m : EntryMap)
     → pos 0 ≤ℤ sum_of (fees_taken base envelopes m).fees
 unfolding fees_taken sum_of
-fees_low base [] m = nothing_low
-fees_low base (envelope ∷ envelopes) m = fee_low _ _ (fees_low base envelopes (map_after_fee base envelope m))
+fees_low base [] m = (natural_nonnegative 0)
+fees_low base (envelope ∷ envelopes) m = natural_add_nonnegative _ _ (fees_low base envelopes (map_after_fee base envelope m))
 
 -- ---- the header
-
-pool_low : (pool sum : ℤ) → pos 0 ≤ℤ pool → pos 0 ≤ℤ sum → pos 0 ≤ℤ (pool +ℤ sum)
-pool_low pool sum low least = omega (arith, ints)
 
 one_above : (seq : ℕ) → seq < 2147483647 → seq + 1 ≤ 2147483647
 one_above seq below = omega arith
@@ -167,7 +146,7 @@ filled_range s closing range seq few = record {
   base_fee = range.base_fee;
   base_reserve = range.base_reserve;
   total_coins = range.total_coins;
-  fee_pool = pool_low s.header.fee_pool _ range.fee_pool (fees_low _ _ s.entries);
+  fee_pool = add_nonnegative s.header.fee_pool _ range.fee_pool (fees_low _ _ s.entries);
   id_pool = ids_few s.header.ledger_seq s.header.id_pool (applied_in s closing).id_pool range.id_pool few;
   flags = range.flags;
 }

@@ -1,23 +1,12 @@
 -- A close leaves a legal state.
-use Rattle.std.proofs.Common.{sym, ap, subst, ◌∙◌, ℕ, ◌+◌, ◌≤◌, arith}
-use Rattle.std.specs.Prelude.{ℤ, ◌+ℤ◌}
-use Rattle.close_rules.specs.ledger_types.declared.ids.Hash.{Hash}
+use Rattle.close_laws.proofs.Prelude.{sym, ap, subst, ◌∙◌, ℕ, ◌+◌, ◌≤◌, arith, ℤ, ◌+ℤ◌, Hash, CloseRecord, EntryMap}
+use Rattle.close_laws.proofs.Prelude.{total, held, SettledLegal, IsSettled, finished, operation_total, CanClose}
+use Rattle.close_laws.proofs.Prelude.{IsConserved, SetsConserve, envelopes_in_order, ClosingState, setting_in}
+use Rattle.close_laws.proofs.Prelude.{applied_in, filled_header, upgraded_header, IsClosable, AreClosed, NextIsLegal}
 use Rattle.close_rules.specs.ledger_types.declared.asset.Asset.TheVariants as asset
-use Rattle.close_rules.specs.xdr_header.declared.record.CloseRecord.{CloseRecord}
-use Rattle.bucket_levels.specs.entry_map.EntryMap.{EntryMap}
-use Rattle.close_rules.specs.entry_sums.Sums.{total}
-use Rattle.close_rules.specs.legal_rules.Supply.{held}
-use Rattle.close_rules.specs.op_laws.Steps.{SettledLegal}
-use Rattle.close_rules.specs.op_laws.Underway.{IsSettled}
-use Rattle.close_rules.specs.header_chain.SkipList.{finished}
-use Rattle.close_rules.specs.tx_apply.Laws.{operation_total, CanClose, IsConserved, SetsConserve}
-use Rattle.close_rules.specs.tx_apply.Set.{envelopes_in_order}
-use Rattle.close_rules.specs.State.{ClosingState}
-use Rattle.close_rules.specs.Close.{setting_in, applied_in, filled_header, upgraded_header}
-use Rattle.close_laws.specs.Legal.{IsClosable, AreClosed, NextIsLegal}
 use Rattle.close_laws.proofs.Unmarked.{next_alike, total_alike}
 use Rattle.close_laws.proofs.AlikeLegal.{settled_alike}
-use Rattle.close_laws.proofs.SpelledSets.{set_spelled, set_fit}
+use Rattle.close_laws.proofs.EncodedSets.{set_encoded, set_fit}
 use Rattle.close_laws.proofs.FewDrawn.{set_draws}
 use Rattle.close_laws.proofs.Unrefused.{seq_below}
 use Rattle.close_laws.proofs.NextHeader.{IsUpgradedFrom, next_range}
@@ -27,7 +16,7 @@ pub can_close : (s : ClosingState) (closing : CloseRecord) → IsClosable s clos
 can_close s closing can = record {
   legal = can.state.legal;
   seq = seq_below s closing can.unrefused can.state.legal.header.seq_high;
-  fit = set_fit closing.tx_set (set_spelled closing can.spelled);
+  fit = set_fit closing.tx_set (set_encoded closing can.encoded);
 }
 
 drawn_few : (was total now : ℕ) → now ≤ was + total → total ≤ 1677721600 → now ≤ was + 1677721600
@@ -40,7 +29,7 @@ module _ (conserve : SetsConserve) (s : ClosingState) (closing : CloseRecord) (c
   few_drawn : (applied_in s closing).id_pool ≤ s.header.id_pool + 1677721600
   few_drawn =
       drawn_few s.header.id_pool (operation_total (envelopes_in_order closing.tx_set)) (applied_in s closing).id_pool
-      conserved.ids.high (set_draws closing.tx_set (set_spelled closing can.spelled) can.few)
+      conserved.ids.high (set_draws closing.tx_set (set_encoded closing can.encoded) can.few)
 
   pub upgraded_from : (list_hash : Hash)
       → IsUpgradedFrom (filled_header s closing) (finished (upgraded_header s closing) list_hash)
@@ -48,7 +37,7 @@ module _ (conserve : SetsConserve) (s : ClosingState) (closing : CloseRecord) (c
       next_range s closing list_hash can.state.legal.header can.unrefused
       (seq_below s closing can.unrefused can.state.legal.header.seq_high) few_drawn
 
-  -- what stands behind the close is settled
+  -- what exists after the close is settled
   pub next_settled : (after : EntryMap) → AreClosed s closing after → IsSettled (applied_in s closing).id_pool after
   next_settled after closed =
       settled_alike (applied_in s closing).id_pool (applied_in s closing).entries after

@@ -1,31 +1,17 @@
 -- A close has one answer.
-use Rattle.std.proofs.Common.{◌≡◌, inl, inr, ℕ, zero, suc, ◌+◌, ◌<◌, ◌≤◌, refl, sym, ap, subst, ◌∙◌, List}
-use Rattle.std.proofs.Common.{Option, Some, None, Result, Ok, Err, Bool, true, false, arith}
-use Rattle.std.proofs.lemmas.List.{same_lists}
-use Rattle.std.specs.FinMap.{get, same_map}
-use Rattle.close_rules.specs.ledger_types.declared.entry.LedgerEntry.{LedgerEntry}
-use Rattle.close_rules.specs.ledger_types.declared.key.LedgerKey.{LedgerKey}
-use Rattle.close_rules.proofs.ledger_types_proofs.KeyOrdering.{keys_total, keys_exact}
-use Rattle.close_rules.specs.xdr_core.declared.fault.XdrFault.{XdrFault}
-use Rattle.close_rules.specs.xdr_header.declared.record.CloseRecord.{CloseRecord}
-use Rattle.bucket_levels.specs.entry_map.EntryMap.{EntryMap}
-use Rattle.close_rules.specs.entry_changes.Next.{IsNextAt, AreNextEntries}
-use Rattle.bucket_levels.specs.bucket_core.Bucket.{Change, Filled, Contents, change_at, version_of}
+use Rattle.close_laws.proofs.Prelude.{◌≡◌, inl, inr, ℕ, zero, suc, ◌+◌, ◌<◌, ◌≤◌, refl, sym, ap, subst, ◌∙◌, List}
+use Rattle.close_laws.proofs.Prelude.{Option, Some, None, Result, Ok, Err, Bool, true, false, arith, same_lists, get}
+use Rattle.close_laws.proofs.Prelude.{same_map, LedgerEntry, LedgerKey, keys_total, keys_exact, XdrFault, CloseRecord}
+use Rattle.close_laws.proofs.Prelude.{EntryMap, IsNextAt, AreNextEntries, Change, Filled, Contents, change_at}
+use Rattle.close_laws.proofs.Prelude.{version_of, list_hash, file_total, Pair, empty_pair, pair_at, finished}
+use Rattle.close_laws.proofs.Prelude.{same_inside, ClosingState, max_file_total, record_in, record_fault, PreparedClose}
+use Rattle.close_laws.proofs.Prelude.{upgraded_header, applied_in, IsClosed, IsClose, ClosesAreOne}
 use Rattle.bucket_levels.specs.bucket_merge.Merge.{IsMerge}
 use Rattle.bucket_levels.specs.Fresh.{IsFresh}
-use Rattle.bucket_levels.specs.Hash.{list_hash}
-use Rattle.bucket_levels.specs.Size.{file_total}
 use Rattle.bucket_levels.specs.Spills.{level_count, spills}
-use Rattle.bucket_levels.specs.Pairs.{Pair, empty_pair, pair_at}
 use Rattle.bucket_levels.specs.Step.{base_at, IsMergedIf, IsCurrAfter, IsPairAfter, IsStep}
-use Rattle.close_rules.specs.header_chain.SkipList.{finished}
-use Rattle.close_rules.proofs.tx_apply_proofs.Placed.{same_inside}
 use Rattle.close_rules.specs.declared.close_fault.CloseFault.{CloseFault}
 use Rattle.close_rules.specs.declared.close_fault.CloseFault.TheVariants as fault
-use Rattle.close_rules.specs.State.{ClosingState, max_file_total}
-use Rattle.close_rules.specs.Refusals.{record_in, record_fault}
-use Rattle.close_rules.specs.Close.{PreparedClose, upgraded_header, applied_in, IsClosed, IsClose}
-use Rattle.close_laws.specs.Closes.{ClosesAreOne}
 
 -- ---- entries
 
@@ -65,20 +51,20 @@ merge_one level older newer a b x y =
     contents_one a b (x.version ∙ sym y.version) (λ k. x.changes k ∙ sym (y.changes k))
 
 -- what one fresh bucket says of a key, the other says too
-told_too : (before after : EntryMap) (a b : Contents) (k : LedgerKey) (change : Change) → IsFresh before after a
+shown_too : (before after : EntryMap) (a b : Contents) (k : LedgerKey) (change : Change) → IsFresh before after a
     → IsFresh before after b → change_at a k ≡ Some change → change_at b k ≡ Some change
-told_too before after a b k change x y says = (y.changes k change).1 ((x.changes k change).0 says)
+shown_too before after a b k change x y says = (y.changes k change).1 ((x.changes k change).0 says)
 
-told_one : (before after : EntryMap) (a b : Contents) (k : LedgerKey) (x y : Option Change) → IsFresh before after a
+shown_one : (before after : EntryMap) (a b : Contents) (k : LedgerKey) (x y : Option Change) → IsFresh before after a
     → IsFresh before after b → change_at a k ≡ x → change_at b k ≡ y → x ≡ y
-told_one before after a b k None None f g is too = refl
-told_one before after a b k (Some x) y f g is too = sym (told_too before after a b k x f g is) ∙ too
-told_one before after a b k None (Some y) f g is too = sym is ∙ told_too before after b a k y g f too
+shown_one before after a b k None None f g is too = refl
+shown_one before after a b k (Some x) y f g is too = sym (shown_too before after a b k x f g is) ∙ too
+shown_one before after a b k None (Some y) f g is too = sym is ∙ shown_too before after b a k y g f too
 
 fresh_one : (before after : EntryMap) (a b : Contents) → IsFresh before after a → IsFresh before after b
     → version_of a ≡ version_of b → a ≡ b
 fresh_one before after a b x y version =
-    contents_one a b version (λ k. told_one before after a b k (change_at a k) (change_at b k) x y refl refl)
+    contents_one a b version (λ k. shown_one before after a b k (change_at a k) (change_at b k) x y refl refl)
 
 -- ---- levels
 
@@ -125,9 +111,9 @@ closed_one s closing a b x y =
     let network = x.network ∙ sym y.network in
     let entries = entries_one seq s.entries (applied_in s closing).entries a.state.entries b.state.entries x.entries
     y.entries in
-    let told = subst (λ (m : EntryMap). IsFresh s.entries m x.fresh) entries x.told.changes in
-    let fresh = fresh_one s.entries b.state.entries x.fresh y.fresh told y.told.changes
-    (x.told.meta ∙ sym y.told.meta) in
+    let recorded = subst (λ (m : EntryMap). IsFresh s.entries m x.fresh) entries x.recorded.changes in
+    let fresh = fresh_one s.entries b.state.entries x.fresh y.fresh recorded y.recorded.changes
+    (x.recorded.meta ∙ sym y.recorded.meta) in
     let levels = levels_one seq y.fresh s.levels a.state.levels b.state.levels
     (subst (λ (f : Contents). IsStep seq f s.levels a.state.levels) fresh x.levels) y.levels in
     let header = x.header ∙ ap (λ (l : List Pair). finished (upgraded_header s closing) (list_hash l)) levels
@@ -150,17 +136,17 @@ pub data Said (s : ClosingState) (bytes : List ℕ) : Result PreparedClose Close
       → record_fault s closing ≡ None → IsClosed s closing closed → total ≡ file_total closed.state.levels
       → max_file_total < total → Said s bytes (Err (fault.LedgerFull total))
 
-said : (s : ClosingState) (bytes : List ℕ) (a : Result PreparedClose CloseFault) → IsClose s bytes a → Said s bytes a
-said s bytes (Ok closed) h =
+close_is_said : (s : ClosingState) (bytes : List ℕ) (a : Result PreparedClose CloseFault) → IsClose s bytes a → Said s bytes a
+close_is_said s bytes (Ok closed) h =
     let taken = h.1.taken in
     Fits taken.closing closed taken.reads taken.unrefused h.1.closes
     (subst (λ (n : ℕ). n ≤ max_file_total) h.1.files h.2)
-said s bytes (Err (fault.BadXdr at kind)) h = Unread (record { at = at; kind = kind }) h
-said s bytes (Err (fault.LedgerFull total)) h =
+close_is_said s bytes (Err (fault.BadXdr at kind)) h = Unread (record { at = at; kind = kind }) h
+close_is_said s bytes (Err (fault.LedgerFull total)) h =
     let taken = h.1.taken in
     Full taken.closing h.0 total taken.reads taken.unrefused h.1.closes h.1.files h.2
-said s bytes (Err fault.NoMemory) h = absurd h
-said s bytes (Err wrong) h = Refused h.0 wrong h.1 h.2
+close_is_said s bytes (Err fault.NoMemory) h = absurd h
+close_is_said s bytes (Err wrong) h = Refused h.0 wrong h.1 h.2
 
 -- ---- one answer
 
@@ -237,4 +223,4 @@ one_answer s bytes a b (Full c x t e m g is more) (Full d y u f n h same most) =
     (same_closed s c d x y (same_record bytes c d e f) g h) ∙ sym same)
 
 pub closes_are_one : ClosesAreOne
-closes_are_one s bytes a b x y = one_answer s bytes a b (said s bytes a x) (said s bytes b y)
+closes_are_one s bytes a b x y = one_answer s bytes a b (close_is_said s bytes a x) (close_is_said s bytes b y)

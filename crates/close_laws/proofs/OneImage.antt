@@ -1,30 +1,17 @@
 -- An image is judged to be one thing.
-use Rattle.std.proofs.Common.{◌≡◌, ℕ, List, [], ◌∷◌, Option, Some, None, Result, Ok, Err, refl, sym, ap, subst, ◌∙◌}
-use Rattle.std.proofs.Common.{inl, inr, ◌⊎◌}
+use Rattle.close_laws.proofs.Prelude.{◌≡◌, ℕ, List, [], ◌∷◌, Option, Some, None, Result, Ok, Err, refl, sym, ap, subst}
+use Rattle.close_laws.proofs.Prelude.{◌∙◌, inl, inr, ◌⊎◌, flat_map, same_map, All-head, All-tail, keys_total}
+use Rattle.close_laws.proofs.Prelude.{keys_exact, Hash, LedgerHeader, StartImage, EntryMap, Contents, file_of, HasFile}
+use Rattle.close_laws.proofs.Prelude.{Pair, list_hash, ClosingState, entry_rules, IsFirstBroken, header_in, HasHeader}
+use Rattle.close_laws.proofs.Prelude.{HasFiles, HasLevels, HasEntries, state_of, IsJudged, BreaksEntries}
+use Rattle.close_laws.proofs.Prelude.{AreFieldsInRange, ImagesAreOne}
 use Rattle.std.specs.Prelude.{All}
-use Rattle.std.specs.List.{flat_map}
-use Rattle.std.specs.FinMap.{same_map}
-use Rattle.std.proofs.lemmas.List.Elements.{All-head, All-tail}
-use Rattle.close_rules.proofs.ledger_types_proofs.KeyOrdering.{keys_total, keys_exact}
-use Rattle.close_rules.specs.ledger_types.declared.ids.Hash.{Hash}
-use Rattle.close_rules.specs.ledger_types.declared.header.LedgerHeader.{LedgerHeader}
-use Rattle.close_rules.specs.xdr_header.declared.image.StartImage.{StartImage}
-use Rattle.bucket_levels.specs.entry_map.EntryMap.{EntryMap}
-use Rattle.bucket_levels.specs.bucket_core.Bucket.{Contents}
-use Rattle.bucket_levels.specs.bucket_core.File.{file_of, HasFile}
-use Rattle.bucket_levels.proofs.bucket_core_proofs.Files.{files_tell_apart}
-use Rattle.bucket_levels.specs.Pairs.{Pair}
-use Rattle.bucket_levels.specs.Meaning.{StandFor, AreWellMarked}
-use Rattle.bucket_levels.specs.Hash.{list_hash}
+use Rattle.bucket_levels.proofs.bucket_core_proofs.Files.{files_distinguish}
+use Rattle.bucket_levels.specs.Meaning.{Represent, AreWellMarked}
 use Rattle.close_rules.specs.declared.image_fault.ImageFault.{ImageFault}
 use Rattle.close_rules.specs.declared.image_fault.ImageFault.TheVariants as fault
 use Rattle.close_rules.specs.declared.image_fault.ImageRule.{ImageRule}
 use Rattle.close_rules.specs.declared.image_fault.ImageRule.TheVariants as rule
-use Rattle.close_rules.specs.State.{ClosingState}
-use Rattle.close_rules.specs.EntryRules.{entry_rules, IsFirstBroken}
-use Rattle.close_rules.specs.Images.{header_in, HasHeader, HasFiles, HasLevels, HasEntries, state_of, IsJudged}
-use Rattle.close_rules.specs.Images.{BreaksEntries, AreFieldsInRange}
-use Rattle.close_laws.specs.Images.{ImagesAreOne}
 
 -- ---- what an image has
 
@@ -60,8 +47,8 @@ same_pairs (p ∷ a) (q ∷ b) h i e =
     let snap = heads_are (file_of p.snap) (file_of q.snap) (flat_map pair_files a) (flat_map pair_files b) curr.1 in
     let have_p = All-head HavePair p a h in
     let have_q = All-head HavePair q b i in
-    let curr_is : p.curr ≡ q.curr = files_tell_apart p.curr q.curr have_p.0 have_q.0 curr.0 in
-    let snap_is : p.snap ≡ q.snap = files_tell_apart p.snap q.snap have_p.1 have_q.1 snap.0 in
+    let curr_is : p.curr ≡ q.curr = files_distinguish p.curr q.curr have_p.0 have_q.0 curr.0 in
+    let snap_is : p.snap ≡ q.snap = files_distinguish p.snap q.snap have_p.1 have_q.1 snap.0 in
     let rest : a ≡ b = same_pairs a b (All-tail HavePair p a h) (All-tail HavePair q b i) snap.1 in
     let pair_is : p ≡ q = ap (λ (c : Contents). pair_of c p.snap) curr_is
     ∙ ap (λ (c : Contents). pair_of q.curr c) snap_is in
@@ -70,7 +57,7 @@ same_pairs (p ∷ a) (q ∷ b) h i e =
 same_levels : (image : StartImage) (a b : List Pair) → HasFiles image a → HasFiles image b → a ≡ b
 same_levels image a b h i = same_pairs a b h.files.have i.files.have (sym h.files.are ∙ i.files.are)
 
-same_entries : (levels : List Pair) (m n : EntryMap) → StandFor levels m → StandFor levels n → m ≡ n
+same_entries : (levels : List Pair) (m n : EntryMap) → Represent levels m → Represent levels n → m ≡ n
 same_entries levels m n h i = same_map keys_total keys_exact m n (λ k. h k ∙ sym (i k))
 
 -- ---- rules of entries
@@ -119,7 +106,7 @@ abbrev ByHash : Hash → LedgerHeader → List Pair → Judged → Type 0
 ByHash network h levels judged =
     Broken rule.ListHash (list_hash levels ≡ h.bucket_list_hash) judged
     ⊎ ((list_hash levels ≡ h.bucket_list_hash)
-    × (m : EntryMap) × StandFor levels m × ByEntries network h levels m judged)
+    × (m : EntryMap) × Represent levels m × ByEntries network h levels m judged)
 
 abbrev ByMarks : Hash → LedgerHeader → List Pair → Judged → Type 0
 ByMarks network h levels judged =
@@ -156,7 +143,7 @@ with_levels network image h levels judged x y =
 with_entries : (network : Hash) (image : StartImage) (h : LedgerHeader) (levels : List Pair) (m : EntryMap)
     (judged : Judged) → HasEntries image h levels m → ByEntries network h levels m judged → ByRules network image judged
 with_entries network image h levels m judged x y =
-    with_levels network image h levels judged x.files (inr (x.marks, inr (x.hash, m, x.standing, y)))
+    with_levels network image h levels judged x.files (inr (x.marks, inr (x.hash, m, x.existing, y)))
 
 broken_entries : (network : Hash) (image : StartImage) (broken : ImageRule) → BreaksEntries image (Some broken)
     → ByRules network image (bad broken)

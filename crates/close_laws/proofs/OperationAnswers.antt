@@ -1,27 +1,19 @@
 -- What operations answer keeps the bounds on lengths.
-use Rattle.std.proofs.Common.{ℕ, List, [], ◌∷◌, Option, Some, None, Ok, Bool, true, false}
-use Rattle.std.proofs.Common.{if◌then◌else◌, pos}
-use Rattle.std.specs.Prelude.{int_lt, nat_eq, not, is_some}
-use Rattle.std.specs.FinMap.{get}
-use Rattle.close_rules.specs.ledger_types.declared.ids.AccountId.{AccountId}
-use Rattle.close_rules.specs.ledger_types.declared.signer.Signer.{Signer}
-use Rattle.close_rules.specs.ledger_types.declared.signer.SignerKey.{SignerKey}
-use Rattle.close_rules.specs.ledger_types.declared.account.AccountEntry.{AccountEntry}
-use Rattle.close_rules.specs.ledger_types.declared.data_entry.DataEntry.{DataEntry}
-use Rattle.close_rules.specs.ledger_types.declared.key.LedgerKey.{LedgerKey}
-use Rattle.close_rules.specs.ledger_types.Ids.{account_of}
-use Rattle.close_rules.specs.op_types.declared.account_ops.AccountMergeOp.{AccountMergeOp}
-use Rattle.close_rules.specs.op_types.declared.account_ops.BumpSequenceOp.{BumpSequenceOp}
-use Rattle.close_rules.specs.op_types.declared.account_ops.CreateAccountOp.{CreateAccountOp}
-use Rattle.close_rules.specs.op_types.declared.account_ops.ManageDataOp.{ManageDataOp}
-use Rattle.close_rules.specs.op_types.declared.account_ops.SetOptionsOp.{SetOptionsOp}
-use Rattle.close_rules.specs.op_types.declared.payment_ops.PaymentOp.{PaymentOp}
-use Rattle.close_rules.specs.op_types.declared.sponsor_ops.BeginSponsoringFutureReservesOp.{
-  BeginSponsoringFutureReservesOp,
-}
-use Rattle.close_rules.specs.op_types.declared.sponsor_ops.RevokeSponsorshipOp.{RevokeSponsorshipOp}
+use Rattle.close_laws.proofs.Prelude as prelude
+use prelude.{ℕ, List, [], ◌∷◌, Option, Some, None, Ok, Bool, true, false, if◌then◌else◌, int_lt, is_some, get}
+use prelude.{AccountId, Signer, SignerKey, AccountEntry, DataEntry, LedgerKey, account_of, AccountMergeOp}
+use prelude.{BumpSequenceOp, CreateAccountOp, ManageDataOp, SetOptionsOp, PaymentOp, BeginSponsoringFutureReservesOp}
+use prelude.{RevokeSponsorshipOp, OperationBody, i64, operation_body, create_account_result, payment_result}
+use prelude.{set_options_result, account_merge_result, manage_data_result, bump_sequence_result}
+use prelude.{begin_sponsoring_future_reserves_result, end_sponsoring_future_reserves_result, revoke_sponsorship_result}
+use prelude.{operation_result_tr, operation_result, EntryMap, account_at, data_at, Ctx, FoundSigner, map_after_adding}
+use prelude.{map_after_moving, open_sponsor, found_signer, map_after_adding_signer, map_after_moving_signer}
+use prelude.{map_after_removing_signer, CreditFault, DebitFault, map_after_credit, map_after_debit, unless_refused}
+use prelude.{account_operation, options_operation, payment_operation, change_trust, trust_operation, flags_operation}
+use prelude.{claim_operation, attempt_of, offers_operation, pool_operation, sponsor_operation, any_operation, IsEncoded}
+use Rattle.std.proofs.Common.{pos}
+use Rattle.std.specs.Prelude.{nat_eq, not}
 use Rattle.close_rules.specs.op_types.declared.sponsor_ops.RevokeSponsorshipOp.TheVariants as revoked
-use Rattle.close_rules.specs.op_types.declared.operation.OperationBody.{OperationBody}
 use Rattle.close_rules.specs.op_types.declared.operation.OperationBody.TheVariants as body
 use Rattle.close_rules.specs.op_types.declared.operation_result.OperationResult.TheVariants as operation
 use Rattle.close_rules.specs.op_types.declared.account_results.AccountMergeResult.{AccountMergeResult}
@@ -46,65 +38,30 @@ use Rattle.close_rules.specs.op_types.declared.sponsor_results.EndSponsoringFutu
 use Rattle.close_rules.specs.op_types.declared.sponsor_results.EndSponsoringFutureReservesResult.TheVariants as end
 use Rattle.close_rules.specs.op_types.declared.sponsor_results.RevokeSponsorshipResult.{RevokeSponsorshipResult}
 use Rattle.close_rules.specs.op_types.declared.sponsor_results.RevokeSponsorshipResult.TheVariants as revoke
-use Rattle.close_rules.specs.xdr_core.Leaves.{i64}
-use Rattle.close_rules.specs.xdr_tx.Operations.{operation_body}
-use Rattle.close_rules.specs.xdr_results.Answers.{create_account_result, payment_result, set_options_result}
-use Rattle.close_rules.specs.xdr_results.Answers.{account_merge_result}
-use Rattle.close_rules.specs.xdr_results.Answers.{manage_data_result, bump_sequence_result}
-use Rattle.close_rules.specs.xdr_results.Answers.{begin_sponsoring_future_reserves_result}
-use Rattle.close_rules.specs.xdr_results.Answers.{end_sponsoring_future_reserves_result}
-use Rattle.close_rules.specs.xdr_results.Answers.{revoke_sponsorship_result}
-use Rattle.close_rules.specs.xdr_results.Results.{operation_result_tr, operation_result}
-use Rattle.bucket_levels.specs.entry_map.EntryMap.{EntryMap}
-use Rattle.close_rules.specs.entry_slots.Accounts.{account_at}
-use Rattle.close_rules.specs.entry_slots.DataEntries.{data_at}
-use Rattle.close_rules.specs.sponsor_rules.declared.context.Ctx.{Ctx}
-use Rattle.close_rules.specs.sponsor_rules.declared.signer_place.FoundSigner.{FoundSigner}
-use Rattle.close_rules.specs.sponsor_rules.Adding.{map_after_adding}
-use Rattle.close_rules.specs.sponsor_rules.Moving.{map_after_moving}
-use Rattle.close_rules.specs.sponsor_rules.Payers.{open_sponsor}
-use Rattle.close_rules.specs.sponsor_rules.SignerPlace.{found_signer}
-use Rattle.close_rules.specs.sponsor_rules.Signers.{map_after_adding_signer, map_after_moving_signer}
-use Rattle.close_rules.specs.sponsor_rules.Signers.{map_after_removing_signer}
-use Rattle.close_rules.specs.op_form.declared.amounts.CreditFault.{CreditFault}
 use Rattle.close_rules.specs.op_form.declared.amounts.CreditFault.TheVariants as credit
-use Rattle.close_rules.specs.op_form.declared.amounts.DebitFault.{DebitFault}
 use Rattle.close_rules.specs.op_form.declared.amounts.DebitFault.TheVariants as debit
-use Rattle.close_rules.specs.op_form.Amounts.{map_after_credit, map_after_debit}
 use Rattle.close_rules.specs.op_form.Lumens as lumens
-use Rattle.close_rules.specs.op_form.Steps.{unless_refused}
 use Rattle.close_rules.specs.op_account.AccountMerge as merging
 use Rattle.close_rules.specs.op_account.BumpSequence as bumping
 use Rattle.close_rules.specs.op_account.CreateAccount as creating
-use Rattle.close_rules.specs.op_account.Operations.{account_operation}
 use Rattle.close_rules.specs.op_options.ManageData as managing
 use Rattle.close_rules.specs.op_options.OptionSigner as signers
 use Rattle.close_rules.specs.op_options.OptionTests as tests
 use Rattle.close_rules.specs.op_options.SetOptions as options
-use Rattle.close_rules.specs.op_options.Operations.{options_operation}
 use Rattle.close_rules.specs.op_payment.PathReceive as receiving
 use Rattle.close_rules.specs.op_payment.PathSend as sending
 use Rattle.close_rules.specs.op_payment.Payment as paying
-use Rattle.close_rules.specs.op_payment.Operations.{payment_operation}
-use Rattle.close_rules.specs.op_trust.Operations.{change_trust, trust_operation}
 use Rattle.close_rules.specs.op_flags.AllowTrust as allowing
 use Rattle.close_rules.specs.op_flags.SetTrustLineFlags as flagging
-use Rattle.close_rules.specs.op_flags.Operations.{flags_operation}
 use Rattle.close_rules.specs.op_claim.CreateClaimableBalance as balances
 use Rattle.close_rules.specs.op_claim.ClaimClaimableBalance as claiming
 use Rattle.close_rules.specs.op_claim.Clawback as clawing
 use Rattle.close_rules.specs.op_claim.ClawbackClaimableBalance as taking
-use Rattle.close_rules.specs.op_claim.Operations.{claim_operation}
-use Rattle.close_rules.specs.op_offers.Operations.{attempt_of, offers_operation}
 use Rattle.close_rules.specs.op_pool.Deposit as depositing
 use Rattle.close_rules.specs.op_pool.Withdraw as withdrawing
-use Rattle.close_rules.specs.op_pool.Operations.{pool_operation}
 use Rattle.close_rules.specs.op_sponsor.BeginSponsoringFutureReserves as beginning
 use Rattle.close_rules.specs.op_sponsor.EndSponsoringFutureReserves as ending
 use Rattle.close_rules.specs.op_sponsor.RevokeSponsorship as revoking
-use Rattle.close_rules.specs.op_sponsor.Operations.{sponsor_operation}
-use Rattle.close_rules.specs.op_laws.AnyOperation.{any_operation}
-use Rattle.close_rules.specs.State.{IsSpelled}
 use Rattle.close_laws.proofs.AnswerSteps.{IsAnswer, no_account, not_supported, Answers, Any, IsDone, first_answers}
 use Rattle.close_laws.proofs.AnswerSteps.{some_answers, charge_answers, change_answers, step_answers, either_answers}
 use Rattle.close_laws.proofs.AnswerSteps.{done_answers}
@@ -294,9 +251,9 @@ begin_answers ctx op m =
 
 end_answers : (ctx : Ctx) (m : EntryMap) → Answers IsDone (ending.end_sponsoring ctx m)
 end_answers ctx m =
-    some_answers IsDone (ending.place_of_sponsorship ctx) (ending.answer end.NotSponsored) _
+    some_answers IsDone (ending.index_of_sponsorship ctx) (ending.answer end.NotSponsored) _
     (ended end.NotSponsored)
-    (λ place. record { ends = ended end.Success })
+    (λ index. record { ends = ended end.Success })
 
 entry_answers : (ctx : Ctx) (k : LedgerKey) (m : EntryMap)
     → Answers IsDone (revoking.revoke_entry ctx k m)
@@ -328,56 +285,56 @@ revoke_answers ctx (revoked.LedgerEntry k) m = entry_answers ctx k m
 revoke_answers ctx (revoked.Signer id k) m = signing_answers ctx id k m
 
 pub any_answers : (ctx : Ctx) (of : OperationBody) (m : EntryMap) → CanTrade ctx m → IsId ctx.op_source
-    → IsSpelled operation_body of → AreWorkBytes ctx m → IsDone (any_operation ctx of m)
+    → IsEncoded operation_body of → AreWorkBytes ctx m → IsDone (any_operation ctx of m)
 unfolding any_operation account_operation options_operation payment_operation trust_operation flags_operation
     claim_operation sponsor_operation offers_operation pool_operation
-any_answers ctx (body.CreateAccount op) m can id spelled work =
+any_answers ctx (body.CreateAccount op) m can id encoded work =
     done_answers ctx m (creating.create_account ctx op m) (create_answers ctx op m)
-any_answers ctx (body.AccountMerge op) m can id spelled work =
+any_answers ctx (body.AccountMerge op) m can id encoded work =
     done_answers ctx m (merging.account_merge ctx op m) (merge_answers ctx op m)
-any_answers ctx (body.BumpSequence op) m can id spelled work =
+any_answers ctx (body.BumpSequence op) m can id encoded work =
     done_answers ctx m (bumping.bump_sequence ctx op m) (bump_answers ctx op m)
-any_answers ctx (body.ManageSellOffer op) m can id spelled work =
-    done_answers ctx m (attempt_of ctx (body.ManageSellOffer op) m) (offer_sold ctx op m can id spelled work).answers
-any_answers ctx (body.CreatePassiveSellOffer op) m can id spelled work =
+any_answers ctx (body.ManageSellOffer op) m can id encoded work =
+    done_answers ctx m (attempt_of ctx (body.ManageSellOffer op) m) (offer_sold ctx op m can id encoded work).answers
+any_answers ctx (body.CreatePassiveSellOffer op) m can id encoded work =
     done_answers ctx m (attempt_of ctx (body.CreatePassiveSellOffer op) m)
-    (passively_sold ctx op m can id spelled work).answers
-any_answers ctx (body.ManageBuyOffer op) m can id spelled work =
-    done_answers ctx m (attempt_of ctx (body.ManageBuyOffer op) m) (offer_bought ctx op m can id spelled work).answers
-any_answers ctx (body.SetOptions op) m can id spelled work =
+    (passively_sold ctx op m can id encoded work).answers
+any_answers ctx (body.ManageBuyOffer op) m can id encoded work =
+    done_answers ctx m (attempt_of ctx (body.ManageBuyOffer op) m) (offer_bought ctx op m can id encoded work).answers
+any_answers ctx (body.SetOptions op) m can id encoded work =
     done_answers ctx m (options.set_options ctx op m) (options_answers ctx op m)
-any_answers ctx (body.ManageData op) m can id spelled work =
+any_answers ctx (body.ManageData op) m can id encoded work =
     done_answers ctx m (managing.manage_data ctx op m) (data_answers ctx op m)
-any_answers ctx (body.Payment op) m can id spelled work =
+any_answers ctx (body.Payment op) m can id encoded work =
     done_answers ctx m (paying.payment ctx op m) (pay_answers ctx op m)
-any_answers ctx (body.PathPaymentStrictReceive op) m can id spelled work =
+any_answers ctx (body.PathPaymentStrictReceive op) m can id encoded work =
     done_answers ctx m (receiving.path_payment_strict_receive ctx op m)
-    (path_received ctx op m can.under.settled.legal spelled work).answers
-any_answers ctx (body.PathPaymentStrictSend op) m can id spelled work =
+    (path_received ctx op m can.under.settled.legal encoded work).answers
+any_answers ctx (body.PathPaymentStrictSend op) m can id encoded work =
     done_answers ctx m (sending.path_payment_strict_send ctx op m)
-    (path_sent ctx op m can.under.settled.legal spelled work).answers
-any_answers ctx (body.ChangeTrust op) m can id spelled work =
+    (path_sent ctx op m can.under.settled.legal encoded work).answers
+any_answers ctx (body.ChangeTrust op) m can id encoded work =
     done_answers ctx m (change_trust ctx op m) (trust_answers ctx op m)
-any_answers ctx (body.AllowTrust op) m can id spelled work =
+any_answers ctx (body.AllowTrust op) m can id encoded work =
     done_answers ctx m (allowing.allow_trust ctx op m) (allow_answers ctx op m)
-any_answers ctx (body.SetTrustLineFlags op) m can id spelled work =
+any_answers ctx (body.SetTrustLineFlags op) m can id encoded work =
     done_answers ctx m (flagging.set_trust_line_flags ctx op m) (flag_answers ctx op m)
-any_answers ctx (body.CreateClaimableBalance op) m can id spelled work =
+any_answers ctx (body.CreateClaimableBalance op) m can id encoded work =
     done_answers ctx m (balances.create_claimable_balance ctx op m) (create_balance_answers ctx op m)
-any_answers ctx (body.ClaimClaimableBalance op) m can id spelled work =
+any_answers ctx (body.ClaimClaimableBalance op) m can id encoded work =
     done_answers ctx m (claiming.claim_claimable_balance ctx op m) (claim_answers ctx op m)
-any_answers ctx (body.Clawback op) m can id spelled work =
+any_answers ctx (body.Clawback op) m can id encoded work =
     done_answers ctx m (clawing.clawback ctx op m) (clawback_answers ctx op m)
-any_answers ctx (body.ClawbackClaimableBalance op) m can id spelled work =
+any_answers ctx (body.ClawbackClaimableBalance op) m can id encoded work =
     done_answers ctx m (taking.clawback_claimable_balance ctx op m) (clawback_balance_answers ctx op m)
-any_answers ctx (body.BeginSponsoringFutureReserves op) m can id spelled work =
+any_answers ctx (body.BeginSponsoringFutureReserves op) m can id encoded work =
     done_answers ctx m (beginning.begin_sponsoring ctx op m) (begin_answers ctx op m)
-any_answers ctx body.EndSponsoringFutureReserves m can id spelled work =
+any_answers ctx body.EndSponsoringFutureReserves m can id encoded work =
     done_answers ctx m (ending.end_sponsoring ctx m) (end_answers ctx m)
-any_answers ctx (body.RevokeSponsorship op) m can id spelled work =
+any_answers ctx (body.RevokeSponsorship op) m can id encoded work =
     done_answers ctx m (revoking.revoke_sponsorship ctx op m) (revoke_answers ctx op m)
-any_answers ctx (body.LiquidityPoolDeposit op) m can id spelled work =
+any_answers ctx (body.LiquidityPoolDeposit op) m can id encoded work =
     done_answers ctx m (depositing.liquidity_pool_deposit ctx op m) (deposit_answers ctx op m)
-any_answers ctx (body.LiquidityPoolWithdraw op) m can id spelled work =
+any_answers ctx (body.LiquidityPoolWithdraw op) m can id encoded work =
     done_answers ctx m (withdrawing.liquidity_pool_withdraw ctx op m) (withdraw_answers ctx op m)
-any_answers ctx other m can id spelled work = not_supported
+any_answers ctx other m can id encoded work = not_supported

@@ -1,7 +1,5 @@
 -- Tests of which none holds.
-use Rattle.std.proofs.Common.{◌≡◌, [], ◌∷◌, None, false}
-use Rattle.close_rules.specs.entry_slots.Tests.{Tests, first_fault}
-use Rattle.close_rules.proofs.legal_rules_proofs.Passed.{first_passed}
+use Rattle.close_laws.proofs.Prelude.{◌≡◌, [], ◌∷◌, None, false, Tests, first_fault, first_passed}
 
 abbrev pub AllPass : {F : Type 0} → Tests F → Type 0
 AllPass [] = Unit {0}

@@ -1,33 +1,22 @@
 -- What payments along paths answer keeps the bounds on lengths.
-use Rattle.std.proofs.Common.{ℕ, ◌≤◌, List, All, length, arith}
-use Rattle.std.specs.Prelude.{ℤ}
-use Rattle.close_rules.specs.ledger_types.declared.ids.AccountId.{AccountId}
-use Rattle.close_rules.specs.ledger_types.declared.asset.Asset.{Asset}
-use Rattle.close_rules.specs.ledger_types.declared.claim_atom.ClaimAtom.{ClaimAtom}
+use Rattle.close_laws.proofs.Prelude.{ℕ, ◌≤◌, List, All, length, arith, ℤ, AccountId, Asset, ClaimAtom, i64, list}
+use Rattle.close_laws.proofs.Prelude.{simple_payment_result, path_payment_success, path_payment_strict_receive_result}
+use Rattle.close_laws.proofs.Prelude.{path_payment_strict_send_result, operation_result_tr, operation_result}
+use Rattle.close_laws.proofs.Prelude.{CreditFault, DebitFault, PathFault, arrived}
 use Rattle.close_rules.specs.op_types.declared.payment_results.PathPaymentStrictReceiveResult.{
   PathPaymentStrictReceiveResult,
 }
 use Rattle.close_rules.specs.op_types.declared.payment_results.PathPaymentStrictReceiveResult.TheVariants as got_code
 use Rattle.close_rules.specs.op_types.declared.payment_results.PathPaymentStrictSendResult.{PathPaymentStrictSendResult}
 use Rattle.close_rules.specs.op_types.declared.payment_results.PathPaymentStrictSendResult.TheVariants as sent_code
-use Rattle.close_rules.specs.xdr_core.Leaves.{i64}
-use Rattle.close_rules.specs.xdr_core.Combinators.{list}
-use Rattle.close_rules.specs.xdr_results.Answers.{simple_payment_result, path_payment_success}
-use Rattle.close_rules.specs.xdr_results.Answers.{path_payment_strict_receive_result}
-use Rattle.close_rules.specs.xdr_results.Answers.{path_payment_strict_send_result}
-use Rattle.close_rules.specs.xdr_results.Results.{operation_result_tr, operation_result}
-use Rattle.close_rules.specs.op_form.declared.amounts.CreditFault.{CreditFault}
 use Rattle.close_rules.specs.op_form.declared.amounts.CreditFault.TheVariants as credit
-use Rattle.close_rules.specs.op_form.declared.amounts.DebitFault.{DebitFault}
 use Rattle.close_rules.specs.op_form.declared.amounts.DebitFault.TheVariants as debit
-use Rattle.close_rules.specs.op_payment.declared.path_fault.PathFault.{PathFault}
 use Rattle.close_rules.specs.op_payment.declared.path_fault.PathFault.TheVariants as fault
-use Rattle.close_rules.specs.op_payment.PathPayment.{arrived}
 use Rattle.close_rules.specs.op_payment.PathReceive as receiving
 use Rattle.close_rules.specs.op_payment.PathSend as sending
 use Rattle.close_laws.proofs.AnswerSteps.{IsAnswer, exceeded}
 use Rattle.close_laws.proofs.Bytes.{IsId}
-use Rattle.close_laws.proofs.BytesCrossing.{IsTold, all_told}
+use Rattle.close_laws.proofs.BytesCrossing.{IsReported, all_reported}
 use Rattle.close_laws.proofs.BytesPaths.{IsNamed, most_in_paths}
 
 -- ---- what arrived
@@ -36,15 +25,15 @@ listed : (n : ℕ) → n ≤ most_in_paths → n ≤ 4294967295
 listed n le = omega arith
 
 pub arrived_within : (atoms : List ClaimAtom) (destination : AccountId) (last : Asset) (amount : ℤ)
-    → length atoms ≤ most_in_paths → All IsTold atoms → IsId destination → IsNamed last
+    → length atoms ≤ most_in_paths → All IsReported atoms → IsId destination → IsNamed last
     → path_payment_success.within (arrived atoms destination last amount)
 unfolding path_payment_success simple_payment_result list i64
-arrived_within atoms destination last amount few told id named =
-    ((listed (length atoms) few, all_told atoms told), (id.within, (named, tt)))
+arrived_within atoms destination last amount few reported id named =
+    ((listed (length atoms) few, all_reported atoms reported), (id.within, (named, tt)))
 
 -- ---- PATH_PAYMENT_STRICT_RECEIVE
 
--- codes behind which nothing stands
+-- codes after which nothing comes
 abbrev pub IsBare : PathPaymentStrictReceiveResult → Type 0
 IsBare (got_code.Success done) = ⊥
 IsBare (got_code.NoIssuer held) = ⊥
@@ -72,15 +61,15 @@ received_path fault.TooMany = exceeded
 received_path fault.TooFew = received_bare got_code.TooFewOffers tt
 
 pub received_arrived : (atoms : List ClaimAtom) (destination : AccountId) (last : Asset) (amount : ℤ)
-    → length atoms ≤ most_in_paths → All IsTold atoms → IsId destination → IsNamed last
+    → length atoms ≤ most_in_paths → All IsReported atoms → IsId destination → IsNamed last
     → IsAnswer (receiving.answer (got_code.Success (arrived atoms destination last amount)))
 unfolding operation_result operation_result_tr path_payment_strict_receive_result
-received_arrived atoms destination last amount few told id named =
-    record { within = arrived_within atoms destination last amount few told id named }
+received_arrived atoms destination last amount few reported id named =
+    record { within = arrived_within atoms destination last amount few reported id named }
 
 -- ---- PATH_PAYMENT_STRICT_SEND
 
--- codes behind which nothing stands
+-- codes after which nothing comes
 abbrev pub IsBareSent : PathPaymentStrictSendResult → Type 0
 IsBareSent (sent_code.Success done) = ⊥
 IsBareSent (sent_code.NoIssuer held) = ⊥
@@ -108,8 +97,8 @@ sent_path fault.TooMany = exceeded
 sent_path fault.TooFew = sent_bare sent_code.TooFewOffers tt
 
 pub sent_arrived : (atoms : List ClaimAtom) (destination : AccountId) (last : Asset) (amount : ℤ)
-    → length atoms ≤ most_in_paths → All IsTold atoms → IsId destination → IsNamed last
+    → length atoms ≤ most_in_paths → All IsReported atoms → IsId destination → IsNamed last
     → IsAnswer (sending.answer (sent_code.Success (arrived atoms destination last amount)))
 unfolding operation_result operation_result_tr path_payment_strict_send_result
-sent_arrived atoms destination last amount few told id named =
-    record { within = arrived_within atoms destination last amount few told id named }
+sent_arrived atoms destination last amount few reported id named =
+    record { within = arrived_within atoms destination last amount few reported id named }

@@ -1,51 +1,33 @@
 -- Payments along paths leave the bytes of entries, and what they answer keeps the bounds on lengths.
-use Rattle.std.proofs.Common.{◌≡◌, ℕ, ◌≤◌, ◌||◌, not, List, length, None, Result, Ok, Err, arith}
-use Rattle.std.specs.Prelude.{ℤ, pos, ◌≤ℤ◌, int_le}
-use Rattle.std.specs.List.{AllByRecursion}
-use Rattle.close_rules.specs.ledger_types.Ids.{account_of}
-use Rattle.close_rules.specs.ledger_types.declared.ids.AccountId.{AccountId}
-use Rattle.close_rules.specs.ledger_types.declared.ids.MuxedAccount.{MuxedAccount}
-use Rattle.close_rules.specs.ledger_types.declared.asset.Asset.{Asset}
+use Rattle.close_laws.proofs.Prelude.{◌≡◌, ℕ, ◌≤◌, ◌||◌, not, List, length, None, Result, Ok, Err, ℤ, pos, ◌≤ℤ◌, int_le}
+use Rattle.close_laws.proofs.Prelude.{AllByRecursion, account_of, AccountId, MuxedAccount, Asset, list, operation_body}
+use Rattle.close_laws.proofs.Prelude.{path_payment_strict_receive_op, path_payment_strict_send_op, EntryMap}
+use Rattle.close_laws.proofs.Prelude.{first_fault, Ctx, view, AreEntriesLegal, IsCrossable, map_after_credit}
+use Rattle.close_laws.proofs.Prelude.{map_after_debit, Attempt, PathFault, is_path_valid, Carried, set_out, received}
+use Rattle.close_laws.proofs.Prelude.{sent, IsEncoded, natural_at_most_trans, nonnegative_from_int_le, or_parts}
 use Rattle.close_rules.specs.op_types.declared.payment_ops.PathPaymentStrictReceiveOp.{PathPaymentStrictReceiveOp}
 use Rattle.close_rules.specs.op_types.declared.payment_ops.PathPaymentStrictSendOp.{PathPaymentStrictSendOp}
 use Rattle.close_rules.specs.op_types.declared.payment_results.PathPaymentStrictReceiveResult.TheVariants as got_code
 use Rattle.close_rules.specs.op_types.declared.payment_results.PathPaymentStrictSendResult.TheVariants as sent_code
 use Rattle.close_rules.specs.op_types.declared.operation.OperationBody.TheVariants as body
-use Rattle.close_rules.specs.xdr_core.Combinators.{list}
 use Rattle.close_rules.specs.xdr_entries.Basic as basic
-use Rattle.close_rules.specs.xdr_tx.Operations.{operation_body, path_payment_strict_receive_op}
-use Rattle.close_rules.specs.xdr_tx.Operations.{path_payment_strict_send_op}
-use Rattle.bucket_levels.specs.entry_map.EntryMap.{EntryMap}
-use Rattle.close_rules.specs.entry_slots.Tests.{first_fault}
-use Rattle.close_rules.specs.sponsor_rules.declared.context.Ctx.{Ctx}
-use Rattle.close_rules.specs.legal_rules.Legal.{view}
-use Rattle.close_rules.specs.legal_rules.Owing.{AreEntriesLegal}
-use Rattle.close_rules.proofs.legal_rules_proofs.Passed.{neither}
-use Rattle.close_rules.specs.trade_cross.Crossable.{IsCrossable}
 use Rattle.close_rules.proofs.trade_cross_proofs.Crossables.{crossable_of}
-use Rattle.close_rules.specs.op_form.Amounts.{map_after_credit, map_after_debit}
-use Rattle.close_rules.specs.op_form.Done.{Attempt}
-use Rattle.close_rules.specs.op_payment.declared.path_fault.PathFault.{PathFault}
-use Rattle.close_rules.specs.op_payment.PathPayment.{is_path_valid}
 use Rattle.close_rules.specs.op_payment.PathReceive as receiving
 use Rattle.close_rules.specs.op_payment.PathSend as sending
-use Rattle.close_rules.specs.op_payment.Paths.{Carried, set_out, received, sent}
 use Rattle.close_rules.proofs.op_payment_proofs.Amounts.{amount_given, amount_taken}
-use Rattle.close_rules.specs.State.{IsSpelled}
 use Rattle.close_laws.proofs.Bytes.{IsId, muxed_id}
 use Rattle.close_laws.proofs.BytesAmounts.{given_bytes, taken_bytes}
-use Rattle.close_laws.proofs.BytesDeposits.{some_taken}
-use Rattle.close_laws.proofs.BytesPaths.{IsNamed, AreWayBytes, WayIf, set_out_bytes, most_behind, most_before}
-use Rattle.close_laws.proofs.BytesPaths.{received_bytes, sent_bytes, most_in_paths, behind_path, before_path}
+use Rattle.close_laws.proofs.BytesPaths.{IsNamed, AreWayBytes, WayIf, set_out_bytes, most_after, most_before}
+use Rattle.close_laws.proofs.BytesPaths.{received_bytes, sent_bytes, most_in_paths, past_path, before_path}
 use Rattle.close_laws.proofs.BytesSteps.{AreWorkBytes}
 use Rattle.close_laws.proofs.PassedTests.{all_pass}
 use Rattle.close_laws.proofs.PathAnswers.{received_bare, received_credit, received_debit, received_path}
 use Rattle.close_laws.proofs.PathAnswers.{received_arrived, sent_bare, sent_credit, sent_debit, sent_path, sent_arrived}
-use Rattle.close_laws.proofs.TradeSteps.{IsTraded, refused, traded_behind, traded_after}
+use Rattle.close_laws.proofs.TradeSteps.{IsTraded, refused, traded_past, traded_after}
 
 -- ---- what is asked for
 
--- what a payment along a path names can be told
+-- what a payment along a path names can be written
 record IsPathNamed (first : Asset) (path : List Asset) (last : Asset) (destination : MuxedAccount) : Type 0 where
   from : IsNamed first
   between : AllByRecursion basic.asset.within path
@@ -53,30 +35,30 @@ record IsPathNamed (first : Asset) (path : List Asset) (last : Asset) (destinati
   to : IsNamed last
   id : IsId (account_of destination)
 
-received_named : (op : PathPaymentStrictReceiveOp) → IsSpelled operation_body (body.PathPaymentStrictReceive op)
+received_named : (op : PathPaymentStrictReceiveOp) → IsEncoded operation_body (body.PathPaymentStrictReceive op)
     → IsPathNamed op.send_asset op.path op.dest_asset op.destination
 unfolding operation_body path_payment_strict_receive_op list
-received_named op spelled =
-    let rest = spelled.within.1.1 in
+received_named op encoded =
+    let rest = encoded.within.1.1 in
     record {
-      from = spelled.within.0;
+      from = encoded.within.0;
       between = rest.1.1.1.1;
       few = rest.1.1.1.0;
       to = rest.1.0;
-      id = muxed_id op.destination (record { within = rest.0; sized = spelled.sized.1.1.0 });
+      id = muxed_id op.destination (record { within = rest.0; sized = encoded.sized.1.1.0 });
     }
 
-sent_named : (op : PathPaymentStrictSendOp) → IsSpelled operation_body (body.PathPaymentStrictSend op)
+sent_named : (op : PathPaymentStrictSendOp) → IsEncoded operation_body (body.PathPaymentStrictSend op)
     → IsPathNamed op.send_asset op.path op.dest_asset op.destination
 unfolding operation_body path_payment_strict_send_op list
-sent_named op spelled =
-    let rest = spelled.within.1.1 in
+sent_named op encoded =
+    let rest = encoded.within.1.1 in
     record {
-      from = spelled.within.0;
+      from = encoded.within.0;
       between = rest.1.1.1.1;
       few = rest.1.1.1.0;
       to = rest.1.0;
-      id = muxed_id op.destination (record { within = rest.0; sized = spelled.sized.1.1.0 });
+      id = muxed_id op.destination (record { within = rest.0; sized = encoded.sized.1.1.0 });
     }
 
 -- the amounts that tests bound from below
@@ -84,19 +66,16 @@ received_low : (op : PathPaymentStrictReceiveOp) → first_fault (receiving.aske
     → pos 0 ≤ℤ op.dest_amount
 received_low op none =
     let tests = (all_pass (receiving.asked_tests op) none).0 in
-    let amounts = neither (int_le op.send_max (pos 0) || int_le op.dest_amount (pos 0))
+    let amounts = or_parts (int_le op.send_max (pos 0) || int_le op.dest_amount (pos 0))
     (not (is_path_valid op.send_asset op.path op.dest_asset)) tests in
-    some_taken op.dest_amount (neither (int_le op.send_max (pos 0)) (int_le op.dest_amount (pos 0)) amounts.0).1
+    nonnegative_from_int_le op.dest_amount (or_parts (int_le op.send_max (pos 0)) (int_le op.dest_amount (pos 0)) amounts.0).1
 
 sent_low : (op : PathPaymentStrictSendOp) → first_fault (sending.asked_tests op) ≡ None → pos 0 ≤ℤ op.send_amount
 sent_low op none =
     let tests = (all_pass (sending.asked_tests op) none).0 in
-    let amounts = neither (int_le op.send_amount (pos 0) || int_le op.dest_min (pos 0))
+    let amounts = or_parts (int_le op.send_amount (pos 0) || int_le op.dest_min (pos 0))
     (not (is_path_valid op.send_asset op.path op.dest_asset)) tests in
-    some_taken op.send_amount (neither (int_le op.send_amount (pos 0)) (int_le op.dest_min (pos 0)) amounts.0).0
-
-at_most : (n most all : ℕ) → n ≤ most → most ≤ all → n ≤ all
-at_most n most all le more = omega arith
+    nonnegative_from_int_le op.send_amount (or_parts (int_le op.send_amount (pos 0)) (int_le op.dest_min (pos 0)) amounts.0).0
 
 -- ---- where paths go
 
@@ -121,11 +100,11 @@ received_then most (Ok carried) next way holds = holds carried way
 module _ (ctx : Ctx) (op : PathPaymentStrictReceiveOp) (m : EntryMap) (legal : AreEntriesLegal ctx.id_pool m)
     (named : IsPathNamed op.send_asset op.path op.dest_asset op.destination) (work : AreWorkBytes ctx m) where
   abbrev most_received : ℕ
-  most_received = most_behind 0 op.path
+  most_received = most_after 0 op.path
 
   then_given : (carried : Carried) → AreWayBytes most_received carried → IsTraded (receiving.given ctx op carried)
   then_given carried way =
-      traded_behind (receiving.cost_tests op carried.amount) _ (received_bare got_code.OverSendmax tt, tt)
+      traded_past (receiving.cost_tests op carried.amount) _ (received_bare got_code.OverSendmax tt, tt)
       (λ enough. traded_after
       (map_after_debit ctx ctx.op_source op.send_asset (pos carried.amount) carried.entries) receiving.debit_result
       (receiving.done ctx op carried)
@@ -134,8 +113,8 @@ module _ (ctx : Ctx) (op : PathPaymentStrictReceiveOp) (m : EntryMap) (legal : A
         leaves = record { gives = record { entries = each; sponsors = work.sponsors } };
         answers = record {
           ends = received_arrived carried.atoms (account_of op.destination) op.dest_asset op.dest_amount
-              (at_most (length carried.atoms) most_received most_in_paths way.few (behind_path op.path named.few))
-              way.told named.id named.to;
+              (natural_at_most_trans (length carried.atoms) most_received most_in_paths way.few (past_path op.path named.few))
+              way.reported named.id named.to;
         };
       }))
 
@@ -152,13 +131,13 @@ module _ (ctx : Ctx) (op : PathPaymentStrictReceiveOp) (m : EntryMap) (legal : A
       then_given)
 
 pub path_received : (ctx : Ctx) (op : PathPaymentStrictReceiveOp) (m : EntryMap) → AreEntriesLegal ctx.id_pool m
-    → IsSpelled operation_body (body.PathPaymentStrictReceive op) → AreWorkBytes ctx m
+    → IsEncoded operation_body (body.PathPaymentStrictReceive op) → AreWorkBytes ctx m
     → IsTraded (receiving.path_payment_strict_receive ctx op m)
-path_received ctx op m legal spelled work =
-    traded_behind (receiving.asked_tests op) _ (received_bare got_code.Malformed tt, tt)
-    (λ none. traded_behind (receiving.destination_tests op m) (receiving.taken_and_given ctx op m)
+path_received ctx op m legal encoded work =
+    traded_past (receiving.asked_tests op) _ (received_bare got_code.Malformed tt, tt)
+    (λ none. traded_past (receiving.destination_tests op m) (receiving.taken_and_given ctx op m)
     (received_bare got_code.NoDestination tt, tt)
-    (λ there. then_received ctx op m legal (received_named op spelled) work (received_low op none)))
+    (λ there. then_received ctx op m legal (received_named op encoded) work (received_low op none)))
 
 -- ---- PATH_PAYMENT_STRICT_SEND
 
@@ -175,7 +154,7 @@ module _ (ctx : Ctx) (op : PathPaymentStrictSendOp) (m : EntryMap) (legal : AreE
 
   then_taken : (carried : Carried) → AreWayBytes most_sent carried → IsTraded (sending.taken ctx op carried)
   then_taken carried way =
-      traded_behind (sending.least_tests op carried.amount) _ (sent_bare sent_code.UnderDestmin tt, tt)
+      traded_past (sending.least_tests op carried.amount) _ (sent_bare sent_code.UnderDestmin tt, tt)
       (λ enough. traded_after
       (map_after_credit (account_of op.destination) op.dest_asset (pos carried.amount) carried.entries)
       sending.credit_result (sending.done ctx op carried)
@@ -185,8 +164,8 @@ module _ (ctx : Ctx) (op : PathPaymentStrictSendOp) (m : EntryMap) (legal : AreE
         leaves = record { gives = record { entries = each; sponsors = work.sponsors } };
         answers = record {
           ends = sent_arrived carried.atoms (account_of op.destination) op.dest_asset (pos carried.amount)
-              (at_most (length carried.atoms) most_sent most_in_paths way.few (before_path op.path named.few))
-              way.told named.id named.to;
+              (natural_at_most_trans (length carried.atoms) most_sent most_in_paths way.few (before_path op.path named.few))
+              way.reported named.id named.to;
         };
       }))
 
@@ -202,10 +181,10 @@ module _ (ctx : Ctx) (op : PathPaymentStrictSendOp) (m : EntryMap) (legal : AreE
       then_taken)
 
 pub path_sent : (ctx : Ctx) (op : PathPaymentStrictSendOp) (m : EntryMap) → AreEntriesLegal ctx.id_pool m
-    → IsSpelled operation_body (body.PathPaymentStrictSend op) → AreWorkBytes ctx m
+    → IsEncoded operation_body (body.PathPaymentStrictSend op) → AreWorkBytes ctx m
     → IsTraded (sending.path_payment_strict_send ctx op m)
-path_sent ctx op m legal spelled work =
-    traded_behind (sending.asked_tests op) _ (sent_bare sent_code.Malformed tt, tt)
-    (λ none. traded_behind (sending.destination_tests op m) (sending.given_and_taken ctx op m)
+path_sent ctx op m legal encoded work =
+    traded_past (sending.asked_tests op) _ (sent_bare sent_code.Malformed tt, tt)
+    (λ none. traded_past (sending.destination_tests op m) (sending.given_and_taken ctx op m)
     (sent_bare sent_code.NoDestination tt, tt)
-    (λ there. then_sent ctx op m legal (sent_named op spelled) work (sent_low op none)))
+    (λ there. then_sent ctx op m legal (sent_named op encoded) work (sent_low op none)))

@@ -1,21 +1,13 @@
 -- What operations on pools answer keeps the bounds on lengths.
+use Rattle.close_laws.proofs.Prelude.{TrustLineEntry, LiquidityPoolEntry, LiquidityPoolDepositOp}
+use Rattle.close_laws.proofs.Prelude.{LiquidityPoolWithdrawOp, liquidity_pool_deposit_result}
+use Rattle.close_laws.proofs.Prelude.{liquidity_pool_withdraw_result, operation_result_tr, operation_result, EntryMap}
+use Rattle.close_laws.proofs.Prelude.{line_at, pool_at, Ctx, Deposit, part_of}
 use Rattle.close_rules.specs.ledger_types.declared.asset.TrustLineAsset.TheVariants as line
-use Rattle.close_rules.specs.ledger_types.declared.trust_line.TrustLineEntry.{TrustLineEntry}
-use Rattle.close_rules.specs.ledger_types.declared.liquidity_pool.LiquidityPoolEntry.{LiquidityPoolEntry}
-use Rattle.close_rules.specs.op_types.declared.pool_ops.LiquidityPoolDepositOp.{LiquidityPoolDepositOp}
-use Rattle.close_rules.specs.op_types.declared.pool_ops.LiquidityPoolWithdrawOp.{LiquidityPoolWithdrawOp}
 use Rattle.close_rules.specs.op_types.declared.pool_results.LiquidityPoolDepositResult.{LiquidityPoolDepositResult}
 use Rattle.close_rules.specs.op_types.declared.pool_results.LiquidityPoolDepositResult.TheVariants as deposit
 use Rattle.close_rules.specs.op_types.declared.pool_results.LiquidityPoolWithdrawResult.{LiquidityPoolWithdrawResult}
 use Rattle.close_rules.specs.op_types.declared.pool_results.LiquidityPoolWithdrawResult.TheVariants as withdraw
-use Rattle.close_rules.specs.xdr_results.Answers.{liquidity_pool_deposit_result, liquidity_pool_withdraw_result}
-use Rattle.close_rules.specs.xdr_results.Results.{operation_result_tr, operation_result}
-use Rattle.bucket_levels.specs.entry_map.EntryMap.{EntryMap}
-use Rattle.close_rules.specs.entry_slots.Lines.{line_at}
-use Rattle.close_rules.specs.entry_slots.Pools.{pool_at}
-use Rattle.close_rules.specs.sponsor_rules.declared.context.Ctx.{Ctx}
-use Rattle.close_rules.specs.pool_math.Pools.{Deposit}
-use Rattle.close_rules.specs.pool_shares.Withdrawing.{part_of}
 use Rattle.close_rules.specs.op_pool.Deposit as depositing
 use Rattle.close_rules.specs.op_pool.Withdraw as withdrawing
 use Rattle.close_laws.proofs.AnswerSteps.{IsAnswer, not_supported, Answers, IsDone, first_answers, some_answers}

@@ -1,24 +1,10 @@
 -- What ends a revocation of pool shares keeps the bounds on lengths.
-use Rattle.std.proofs.Common.{List, [], ◌∷◌, ℕ, zero, suc, Bool, true, false, if◌then◌else◌, Option, Some, None, Result}
-use Rattle.std.specs.Prelude.{is_some}
-use Rattle.close_rules.specs.ledger_types.declared.ids.AccountId.{AccountId}
-use Rattle.close_rules.specs.ledger_types.declared.ids.Hash.{Hash}
-use Rattle.close_rules.specs.ledger_types.declared.asset.Asset.{Asset}
+use Rattle.close_laws.proofs.Prelude.{List, [], ◌∷◌, ℕ, zero, suc, Bool, true, false, if◌then◌else◌, Option, Some, None}
+use Rattle.close_laws.proofs.Prelude.{Result, is_some, AccountId, Hash, Asset, TrustLineEntry, LiquidityPoolEntry}
+use Rattle.close_laws.proofs.Prelude.{OperationResult, NotSupported, EntryMap, balance_at, line_at, pool_at, Ctx}
+use Rattle.close_laws.proofs.Prelude.{map_after_adding, is_issued_by, part_of, Revoked, Given, given_of}
 use Rattle.close_rules.specs.ledger_types.declared.asset.TrustLineAsset.TheVariants as line
-use Rattle.close_rules.specs.ledger_types.declared.trust_line.TrustLineEntry.{TrustLineEntry}
-use Rattle.close_rules.specs.ledger_types.declared.liquidity_pool.LiquidityPoolEntry.{LiquidityPoolEntry}
-use Rattle.close_rules.specs.op_types.declared.operation_result.OperationResult.{OperationResult}
-use Rattle.close_rules.specs.op_types.declared.operation_result.OperationResult.TheVariants.{NotSupported}
-use Rattle.bucket_levels.specs.entry_map.EntryMap.{EntryMap}
-use Rattle.close_rules.specs.entry_slots.Balances.{balance_at}
-use Rattle.close_rules.specs.entry_slots.Lines.{line_at}
-use Rattle.close_rules.specs.entry_slots.Pools.{pool_at}
-use Rattle.close_rules.specs.sponsor_rules.declared.context.Ctx.{Ctx}
-use Rattle.close_rules.specs.sponsor_rules.Adding.{map_after_adding}
-use Rattle.close_rules.specs.op_form.Assets.{is_issued_by}
-use Rattle.close_rules.specs.pool_shares.Withdrawing.{part_of}
 use Rattle.close_rules.specs.op_flags.RevokedShares as revoking
-use Rattle.close_rules.specs.op_flags.RevokedShares.{Revoked, Given, given_of}
 use Rattle.close_laws.proofs.AnswerSteps.{IsAnswer, not_supported, Answers, Any, first_answers, charge_answers}
 use Rattle.close_laws.proofs.AnswerSteps.{step_answers}
 

@@ -1,66 +1,36 @@
 -- The results of sets keep the bounds on lengths.
-use Rattle.std.proofs.Common.{◌≡◌, ℕ, suc, ◌+◌, ◌≤◌, refl, ℤ, List, [], ◌∷◌, length, All}
-use Rattle.std.proofs.Common.{Option, Some, None, Bool, true, false, if◌then◌else◌, not, nat_eq, arith}
-use Rattle.std.proofs.Common.{◌&&◌}
-use Rattle.std.proofs.lemmas.List.Elements.{All-nil, All-cons, All-head, All-tail}
-use Rattle.std.specs.List.{AllByRecursion, list_all}
-use Rattle.close_rules.specs.ledger_types.declared.ids.AccountId.{AccountId}
-use Rattle.close_rules.specs.ledger_types.declared.ids.Hash.{Hash}
-use Rattle.close_rules.specs.ledger_types.declared.account.AccountEntry.{AccountEntry}
-use Rattle.close_rules.specs.op_types.declared.operation.Operation.{Operation}
-use Rattle.close_rules.specs.op_types.declared.operation.OperationBody.{OperationBody}
+use Rattle.close_laws.proofs.Prelude as prelude
+use prelude.{◌≡◌, ℕ, suc, ◌+◌, ◌≤◌, refl, List, [], ◌∷◌, length, All, Option, Some, None, Bool, true, false}
+use prelude.{if◌then◌else◌, not, nat_eq, arith, ◌&&◌, All-nil, All-cons, All-head, All-tail, AllByRecursion, list_all}
+use prelude.{AccountId, Hash, AccountEntry, Operation, OperationBody, OperationResult, Transaction, FeeBumpTransaction}
+use prelude.{TransactionEnvelope, TransactionOutcome, i64, fixed, constant, list, list_of, hash, account_id}
+use prelude.{claimable_balance_id, asset, operation_result_tr, operation_result, inner_transaction_outcome}
+use prelude.{inner_transaction_result, inner_transaction_result_pair, transaction_outcome, transaction_result}
+use prelude.{transaction_result_pair, transaction_result_set, EntryMap, account_at, Tests, first_fault, Ctx}
+use prelude.{map_after_removing_preauth, HeldSignature, apply_order_of, Low, AllLawful, TransactionLaws, LegalSettles}
+use prelude.{signed_hash_of, transaction_hash_of, operations_of, inserted, done_by, done_at, Ran, run, Setting, ctx_in}
+use prelude.{all_held, envelope_applied, result_pair, all_applied, envelopes_in_order, fees_taken_of, Auth, Auths}
+use prelude.{source_of, auth_of, auths_of, auth_result, auth_results, are_used, all_at, setting_in}
+use Rattle.std.proofs.Common.{ℤ}
 use Rattle.close_rules.specs.op_types.declared.operation.OperationBody.TheVariants as body
-use Rattle.close_rules.specs.op_types.declared.operation_result.OperationResult.{OperationResult}
-use Rattle.close_rules.specs.op_types.declared.transaction.Transaction.{Transaction}
-use Rattle.close_rules.specs.op_types.declared.transaction.FeeBumpTransaction.{FeeBumpTransaction}
-use Rattle.close_rules.specs.op_types.declared.transaction.TransactionEnvelope.{TransactionEnvelope}
 use Rattle.close_rules.specs.op_types.declared.transaction.TransactionEnvelope.TheVariants as envelope
-use Rattle.close_rules.specs.op_types.declared.transaction_result.TransactionOutcome.{TransactionOutcome}
 use Rattle.close_rules.specs.op_types.declared.transaction_result.TransactionOutcome.TheVariants as outcome
 use Rattle.close_rules.specs.op_types.declared.transaction_result.TransactionResultPair.{TransactionResultPair}
-use Rattle.close_rules.specs.xdr_core.Leaves.{i64, fixed}
-use Rattle.close_rules.specs.xdr_core.Combinators.{constant, list}
-use Rattle.close_rules.specs.xdr_core.Xdr.{list_of}
-use Rattle.close_rules.specs.xdr_entries.Basic.{hash, account_id, claimable_balance_id, asset}
 use Rattle.close_rules.specs.xdr_results.Answers as answer
-use Rattle.close_rules.specs.xdr_results.Results.{operation_result_tr, operation_result, inner_transaction_outcome}
-use Rattle.close_rules.specs.xdr_results.Results.{inner_transaction_result, inner_transaction_result_pair}
-use Rattle.close_rules.specs.xdr_results.Results.{transaction_outcome}
-use Rattle.close_rules.specs.xdr_results.Results.{transaction_result, transaction_result_pair, transaction_result_set}
-use Rattle.bucket_levels.specs.entry_map.EntryMap.{EntryMap}
-use Rattle.close_rules.specs.entry_slots.Accounts.{account_at}
-use Rattle.close_rules.specs.entry_slots.Tests.{Tests, first_fault}
-use Rattle.close_rules.specs.sponsor_rules.declared.context.Ctx.{Ctx}
-use Rattle.close_rules.specs.sponsor_rules.Signers.{map_after_removing_preauth}
-use Rattle.close_rules.specs.signer_check.declared.held.HeldSignature.{HeldSignature}
-use Rattle.close_rules.specs.fee_rules.Turns.{apply_order_of}
-use Rattle.close_rules.specs.op_form.declared.levels.ThresholdLevel.TheVariants.{Low}
 use Rattle.close_rules.specs.op_form.DefaultResults.{default_result}
-use Rattle.close_rules.specs.op_laws.Laws.{AllLawful}
-use Rattle.close_rules.specs.op_laws.Steps.{TransactionLaws, LegalSettles}
-use Rattle.close_rules.specs.value_hashes.Hashes.{signed_hash_of, transaction_hash_of}
-use Rattle.close_rules.specs.tx_apply.Operations.{operations_of}
 use Rattle.close_rules.specs.tx_apply.Checks as checks
 use Rattle.close_rules.specs.tx_apply.FeeBump as bump
 use Rattle.close_rules.specs.op_types.InnerOutcome.{inner_outcome}
 use Rattle.close_rules.specs.tx_apply.InnerResult.{inner_pair, bump_outcome}
-use Rattle.close_rules.specs.tx_apply.Running.{placed, done_by, done_at, Ran, run}
-use Rattle.close_rules.specs.tx_apply.Set.{Setting, ctx_in, all_held, envelope_applied, result_pair, all_applied}
-use Rattle.close_rules.specs.tx_apply.Set.{envelopes_in_order}
-use Rattle.close_rules.specs.tx_apply.Set.{fees_taken_of}
-use Rattle.close_rules.specs.tx_apply.Signing.{Auth, Auths, source_of, auth_of, auths_of, auth_result, auth_results}
-use Rattle.close_rules.specs.tx_apply.Signing.{are_used}
 use Rattle.close_rules.specs.tx_apply.Transaction as spec
-use Rattle.close_rules.proofs.tx_apply_proofs.Conserving.{all_at}
-use Rattle.close_rules.specs.Close.{setting_in}
-use Rattle.close_laws.specs.Results.{ResultsAreSpelled}
-use Rattle.close_laws.proofs.SpelledSets.{set_spelled, envelopes_few, body_spelled}
+use Rattle.close_laws.specs.Results.{ResultsAreEncoded}
+use Rattle.close_laws.proofs.EncodedSets.{set_encoded, envelopes_few, body_encoded}
 use Rattle.close_laws.proofs.FewDrawn.{HasFew, set_few, envelopes_len}
 use Rattle.close_laws.proofs.Digests.{hash_len}
 use Rattle.close_laws.proofs.AnswerSteps.{IsAnswer, no_account, bad_auth}
 use Rattle.close_laws.proofs.OperationAnswers.{any_answers}
-use Rattle.close_laws.proofs.BytesSets.{AreRunning, here_spelled, here_id, here_work, here_can, rest_running, IsBegun}
-use Rattle.close_laws.proofs.BytesSets.{begun_running, begun_behind, MayApply, begun_v1, begun_bump, MayApplyAll}
+use Rattle.close_laws.proofs.BytesSets.{AreRunning, here_encoded, here_id, here_work, here_can, rest_running, IsBegun}
+use Rattle.close_laws.proofs.BytesSets.{begun_running, begun_after, MayApply, begun_v1, begun_bump, MayApplyAll}
 use Rattle.close_laws.proofs.BytesSets.{may_first, may_others, set_begun}
 use Rattle.close_laws.proofs.NextEntries.{map_bytes}
 use Rattle.close_laws.proofs.NextLegal.{can_close}
@@ -135,27 +105,27 @@ auth_answers (passes ∷ more) (of ∷ operations) =
     by true = defaults of.body
     by false = bad_auth
 
-run_answers : AllLawful → (ctx : Ctx) (source : AccountId) (place : ℕ) (operations : List Operation) (m : EntryMap)
+run_answers : AllLawful → (ctx : Ctx) (source : AccountId) (index : ℕ) (operations : List Operation) (m : EntryMap)
     → AreRunning ctx source operations m
-    → AreAnswers (length operations) (run ctx source place operations m).results
+    → AreAnswers (length operations) (run ctx source index operations m).results
 unfolding run
-run_answers all ctx source place [] m running = no_answers 0
-run_answers all ctx source place (of ∷ operations) m running =
-    let first = done_at ctx source place of m in
-    one_answer (length operations) first.result (run first.ctx source (place + 1) operations first.entries).results
+run_answers all ctx source index [] m running = no_answers 0
+run_answers all ctx source index (of ∷ operations) m running =
+    let first = done_at ctx source index of m in
+    one_answer (length operations) first.result (run first.ctx source (index + 1) operations first.entries).results
     (by (account_at m (source_of source of)) refl)
-    (run_answers all first.ctx source (place + 1) operations first.entries
-    (rest_running ctx source place of operations m running all))
+    (run_answers all first.ctx source (index + 1) operations first.entries
+    (rest_running ctx source index of operations m running all))
   where
     by : (found : Option AccountEntry) → account_at m (source_of source of) ≡ found
-        → IsAnswer (done_by (placed ctx place (source_of source of)) of m found).result
+        → IsAnswer (done_by (inserted ctx index (source_of source of)) of m found).result
     by None at = no_account
     by (Some account) at =
-        any_answers (placed ctx place (source_of source of)) of.body m
-        (here_can ctx source place of operations m running account at)
-        (here_id ctx source place of operations m running)
-        (body_spelled of (here_spelled ctx source place of operations m running))
-        (here_work ctx source place of operations m running)
+        any_answers (inserted ctx index (source_of source of)) of.body m
+        (here_can ctx source index of operations m running account at)
+        (here_id ctx source index of operations m running)
+        (body_encoded of (here_encoded ctx source index of operations m running))
+        (here_work ctx source index of operations m running)
 
 -- ---- outcomes of transactions
 
@@ -287,7 +257,7 @@ auths_plain operations auths few =
     (fewer (length operations) 100 _ few (auth_answers auths.passes operations)))
 
 late_plain : (pays : Bool) (ctx : Ctx) (hash : Hash) (tx : Transaction) (m : EntryMap) (auth : Auth)
-    → length tx.operations ≤ 100 → MaybePlain (checks.outcome_behind_auth pays ctx hash tx m auth)
+    → length tx.operations ≤ 100 → MaybePlain (checks.outcome_after_auth pays ctx hash tx m auth)
 late_plain pays ctx hash tx m auth few =
     either_plain (not auth.passes) (Some outcome.BadAuth) _ no_auth
     (either_plain (pays && checks.is_poor ctx (account_at m (checks.source_account tx)))
@@ -360,9 +330,9 @@ either_outcome false x y here there = there
 
 module _ (laws : TransactionLaws) (base_fee : ℕ) (ctx : Ctx) (signed : bump.BumpSigned) (tx : FeeBumpTransaction)
     (len : hash.within signed.inner_hash) (few : length tx.inner_tx.tx.operations ≤ 100) where
-  behind_auth : (after : List HeldSignature) (m : EntryMap) → IsBegun ctx tx.inner_tx.tx m
-      → IsOutcome (bump.applied_behind_auth base_fee ctx signed tx after m).outcome
-  behind_auth after m begun =
+  past_auth : (after : List HeldSignature) (m : EntryMap) → IsBegun ctx tx.inner_tx.tx m
+      → IsOutcome (bump.applied_after_auth base_fee ctx signed tx after m).outcome
+  past_auth after m begun =
       either_outcome (checks.is_poor ctx (account_at m (bump.payer_of tx)))
       (spec.ended outcome.InsufficientBalance ctx m)
       (if are_used after then bump.inner_applied base_fee ctx signed tx m else spec.ended outcome.BadAuthExtra ctx m)
@@ -377,10 +347,10 @@ module _ (laws : TransactionLaws) (base_fee : ℕ) (ctx : Ctx) (signed : bump.Bu
       → IsOutcome (bump.applied_by_auth base_fee ctx signed tx m auth).outcome
   by_auth m auth begun =
       either_outcome (not auth.passes) (spec.ended outcome.BadAuth ctx m)
-      (bump.applied_behind_auth base_fee ctx signed tx auth.signatures
+      (bump.applied_after_auth base_fee ctx signed tx auth.signatures
       (map_after_removing_preauth (bump.payer_of tx) signed.hash m)) (plain_outcome outcome.BadAuth no_auth)
-      (behind_auth auth.signatures (map_after_removing_preauth (bump.payer_of tx) signed.hash m)
-      (begun_behind laws ctx tx.inner_tx.tx (bump.payer_of tx) signed.hash m begun))
+      (past_auth auth.signatures (map_after_removing_preauth (bump.payer_of tx) signed.hash m)
+      (begun_after laws ctx tx.inner_tx.tx (bump.payer_of tx) signed.hash m begun))
 
   by_fault : (m : EntryMap) (fault : Option TransactionOutcome) → MaybePlain fault → IsBegun ctx tx.inner_tx.tx m
       → IsOutcome (bump.applied_by_fault base_fee ctx signed tx m fault).outcome
@@ -396,9 +366,9 @@ module _ (laws : TransactionLaws) (base_fee : ℕ) (ctx : Ctx) (signed : bump.Bu
 
 -- ---- envelopes
 
-envelope_answers : TransactionLaws → (setting : Setting) (id_pool : ℕ) (whole : TransactionEnvelope) (m : EntryMap)
-    → length (operations_of whole) ≤ 100 → MayApply setting id_pool whole m
-    → IsOutcome (envelope_applied setting id_pool whole m).outcome
+envelope_answers : TransactionLaws → (setting : Setting) (id_pool : ℕ) (entire : TransactionEnvelope) (m : EntryMap)
+    → length (operations_of entire) ≤ 100 → MayApply setting id_pool entire m
+    → IsOutcome (envelope_applied setting id_pool entire m).outcome
 unfolding envelope_applied
 envelope_answers laws setting id_pool (envelope.V0 signed) m few may = plain_outcome outcome.NotSupported not_supported
 envelope_answers laws setting id_pool (envelope.V1 signed) m few may =
@@ -411,16 +381,16 @@ envelope_answers laws setting id_pool (envelope.FeeBump signed) m few may =
     (transaction_hash_of setting.network signed.tx.inner_tx.tx) (all_held signed.tx.inner_tx.signatures)) signed.tx
     (hash_len _) few m (begun_bump setting id_pool signed m may)
 
-signed_hash_len : (network : Hash) (whole : TransactionEnvelope) → hash.within (signed_hash_of network whole)
+signed_hash_len : (network : Hash) (entire : TransactionEnvelope) → hash.within (signed_hash_of network entire)
 signed_hash_len network (envelope.V0 signed) = hash_len _
 signed_hash_len network (envelope.V1 signed) = hash_len _
 signed_hash_len network (envelope.FeeBump signed) = hash_len _
 
-result_within : (setting : Setting) (whole : TransactionEnvelope) (fee : ℤ) (end : TransactionOutcome) → IsOutcome end
-    → transaction_result_pair.within (result_pair setting whole fee end)
+result_within : (setting : Setting) (entire : TransactionEnvelope) (fee : ℤ) (end : TransactionOutcome) → IsOutcome end
+    → transaction_result_pair.within (result_pair setting entire fee end)
 unfolding transaction_result_pair transaction_result i64 constant
-result_within setting whole fee end within =
-    (signed_hash_len setting.network whole, (tt, (within.within, tt)))
+result_within setting entire fee end within =
+    (signed_hash_len setting.network entire, (tt, (within.within, tt)))
 
 -- results that can be written, no more than there are envelopes
 record AreResults (most : ℕ) (results : List TransactionResultPair) : Type 0 where
@@ -432,17 +402,17 @@ all_results : TransactionLaws → (setting : Setting) (id_pool : ℕ) (envelopes
     → AreResults (length envelopes) (all_applied setting id_pool envelopes fees m).results
 unfolding all_applied
 all_results laws setting id_pool [] fees m few may = record { few = omega arith; all = tt }
-all_results laws setting id_pool (whole ∷ others) [] m few may = record { few = omega arith; all = tt }
-all_results laws setting id_pool (whole ∷ others) (fee ∷ fees) m few may =
-    let first = envelope_applied setting id_pool whole m in
-    let rest = all_results laws setting first.id_pool others fees first.entries (All-tail HasFew whole others few)
-    (may_others setting id_pool whole others m may laws) in
+all_results laws setting id_pool (entire ∷ others) [] m few may = record { few = omega arith; all = tt }
+all_results laws setting id_pool (entire ∷ others) (fee ∷ fees) m few may =
+    let first = envelope_applied setting id_pool entire m in
+    let rest = all_results laws setting first.id_pool others fees first.entries (All-tail HasFew entire others few)
+    (may_others setting id_pool entire others m may laws) in
     record {
       few = one_more rest.few;
       all = (
-        result_within setting whole fee first.outcome
-            (envelope_answers laws setting id_pool whole m (All-head HasFew whole others few)
-            (may_first setting id_pool whole others m may)),
+        result_within setting entire fee first.outcome
+            (envelope_answers laws setting id_pool entire m (All-head HasFew entire others few)
+            (may_first setting id_pool entire others m may)),
         rest.all,
       );
     }
@@ -452,18 +422,18 @@ all_results laws setting id_pool (whole ∷ others) (fee ∷ fees) m few may =
 
 -- ---- sets
 
-pub results_are_spelled : TransactionLaws → LegalSettles → ResultsAreSpelled
+pub results_are_encoded : TransactionLaws → LegalSettles → ResultsAreEncoded
 unfolding transaction_result_set list
-results_are_spelled laws settles s closing can =
+results_are_encoded laws settles s closing can =
     let set = closing.tx_set in
-    let spelled = set_spelled closing can.spelled in
-    let begun = set_begun laws settles (setting_in s closing) set s.entries (can_close s closing can) spelled can.few
+    let encoded = set_encoded closing can.encoded in
+    let begun = set_begun laws settles (setting_in s closing) set s.entries (can_close s closing can) encoded can.few
     (map_bytes s.entries can.state.entries) in
     let results = all_results laws (setting_in s closing) s.header.id_pool (envelopes_in_order set)
     (fees_taken_of (setting_in s closing) set s.entries).fees
     (fees_taken_of (setting_in s closing) set s.entries).entries
-    (all_at HasFew set.txs (apply_order_of set) (set_few set spelled)) begun in
-    (few_enough results.few (envelopes_len set) (envelopes_few set spelled), results.all)
+    (all_at HasFew set.txs (apply_order_of set) (set_few set encoded)) begun in
+    (few_enough results.few (envelopes_len set) (envelopes_few set encoded), results.all)
   where
     few_enough : {a b c : ℕ} → a ≤ b → b ≤ c → c ≤ 4294967295 → a ≤ 4294967295
     few_enough first second last = omega arith

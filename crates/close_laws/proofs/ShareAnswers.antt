@@ -1,27 +1,16 @@
 -- What CHANGE_TRUST for shares of a pool answers keeps the bounds on lengths.
-use Rattle.std.proofs.Common.{[], ◌∷◌, ◌+◌, Option, Some, None, ℤ, pos, not}
-use Rattle.std.specs.Ordering.{int_eq}
-use Rattle.close_rules.specs.ledger_types.declared.asset.PoolParams.{PoolParams}
+use Rattle.close_laws.proofs.Prelude.{[], ◌∷◌, ◌+◌, Option, Some, None, not, int_eq, PoolParams, TrustLineEntry}
+use Rattle.close_laws.proofs.Prelude.{LedgerKey, change_trust_result, operation_result_tr, operation_result, EntryMap}
+use Rattle.close_laws.proofs.Prelude.{line_at, use_count, Ctx, map_after_adding, needed_line, share_line, map_with_pool}
+use Rattle.close_laws.proofs.Prelude.{pool_named_by}
+use Rattle.std.proofs.Common.{ℤ, pos}
 use Rattle.close_rules.specs.ledger_types.declared.asset.TrustLineAsset.TheVariants as line
-use Rattle.close_rules.specs.ledger_types.declared.trust_line.TrustLineEntry.{TrustLineEntry}
-use Rattle.close_rules.specs.ledger_types.declared.key.LedgerKey.{LedgerKey}
 use Rattle.close_rules.specs.ledger_types.declared.key.LedgerKey.TheVariants as key
 use Rattle.close_rules.specs.op_types.declared.operation_result.OperationResult.TheVariants as operation
 use Rattle.close_rules.specs.op_types.declared.trust_results.ChangeTrustResult.{ChangeTrustResult}
 use Rattle.close_rules.specs.op_types.declared.trust_results.ChangeTrustResult.TheVariants as trust
-use Rattle.close_rules.specs.xdr_results.Answers.{change_trust_result}
-use Rattle.close_rules.specs.xdr_results.Results.{operation_result_tr, operation_result}
-use Rattle.bucket_levels.specs.entry_map.EntryMap.{EntryMap}
-use Rattle.close_rules.specs.entry_slots.Lines.{line_at}
-use Rattle.close_rules.specs.entry_slots.LineExtensions.{use_count}
-use Rattle.close_rules.specs.sponsor_rules.declared.context.Ctx.{Ctx}
-use Rattle.close_rules.specs.sponsor_rules.Adding.{map_after_adding}
-use Rattle.close_rules.specs.legal_rules.PoolShares.{needed_line}
-use Rattle.close_rules.specs.legal_rules.ShareLaws.{share_line}
-use Rattle.close_rules.specs.pool_shares.ShareLines.{map_with_pool}
 use Rattle.close_rules.specs.op_trust.ChangeTrust as trusting
 use Rattle.close_rules.specs.op_trust.ShareTrust as sharing
-use Rattle.close_rules.specs.op_trust.ShareTrust.{pool_named_by}
 use Rattle.close_laws.proofs.AnswerSteps.{IsAnswer, not_supported, Answers, IsDone, AllAnswer, first_answers}
 use Rattle.close_laws.proofs.AnswerSteps.{charge_answers, either_answers}
 

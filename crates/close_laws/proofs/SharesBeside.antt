@@ -1,46 +1,17 @@
 -- What leaves pools, and lines of their shares, as they are.
-use Rattle.std.proofs.Common.{◌≡◌, ◌≢◌, refl, subst, ◌∙◌, ℕ, Bool, true, false, if◌then◌else◌, List, [], ◌∷◌}
-use Rattle.std.proofs.Common.{Option, Some, None}
-use Rattle.std.specs.Prelude.{ℤ, pos, neg_ℤ}
-use Rattle.std.specs.List.{filter}
-use Rattle.std.specs.FinMap.{get}
-use Rattle.close_rules.specs.ledger_types.declared.ids.AccountId.{AccountId}
-use Rattle.close_rules.specs.ledger_types.declared.account.AccountEntry.{AccountEntry}
-use Rattle.close_rules.specs.ledger_types.declared.asset.Asset.{Asset}
+use Rattle.close_laws.proofs.Prelude as prelude
+use prelude.{◌≡◌, ◌≢◌, refl, subst, ◌∙◌, ℕ, Bool, true, false, if◌then◌else◌, List, [], ◌∷◌, Option, Some, None, ℤ, pos}
+use prelude.{neg_ℤ, filter, get, AccountId, AccountEntry, Asset, TrustLineAsset, TrustLineEntry, OfferEntry}
+use prelude.{LedgerEntry, LedgerKey, key_of, EntryMap, put, with_account, with_line, Sponsoring, with_more}
+use prelude.{is_same_account, map_after_charging, map_after_removing, with_count_core, offers_by, bound_account}
+use prelude.{bound_line, binding, releasing, IsKeyed, bound_of, with_uses, map_with_uses_at, map_with_uses, holder}
+use prelude.{map_after_cancelling, offer_key, IsNoAccount, account_beside, account_keyed, line_beside, line_keyed}
+use prelude.{removing_beside, removing_keyed, line_asset_of, with_flags, map_after_revoking, map_after_flagging}
+use prelude.{trades_in, map_after_cancelling_all, map_without_offers, put_elsewhere}
 use Rattle.close_rules.specs.ledger_types.declared.asset.Asset.TheVariants as asset
-use Rattle.close_rules.specs.ledger_types.declared.asset.TrustLineAsset.{TrustLineAsset}
 use Rattle.close_rules.specs.ledger_types.declared.asset.TrustLineAsset.TheVariants as line
-use Rattle.close_rules.specs.ledger_types.declared.trust_line.TrustLineEntry.{TrustLineEntry}
-use Rattle.close_rules.specs.ledger_types.declared.offer.OfferEntry.{OfferEntry}
-use Rattle.close_rules.specs.ledger_types.declared.entry.LedgerEntry.{LedgerEntry}
-use Rattle.close_rules.specs.ledger_types.declared.key.LedgerKey.{LedgerKey}
 use Rattle.close_rules.specs.ledger_types.declared.key.LedgerKey.TheVariants as key
-use Rattle.close_rules.specs.ledger_types.Keys.{key_of}
-use Rattle.bucket_levels.specs.entry_map.EntryMap.{EntryMap, put}
-use Rattle.close_rules.specs.entry_slots.Accounts.{with_account}
-use Rattle.close_rules.specs.entry_slots.Lines.{with_line}
-use Rattle.close_rules.proofs.entry_sums_proofs.Lookups.{put_elsewhere}
-use Rattle.close_rules.specs.sponsor_rules.declared.count.Count.TheVariants.{Sponsoring}
-use Rattle.close_rules.specs.sponsor_rules.Counting.{with_more}
-use Rattle.close_rules.specs.sponsor_rules.Payers.{is_same_account}
-use Rattle.close_rules.specs.sponsor_rules.Paying.{map_after_charging}
-use Rattle.close_rules.specs.sponsor_rules.Removing.{map_after_removing}
-use Rattle.close_rules.proofs.sponsor_rules_proofs.Keeping.{with_count_means}
-use Rattle.close_rules.specs.offer_book.Book.{offers_by}
-use Rattle.close_rules.specs.legal_rules.Binding.{bound_account, bound_line, binding, releasing}
-use Rattle.close_rules.specs.legal_rules.Holdings.{IsKeyed}
-use Rattle.close_rules.specs.legal_rules.OfferLiabilities.{bound_of}
-use Rattle.close_rules.specs.legal_rules.ShareLaws.{with_uses, map_with_uses_at, map_with_uses}
-use Rattle.close_rules.specs.legal_rules.Trades.{holder}
 use Rattle.close_rules.proofs.legal_rules_proofs.Leaving.{keyed_put}
-use Rattle.close_rules.specs.trade_cross.Cancelling.{map_after_cancelling}
-use Rattle.close_rules.specs.trade_cross.Crossing.{offer_key}
-use Rattle.close_rules.proofs.pool_shares_proofs.Beside.{IsNoAccount, account_beside, account_keyed, line_beside}
-use Rattle.close_rules.proofs.pool_shares_proofs.Beside.{line_keyed}
-use Rattle.close_rules.proofs.pool_shares_proofs.Beside.{removing_beside, removing_keyed}
-use Rattle.close_rules.specs.op_form.Assets.{line_asset_of}
-use Rattle.close_rules.specs.op_flags.LineFlags.{with_flags, map_after_revoking, map_after_flagging}
-use Rattle.close_rules.specs.op_flags.Revoking.{trades_in, map_after_cancelling_all, map_without_offers}
 
 -- the keys of pools and of lines of their shares
 abbrev pub IsOfPools : LedgerKey → Type 0
@@ -48,7 +19,7 @@ IsOfPools (key.LiquidityPool pool) = Unit {0}
 IsOfPools (key.TrustLine id (line.PoolShare pool)) = Unit {0}
 IsOfPools other = ⊥
 
--- pools and lines of their shares stand as they did
+-- pools and lines of their shares stay as they were
 pub record KeepsPools (m n : EntryMap) : Type 0 where
   pub keyed : IsKeyed n
   pub same : (q : LedgerKey) → IsOfPools q → get n q ≡ get m q
@@ -95,7 +66,7 @@ pub charging_keeps : (k : ℕ) (payer : Option AccountId) (m : EntryMap) → IsK
     → KeepsPools m (map_after_charging k payer m)
 charging_keeps k None m keyed = keeps_itself m keyed
 charging_keeps k (Some payer) m keyed =
-    account_keeps m payer (with_more Sponsoring k) (λ a. (with_count_means Sponsoring _ a).id) keyed
+    account_keeps m payer (with_more Sponsoring k) (λ a. (with_count_core Sponsoring _ a).id) keyed
 
 pub putting_keeps : (m : EntryMap) (e : LedgerEntry) → (IsOfPools (key_of e) → ⊥) → IsKeyed m
     → KeepsPools m (put m e)

@@ -1,39 +1,16 @@
 -- Shares that an account gives back to a pool, and what stays of other pools.
-use Rattle.std.proofs.Common.{◌≡◌, ◌≢◌, refl, sym, ap, ◌∙◌, ℕ, Bool, true, false}
-use Rattle.std.proofs.Common.{if◌then◌else◌, ◌⊎◌, inl, inr, Option, Some, None}
-use Rattle.std.specs.Prelude.{ℤ, pos, neg_ℤ, ◌≤ℤ◌}
-use Rattle.std.specs.Ordering.{eq_by_cmp}
-use Rattle.std.specs.FinMap.{get}
-use Rattle.close_rules.specs.ledger_types.declared.ids.AccountId.{AccountId}
-use Rattle.close_rules.specs.ledger_types.declared.ids.Hash.{Hash}
+use Rattle.close_laws.proofs.Prelude as prelude
+use prelude.{◌≡◌, ◌≢◌, refl, sym, ap, ◌∙◌, ℕ, Bool, true, false, if◌then◌else◌, ◌⊎◌, inl, inr, Option, Some, None, ℤ}
+use prelude.{pos, neg_ℤ, ◌≤ℤ◌, eq_by_cmp, get, AccountId, Hash, TrustLineEntry, LiquidityPoolEntry, LedgerEntry}
+use prelude.{LedgerKey, key_cmp, key_of, EntryMap, erase, same_itself, sponsor_of, line_of, line_at, pool_at, with_pool}
+use prelude.{erase_each, charge_of, map_without_charge, map_after_removing_entry, map_after_removing, IsKeyed, view}
+use prelude.{AreEntriesLegal, nothing_owed, with_lines, map_with_uses, paying, has_no_line, Part, with_change}
+use prelude.{share_key, map_after_withdrawing, paying_beside, paying_keyed, pool_beside, pool_keyed, removing_beside}
+use prelude.{removing_keyed, erase_elsewhere, erase_there, same_keys}
 use Rattle.close_rules.specs.ledger_types.declared.asset.TrustLineAsset.TheVariants as line
-use Rattle.close_rules.specs.ledger_types.declared.trust_line.TrustLineEntry.{TrustLineEntry}
-use Rattle.close_rules.specs.ledger_types.declared.liquidity_pool.LiquidityPoolEntry.{LiquidityPoolEntry}
-use Rattle.close_rules.specs.ledger_types.declared.entry.LedgerEntry.{LedgerEntry}
-use Rattle.close_rules.specs.ledger_types.declared.key.LedgerKey.{LedgerKey}
 use Rattle.close_rules.specs.ledger_types.declared.key.LedgerKey.TheVariants as key
-use Rattle.close_rules.specs.ledger_types.KeyOrder.{key_cmp}
-use Rattle.close_rules.specs.ledger_types.Keys.{key_of}
-use Rattle.bucket_levels.specs.entry_map.EntryMap.{EntryMap, erase}
-use Rattle.bucket_levels.proofs.entry_map_proofs.KeyMaps.{same_keys, same_itself}
-use Rattle.close_rules.specs.entry_slots.EntrySponsor.{sponsor_of}
-use Rattle.close_rules.specs.entry_slots.Lines.{line_of, line_at}
-use Rattle.close_rules.specs.entry_slots.Pools.{pool_at, with_pool}
-use Rattle.close_rules.proofs.entry_sums_proofs.Lookups.{erase_there, erase_elsewhere, erase_each}
-use Rattle.close_rules.specs.sponsor_rules.Charge.{charge_of}
-use Rattle.close_rules.specs.sponsor_rules.Removing.{map_without_charge, map_after_removing_entry, map_after_removing}
-use Rattle.close_rules.specs.legal_rules.Holdings.{IsKeyed}
-use Rattle.close_rules.specs.legal_rules.Legal.{view}
-use Rattle.close_rules.specs.legal_rules.Owing.{AreEntriesLegal, nothing_owed}
-use Rattle.close_rules.specs.legal_rules.ShareLaws.{with_lines, map_with_uses}
 use Rattle.close_rules.proofs.legal_rules_proofs.LinesLeft.{line_legal}
-use Rattle.close_rules.specs.trade_cross.Holdings.{paying}
-use Rattle.close_rules.specs.pool_shares.ShareLines.{has_no_line}
-use Rattle.close_rules.specs.pool_shares.Withdrawing.{Part, with_change, share_key, map_after_withdrawing}
 use Rattle.close_rules.specs.pool_shares.Premises.{ArePoolsSound}
-use Rattle.close_rules.proofs.pool_shares_proofs.Beside.{paying_beside, paying_keyed, pool_beside, pool_keyed}
-use Rattle.close_rules.proofs.pool_shares_proofs.Beside.{removing_beside}
-use Rattle.close_rules.proofs.pool_shares_proofs.Beside.{removing_keyed}
 use Rattle.close_rules.proofs.pool_shares_proofs.Sound.{entries_sound}
 use Rattle.close_rules.specs.op_flags.RevokedShares as revoking
 use Rattle.close_laws.proofs.Bytes.{AreBytes}
@@ -62,13 +39,13 @@ module _ (id_pool : ℕ) (trustor : AccountId) (m : EntryMap) (legal : AreEntrie
 
   withdrawable : (pool : Hash) (t : TrustLineEntry) (p : LiquidityPoolEntry)
       → line_at m trustor (line.PoolShare pool) ≡ Some t → pool_at m pool ≡ Some p → IsWithdrawable t p
-  withdrawable pool t p held stands =
+  withdrawable pool t p held exists =
       let its = line_legal (view m) id_pool nothing_owed _ m trustor (line.PoolShare pool) t legal held in
       record {
         low = its.range.range.balance;
-        within = sound.shares trustor pool t p held stands;
-        reserve_a = (sound.ranges pool p stands).reserve_a;
-        reserve_b = (sound.ranges pool p stands).reserve_b;
+        within = sound.shares trustor pool t p held exists;
+        reserve_a = (sound.ranges pool p exists).reserve_a;
+        reserve_b = (sound.ranges pool p exists).reserve_b;
       }
 
   -- all of an account's shares can be given back
@@ -84,9 +61,9 @@ same_line m n trustor pool same = ap line_of same
 pub still_can : (trustor : AccountId) (m n : EntryMap) → CanRevoke trustor m → KeepsPools m n → CanRevoke trustor n
 still_can trustor m n can keeps = record {
   keyed = keeps.keyed;
-  shares = λ pool t p held stands. can.shares pool t p
+  shares = λ pool t p held exists. can.shares pool t p
       (sym (same_line m n trustor pool (keeps.same (key.TrustLine trustor (line.PoolShare pool)) tt)) ∙ held)
-      (sym (same_pool n m pool (keeps.same (key.LiquidityPool pool) tt)) ∙ stands);
+      (sym (same_pool n m pool (keeps.same (key.LiquidityPool pool) tt)) ∙ exists);
 }
 
 -- ---- what is left of one pool
@@ -151,15 +128,15 @@ module _ (trustor : AccountId) (id : Hash) (pool : LiquidityPoolEntry) (share : 
   left_keyed = either_keyed (has_no_line (pool_at counted id)) counted its_pool
       (pool_keyed used_b id (with_lines (neg_ℤ (pos 1))) uses_kept.keyed)
 
-  -- what comes behind the line is of its pool, and of lines in assets
-  behind_line : (q : LedgerKey) → IsOfPools q → q ≢ its_pool → get left q ≡ get gone q
-  behind_line q ours apart =
+  -- what comes after the line is of its pool, and of lines in assets
+  after_line : (q : LedgerKey) → IsOfPools q → q ≢ its_pool → get left q ≡ get gone q
+  after_line q ours apart =
       either_same (has_no_line (pool_at counted id)) counted its_pool q apart
       ∙ pool_beside used_b uses_kept.keyed id (with_lines (neg_ℤ (pos 1))) (λ p. refl) q apart
       ∙ uses_kept.same q ours
 
   line_gone : get left its_line ≡ None
-  line_gone = behind_line its_line tt (λ same. absurd (cc)) ∙ removed_none its_line had (get had its_line) refl
+  line_gone = after_line its_line tt (λ same. absurd (cc)) ∙ removed_none its_line had (get had its_line) refl
 
   other_key : (q : LedgerKey) → q ≢ its_line → share_key trustor id ≢ Some q
   other_key q apart same = apart (by same)
@@ -167,10 +144,10 @@ module _ (trustor : AccountId) (id : Hash) (pool : LiquidityPoolEntry) (share : 
       by : Some its_line ≡ Some q → q ≡ its_line
       by is = cc
 
-  -- other pools, and lines of their shares, stand as they did
+  -- other pools, and lines of their shares, stay as they were
   others_kept : (q : LedgerKey) → IsOfPools q → q ≢ its_line → q ≢ its_pool → get left q ≡ get m q
   others_kept q ours no_line no_pool =
-      behind_line q ours no_pool
+      after_line q ours no_pool
       ∙ removing_beside its_line had had_keyed q no_line (no_account q ours)
       ∙ pool_beside paid paid_keyed id
       (with_change (neg_ℤ (pos part.a)) (neg_ℤ (pos part.b)) (neg_ℤ share.balance)) (λ p. refl) q no_pool
@@ -185,11 +162,11 @@ module _ (trustor : AccountId) (id : Hash) (pool : LiquidityPoolEntry) (share : 
 
   other_kept : (q : Hash) (t : TrustLineEntry) (p : LiquidityPoolEntry) → q ≢ id
       → line_at left trustor (line.PoolShare q) ≡ Some t → pool_at left q ≡ Some p → IsWithdrawable t p
-  other_kept q t p apart held stands = can.shares q t p
+  other_kept q t p apart held exists = can.shares q t p
       (sym (same_line m left trustor q (others_kept (key.TrustLine trustor (line.PoolShare q)) tt
       (λ same. apart (cc)) (λ same. absurd (cc)))) ∙ held)
       (sym (same_pool left m q (others_kept (key.LiquidityPool q) tt (λ same. absurd (cc))
-      (λ same. apart (cc)))) ∙ stands)
+      (λ same. apart (cc)))) ∙ exists)
 
   tied : (q : Hash) → q ≡ id → eq_by_cmp key_cmp (key.LiquidityPool q) its_pool ≡ true
   tied q same = ap (λ (h : Hash). eq_by_cmp key_cmp (key.LiquidityPool h) its_pool) same ∙ same_itself its_pool
@@ -204,9 +181,9 @@ module _ (trustor : AccountId) (id : Hash) (pool : LiquidityPoolEntry) (share : 
   pub left_can : CanRevoke trustor left
   left_can = record {
     keyed = left_keyed;
-    shares = λ q t p held stands. elim (same_or_other q) [
+    shares = λ q t p held exists. elim (same_or_other q) [
       | inl same ↦ absurd (none_held q t same held)
-      | inr apart ↦ other_kept q t p apart held stands
+      | inr apart ↦ other_kept q t p apart held exists
     ];
   }
 

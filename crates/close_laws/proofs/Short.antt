@@ -1,26 +1,17 @@
--- Values that have a spelling of at most so many bytes, by those that they are made of.
-use Rattle.std.proofs.Common.{◌≡◌, ℕ, suc, ◌+◌, ◌*◌, ◌<◌, ◌≤◌, refl, subst, List, [], ◌∷◌}
-use Rattle.std.proofs.Common.{◌++◌, length, replicate, All, Option, Some, None, ℤ, pos, Bool, arith, length-append}
-use Rattle.std.proofs.Math.Nat.{mul-le-mul_right}
-use Rattle.std.proofs.lemmas.List.{length-replicate}
-use Rattle.std.proofs.lemmas.List.Elements.{All-head, All-tail}
-use Rattle.std.specs.Prelude.{FitsSigned}
-use Rattle.std.specs.Int.{w32, w64, cast_unsigned}
-use Rattle.std.specs.List.{flat_map, AllByRecursion}
+-- Values that have an encoding of at most so many bytes, by those that they are made of.
+use Rattle.close_laws.proofs.Prelude as prelude
+use prelude.{◌≡◌, ℕ, suc, ◌+◌, ◌*◌, ◌<◌, ◌≤◌, refl, subst, List, [], ◌∷◌, ◌++◌, length, replicate, All, Option, Some}
+use prelude.{None, Bool, arith, length-append, mul-le-mul_right, length-replicate, All-head, All-tail, FitsSigned, w32}
+use prelude.{w64, cast_unsigned, flat_map, AllByRecursion, length-bytes_high_first, u32, u64, i32, i64, flag, flag_code}
+use prelude.{count, fixed, var, padded, padding_len, ◌⨾◌, Fields, struct_of, entire, closed, marked, constant, option}
+use prelude.{list, extension, times, Xdr, tag, optional, list_of, extension_of, IsEncoded}
+use Rattle.std.proofs.Common.{ℤ, pos}
 use Rattle.byteorder.specs.Endian.{big_bytes}
-use Rattle.byteorder.specs.Numbers.{length-bytes_high_first}
-use Rattle.close_rules.specs.xdr_core.Leaves.{u32, u64, i32, i64, flag, flag_code, count, fixed, var, padded}
-use Rattle.close_rules.specs.xdr_core.Leaves.{padding_len}
-use Rattle.close_rules.specs.xdr_core.Combinators.{◌⨾◌, Fields, struct_of, whole, closed, marked, constant, option}
-use Rattle.close_rules.specs.xdr_core.Combinators.{list}
-use Rattle.close_rules.specs.xdr_core.Combinators.{extension, times}
-use Rattle.close_rules.specs.xdr_core.Xdr.{Xdr, tag, optional, list_of, extension_of}
-use Rattle.close_rules.specs.State.{IsSpelled}
 
 pub record IsShort {V : Type 0} (f : Xdr V) (most : ℕ) (v : V) : Type 0 where
   pub within : f.within v
   pub sized : f.sized v
-  pub short : length (f.spell v) ≤ most
+  pub short : length (f.encoding v) ≤ most
 
 -- ---- leaves
 
@@ -43,11 +34,11 @@ pub short_i32 : (n : ℤ) → FitsSigned w32 n → IsShort i32 4 n
 unfolding i32
 short_i32 n fits = record { within = tt; sized = fits; short = bytes_len 4 (cast_unsigned w32 n) }
 
-word_len : (mark : ℤ) → length (i32.spell mark) ≤ 4
+word_len : (mark : ℤ) → length (i32.encoding mark) ≤ 4
 unfolding i32
 word_len mark = bytes_len 4 (cast_unsigned w32 mark)
 
-count_len : (max n : ℕ) → length ((count max).spell n) ≤ 4
+count_len : (max n : ℕ) → length ((count max).encoding n) ≤ 4
 unfolding count
 count_len max n = bytes_len 4 n
 
@@ -62,12 +53,12 @@ padded_len bytes = omega (
   padding_small (length bytes),
 )
 
-pub short_fixed : (n : ℕ) (bytes : List ℕ) → IsSpelled (fixed n) bytes → IsShort (fixed n) (n + 3) bytes
+pub short_fixed : (n : ℕ) (bytes : List ℕ) → IsEncoded (fixed n) bytes → IsShort (fixed n) (n + 3) bytes
 unfolding fixed
-short_fixed n bytes spelled = record {
-  within = spelled.within;
-  sized = spelled.sized;
-  short = at_most (padded_len bytes) spelled.within;
+short_fixed n bytes encoded = record {
+  within = encoded.within;
+  sized = encoded.sized;
+  short = at_most (padded_len bytes) encoded.within;
 }
   where
     at_most : length (padded bytes) ≤ length bytes + 3 → length bytes ≡ n → length (padded bytes) ≤ n + 3
@@ -79,34 +70,34 @@ sum_most a b c d low high = omega arith
 both_len : (xs ys : List ℕ) (a b : ℕ) → length xs ≤ a → length ys ≤ b → length (xs ++ ys) ≤ a + b
 both_len xs ys a b low high = omega (arith, length-append xs ys, low, high)
 
-pub short_var : (max : ℕ) (bytes : List ℕ) → IsSpelled (var max) bytes → IsShort (var max) (4 + (max + 3)) bytes
+pub short_var : (max : ℕ) (bytes : List ℕ) → IsEncoded (var max) bytes → IsShort (var max) (4 + (max + 3)) bytes
 unfolding var
-short_var max bytes spelled = record {
-  within = spelled.within;
-  sized = spelled.sized;
+short_var max bytes encoded = record {
+  within = encoded.within;
+  sized = encoded.sized;
   short = both_len _ (padded bytes) 4 (max + 3) (count_len max (length bytes))
-      (at_most (padded_len bytes) spelled.within);
+      (at_most (padded_len bytes) encoded.within);
 }
   where
     at_most : length (padded bytes) ≤ length bytes + 3 → length bytes ≤ max → length (padded bytes) ≤ max + 3
     at_most le is = omega (arith, le, is)
 
--- ---- one behind another
+-- ---- one after another
 
 pub short_both : {A B : Type 0} {f : Xdr A} {g : Xdr B} {m n : ℕ} {a : A} {b : B} → IsShort f m a → IsShort g n b
     → IsShort (f ⨾ g) (m + n) (a, b)
 short_both {f = f} {g = g} {m = m} {n = n} {a = a} {b = b} first then = record {
   within = (first.within, then.within);
   sized = (first.sized, then.sized);
-  short = both_len (f.spell a) (g.spell b) m n first.short then.short;
+  short = both_len (f.encoding a) (g.encoding b) m n first.short then.short;
 }
 
 pub short_struct : {A V : Type 0} (fields : Fields A V) {f : Xdr A} {n : ℕ} {v : V} → IsShort f n (fields.from v)
     → IsShort (struct_of fields f) n v
 short_struct fields short = record { within = short.within; sized = short.sized; short = short.short }
 
-pub short_whole : {V : Type 0} {f : Xdr V} {n : ℕ} {v : V} → IsShort f n v → IsShort (whole f) n v
-short_whole short = record { within = short.within; sized = short.sized; short = short.short }
+pub short_entire : {V : Type 0} {f : Xdr V} {n : ℕ} {v : V} → IsShort f n v → IsShort (entire f) n v
+short_entire short = record { within = short.within; sized = short.sized; short = short.short }
 
 -- ---- constants
 
@@ -121,7 +112,7 @@ short_closed {f = f} {n = n} {a = a} mark short =
     record {
       within = (short.within, end.within);
       sized = (short.sized, end.sized);
-      short = both_len (f.spell a) ((tag mark).spell tt) n 4 short.short end.short;
+      short = both_len (f.encoding a) ((tag mark).encoding tt) n 4 short.short end.short;
     }
 
 pub short_marked : {A : Type 0} {f : Xdr A} {n : ℕ} {a : A} (mark : ℤ) → IsShort f n a
@@ -131,36 +122,36 @@ short_marked {f = f} {n = n} {a = a} mark short =
     record {
       within = (start.within, short.within);
       sized = (start.sized, short.sized);
-      short = both_len ((tag mark).spell tt) (f.spell a) 4 n start.short short.short;
+      short = both_len ((tag mark).encoding tt) (f.encoding a) 4 n start.short short.short;
     }
 
 -- ---- options, lists and unions
 
-flag_len : (b : Bool) → length (flag.spell b) ≤ 4
+flag_len : (b : Bool) → length (flag.encoding b) ≤ 4
 unfolding flag
 flag_len b = bytes_len 4 (flag_code b)
 
 -- the length of an arm of a union
-pub marked_len : (mark : ℤ) (bytes : List ℕ) (n : ℕ) → length bytes ≤ n → length (i32.spell mark ++ bytes) ≤ 4 + n
-marked_len mark bytes n le = both_len (i32.spell mark) bytes 4 n (word_len mark) le
+pub marked_len : (mark : ℤ) (bytes : List ℕ) (n : ℕ) → length bytes ≤ n → length (i32.encoding mark ++ bytes) ≤ 4 + n
+marked_len mark bytes n le = both_len (i32.encoding mark) bytes 4 n (word_len mark) le
 
 -- at most so many bytes are at most more
 pub longer : {k : ℕ} (a b : ℕ) → a ≤ b → k ≤ a → k ≤ b
 longer a b le few = omega arith
 
-more : (a b : ℕ) → a ≤ 4 → a ≤ 4 + b
-more a b le = omega arith
+at_most_four_more : (a b : ℕ) → a ≤ 4 → a ≤ 4 + b
+at_most_four_more a b le = omega arith
 
 pub short_option : {A : Type 0} (f : Xdr A) (n : ℕ) (found : Option A) → ((a : A) → found ≡ Some a → IsShort f n a)
     → IsShort (optional f) (4 + n) found
 unfolding option
-short_option f n None each = record { within = tt; sized = tt; short = more _ n (flag_len _) }
+short_option f n None each = record { within = tt; sized = tt; short = at_most_four_more _ n (flag_len _) }
 short_option f n (Some a) each =
     let short = each a refl in
     record {
       within = short.within;
       sized = short.sized;
-      short = both_len (flag.spell _) (f.spell a) 4 n (flag_len _) short.short;
+      short = both_len (flag.encoding _) (f.encoding a) 4 n (flag_len _) short.short;
     }
 
 pub no_extension : {A : Type 0} (mark : ℤ) (f : Xdr A) (n : ℕ) → IsShort (extension_of mark f) (4 + n) None
@@ -173,20 +164,20 @@ unfolding extension
 some_extension mark f n a short = record {
   within = short.within;
   sized = short.sized;
-  short = marked_len mark (f.spell a) n short.short;
+  short = marked_len mark (f.encoding a) n short.short;
 }
 
 all_len : {A : Type 0} (f : Xdr A) (n : ℕ) (vs : List A) → All (IsShort f n) vs
-    → length (flat_map f.spell vs) ≤ length vs * n
+    → length (flat_map f.encoding vs) ≤ length vs * n
 all_len f n [] each = omega arith
 all_len f n (v ∷ vs) each =
     let rest = all_len f n vs (All-tail (IsShort f n) v vs each) in
-    let first = both_len (f.spell v) (flat_map f.spell vs) n (length vs * n) (All-head (IsShort f n) v vs each).short
+    let first = both_len (f.encoding v) (flat_map f.encoding vs) n (length vs * n) (All-head (IsShort f n) v vs each).short
     rest in
     one_more (length vs) n first
   where
-    one_more : (k n : ℕ) → length (f.spell v ++ flat_map f.spell vs) ≤ n + k * n
-        → length (f.spell v ++ flat_map f.spell vs) ≤ suc k * n
+    one_more : (k n : ℕ) → length (f.encoding v ++ flat_map f.encoding vs) ≤ n + k * n
+        → length (f.encoding v ++ flat_map f.encoding vs) ≤ suc k * n
     one_more k n le = omega (arith, le)
 
 all_within : {A : Type 0} (f : Xdr A) (n : ℕ) (vs : List A) → All (IsShort f n) vs → AllByRecursion f.within vs
@@ -205,11 +196,11 @@ unfolding list
 short_list max f n vs few each = record {
   within = (few, all_within f n vs each);
   sized = all_sized f n vs each;
-  short = both_len _ (flat_map f.spell vs) 4 (max * n) (count_len max (length vs))
+  short = both_len _ (flat_map f.encoding vs) 4 (max * n) (count_len max (length vs))
       (times_most (length vs) max n few (all_len f n vs each));
 }
   where
-    times_most : (k max n : ℕ) → k ≤ max → length (flat_map f.spell vs) ≤ k * n → length (flat_map f.spell vs) ≤ max * n
+    times_most : (k max n : ℕ) → k ≤ max → length (flat_map f.encoding vs) ≤ k * n → length (flat_map f.encoding vs) ≤ max * n
     times_most k max n few le = omega (arith, le, mul-le-mul_right n few)
 
 pub short_times : {A : Type 0} (m : ℕ) (f : Xdr A) (n : ℕ) (vs : List A) → length vs ≡ m → All (IsShort f n) vs
@@ -218,5 +209,5 @@ unfolding times
 short_times m f n vs is each = record {
   within = (is, all_within f n vs each);
   sized = all_sized f n vs each;
-  short = subst (λ (k : ℕ). length (flat_map f.spell vs) ≤ k * n) is (all_len f n vs each);
+  short = subst (λ (k : ℕ). length (flat_map f.encoding vs) ≤ k * n) is (all_len f n vs each);
 }

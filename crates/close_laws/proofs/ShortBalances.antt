@@ -1,81 +1,65 @@
 -- Trust lines and claimable balances are short.
-use Rattle.std.proofs.Common.{◌≡◌, ℕ, ◌<◌, ◌≤◌, List, [], ◌++◌, length, All, Option, Some, None, ℤ, pos, true, arith}
-use Rattle.std.proofs.lemmas.Int.{ints}
-use Rattle.std.specs.Prelude.{◌≤ℤ◌, FitsSigned}
-use Rattle.std.specs.Int.{w32, w64}
+use Rattle.close_laws.proofs.Prelude as prelude
+use prelude.{◌≡◌, ℕ, ◌<◌, ◌≤◌, List, [], ◌++◌, length, All, Option, Some, None, true, arith, ints, ◌≤ℤ◌, FitsSigned}
+use prelude.{w32, Asset, TrustLineAsset, TrustLineEntry, Claimant, ClaimableBalanceEntry, i32, constant, extension_of}
+use prelude.{line_v2_fields, trust_line_extension_v2, line_v1_fields, trust_line_extension_v1, line_fields}
+use prelude.{trust_line_entry, claimant_fields, claimant, balance_v1_fields, claimable_balance_extension_v1}
+use prelude.{balance_fields, claimable_balance_entry, is_valid_stored_predicate, line_liabilities, line_liabilities_in}
+use prelude.{line_second_in, use_count, use_count_in, greatest_i64, balance_flags, IsEncoded}
+use Rattle.std.proofs.Common.{ℤ, pos}
 use Rattle.close_rules.specs.ledger_types.declared.ids.ClaimableBalanceId.{ClaimableBalanceId}
-use Rattle.close_rules.specs.ledger_types.declared.asset.Asset.{Asset}
 use Rattle.close_rules.specs.ledger_types.declared.asset.Asset.TheVariants as asset
-use Rattle.close_rules.specs.ledger_types.declared.asset.TrustLineAsset.{TrustLineAsset}
 use Rattle.close_rules.specs.ledger_types.declared.asset.TrustLineAsset.TheVariants as line
-use Rattle.close_rules.specs.ledger_types.declared.trust_line.TrustLineEntry.{TrustLineEntry}
 use Rattle.close_rules.specs.ledger_types.declared.trust_line.TrustLineEntryExtensionV1.{TrustLineEntryExtensionV1}
 use Rattle.close_rules.specs.ledger_types.declared.trust_line.TrustLineEntryExtensionV2.{TrustLineEntryExtensionV2}
-use Rattle.close_rules.specs.ledger_types.declared.claimable_balance.Claimant.{Claimant}
-use Rattle.close_rules.specs.ledger_types.declared.claimable_balance.ClaimableBalanceEntry.{ClaimableBalanceEntry}
 use Rattle.close_rules.specs.ledger_types.declared.claimable_balance.ClaimableBalanceEntryExtensionV1.{
   ClaimableBalanceEntryExtensionV1,
 }
-use Rattle.close_rules.specs.xdr_core.Leaves.{i32, i64}
-use Rattle.close_rules.specs.xdr_core.Combinators.{constant}
-use Rattle.close_rules.specs.xdr_core.Xdr.{extension_of}
 use Rattle.close_rules.specs.xdr_entries.Basic as basic
-use Rattle.close_rules.specs.xdr_entries.Entries.{line_v2_fields, trust_line_extension_v2, line_v1_fields}
-use Rattle.close_rules.specs.xdr_entries.Entries.{trust_line_extension_v1}
-use Rattle.close_rules.specs.xdr_entries.Entries.{line_fields, trust_line_entry, claimant_fields, claimant}
-use Rattle.close_rules.specs.xdr_entries.Entries.{balance_v1_fields}
-use Rattle.close_rules.specs.xdr_entries.Entries.{claimable_balance_extension_v1, balance_fields}
-use Rattle.close_rules.specs.xdr_entries.Entries.{claimable_balance_entry}
-use Rattle.close_rules.specs.valid_values.Predicates.{is_valid_stored_predicate}
-use Rattle.close_rules.specs.entry_slots.LineExtensions.{line_liabilities, line_liabilities_in, line_second_in}
-use Rattle.close_rules.specs.entry_slots.LineExtensions.{use_count}
-use Rattle.close_rules.specs.entry_slots.LineExtensions.{use_count_in}
-use Rattle.close_rules.specs.reserve_rules.Reserve.{greatest_i64}
-use Rattle.close_rules.specs.legal_rules.Ranges.{balance_flags}
-use Rattle.close_rules.specs.State.{IsSpelled}
 use Rattle.close_laws.proofs.Bytes.{IsClaimant, AreLineBytes, AreBalanceBytes}
 use Rattle.close_laws.proofs.Short as short
 use Rattle.close_laws.proofs.Short.{IsShort}
 use Rattle.close_laws.proofs.ShortIds.{id_short, hash_short, fits_i64, liabilities_short}
 use Rattle.close_laws.proofs.ShortPredicates.{predicate_most, predicate_short}
+use Rattle.close_laws.proofs.ShortPredicates.{encoded_i64_fits}
 
 -- ---- assets
 
-arm_most : (mark : ℤ) (bytes : List ℕ) (n : ℕ) → n ≤ 54 → length bytes ≤ n → length (i32.spell mark ++ bytes) ≤ 58
+arm_most : (mark : ℤ) (bytes : List ℕ) (n : ℕ) → n ≤ 54 → length bytes ≤ n → length (i32.encoding mark ++ bytes) ≤ 58
 arm_most mark bytes n le few = short.marked_len mark bytes 54 (short.longer n 54 le few)
 
-line_asset_short : (held : TrustLineAsset) → IsSpelled basic.trust_line_asset held
+line_asset_short : (held : TrustLineAsset) → IsEncoded basic.trust_line_asset held
     → IsShort basic.trust_line_asset 58 held
 unfolding basic.trust_line_asset
-line_asset_short line.Native spelled =
+line_asset_short line.Native encoded =
     record { within = tt; sized = tt; short = arm_most (pos 0) [] 0 (omega arith) (omega arith) }
-line_asset_short (line.Alphanum4 code issuer) spelled =
+line_asset_short (line.Alphanum4 code issuer) encoded =
     let rest = short.short_both
-    (short.short_fixed 4 code (record { within = spelled.within.0; sized = spelled.sized.0 }))
-    (id_short issuer (record { within = spelled.within.1; sized = spelled.sized.1 })) in
+    (short.short_fixed 4 code (record { within = encoded.within.0; sized = encoded.sized.0 }))
+    (id_short issuer (record { within = encoded.within.1; sized = encoded.sized.1 })) in
     record { within = rest.within; sized = rest.sized; short = arm_most (pos 1) _ 46 (omega arith) rest.short }
-line_asset_short (line.Alphanum12 code issuer) spelled =
+line_asset_short (line.Alphanum12 code issuer) encoded =
     let rest = short.short_both
-    (short.short_fixed 12 code (record { within = spelled.within.0; sized = spelled.sized.0 }))
-    (id_short issuer (record { within = spelled.within.1; sized = spelled.sized.1 })) in
+    (short.short_fixed 12 code (record { within = encoded.within.0; sized = encoded.sized.0 }))
+    (id_short issuer (record { within = encoded.within.1; sized = encoded.sized.1 })) in
     record { within = rest.within; sized = rest.sized; short = arm_most (pos 2) _ 54 (omega arith) rest.short }
-line_asset_short (line.PoolShare pool) spelled =
-    let rest = hash_short pool (record { within = spelled.within; sized = spelled.sized }) in
+line_asset_short (line.PoolShare pool) encoded =
+    let rest = hash_short pool (record { within = encoded.within; sized = encoded.sized }) in
     record { within = rest.within; sized = rest.sized; short = arm_most (pos 3) _ 35 (omega arith) rest.short }
 
-pub asset_short : (held : Asset) → IsSpelled basic.asset held → IsShort basic.asset 58 held
+pub asset_short : (held : Asset) → IsEncoded basic.asset held → IsShort basic.asset 58 held
 unfolding basic.asset
-asset_short asset.Native spelled =
+asset_short asset.Native encoded =
     record { within = tt; sized = tt; short = arm_most (pos 0) [] 0 (omega arith) (omega arith) }
-asset_short (asset.Alphanum4 code issuer) spelled =
+asset_short (asset.Alphanum4 code issuer) encoded =
     let rest = short.short_both
-    (short.short_fixed 4 code (record { within = spelled.within.0; sized = spelled.sized.0 }))
-    (id_short issuer (record { within = spelled.within.1; sized = spelled.sized.1 })) in
+    (short.short_fixed 4 code (record { within = encoded.within.0; sized = encoded.sized.0 }))
+    (id_short issuer (record { within = encoded.within.1; sized = encoded.sized.1 })) in
     record { within = rest.within; sized = rest.sized; short = arm_most (pos 1) _ 46 (omega arith) rest.short }
-asset_short (asset.Alphanum12 code issuer) spelled =
+asset_short (asset.Alphanum12 code issuer) encoded =
     let rest = short.short_both
-    (short.short_fixed 12 code (record { within = spelled.within.0; sized = spelled.sized.0 }))
-    (id_short issuer (record { within = spelled.within.1; sized = spelled.sized.1 })) in
+    (short.short_fixed 12 code (record { within = encoded.within.0; sized = encoded.sized.0 }))
+    (id_short issuer (record { within = encoded.within.1; sized = encoded.sized.1 })) in
     record { within = rest.within; sized = rest.sized; short = arm_most (pos 2) _ 54 (omega arith) rest.short }
 
 -- ---- trust lines
@@ -152,22 +136,22 @@ pub record AreBalanceNumbers (balance : ClaimableBalanceEntry) : Type 0 where
 claimant_short : (one : Claimant) → IsClaimant one → is_valid_stored_predicate one.predicate ≡ true
     → IsShort claimant 223 one
 unfolding claimant predicate_most
-claimant_short one spelled valid =
+claimant_short one encoded valid =
     short.short_struct claimant_fields (short.short_marked (pos 0)
-    (short.short_both (id_short one.destination (record { within = spelled.within.1.0; sized = spelled.sized.1.0 }))
-    (short.short_whole (predicate_short 4 32 one.predicate valid
-    (record { within = spelled.within.1.1; sized = spelled.sized.1.1 })))))
+    (short.short_both (id_short one.destination (record { within = encoded.within.1.0; sized = encoded.sized.1.0 }))
+    (short.short_entire (predicate_short 4 32 one.predicate valid
+    (record { within = encoded.within.1.1; sized = encoded.sized.1.1 })))))
 
 claimants_short : (claimants : List Claimant) → All IsClaimant claimants
     → All (λ c. is_valid_stored_predicate c.predicate ≡ true) claimants → All (IsShort claimant 223) claimants
 claimants_short claimants bytes valid = λ k d within. claimant_short _ (bytes k d within) (valid k d within)
 
-id_of_balance_short : (id : ClaimableBalanceId) → IsSpelled basic.claimable_balance_id id
+id_of_balance_short : (id : ClaimableBalanceId) → IsEncoded basic.claimable_balance_id id
     → IsShort basic.claimable_balance_id 39 id
 unfolding basic.claimable_balance_id constant
-id_of_balance_short id spelled =
+id_of_balance_short id encoded =
     short.short_struct basic.balance_id_fields (short.short_marked (pos 0)
-    (hash_short id.0 (record { within = spelled.within.1; sized = spelled.sized.1 })))
+    (hash_short id.0 (record { within = encoded.within.1; sized = encoded.sized.1 })))
 
 balance_v1_short : (ext : ClaimableBalanceEntryExtensionV1) → ext.flags ≤ 1
     → IsShort claimable_balance_extension_v1 8 ext
@@ -184,10 +168,6 @@ balance_ext_short None few = short.no_extension (pos 1) claimable_balance_extens
 balance_ext_short (Some ext) few =
     short.some_extension (pos 1) claimable_balance_extension_v1 8 ext (balance_v1_short ext few)
 
-pub amount_fits : (amount : ℤ) → IsSpelled i64 amount → FitsSigned w64 amount
-unfolding i64
-amount_fits amount spelled = spelled.sized
-
 pub balance_short : (balance : ClaimableBalanceEntry) → AreBalanceBytes balance → AreBalanceNumbers balance
     → IsShort claimable_balance_entry 2351 balance
 unfolding claimable_balance_entry
@@ -196,5 +176,5 @@ balance_short balance bytes numbers =
     (short.short_both (short.short_list 10 claimant 223 balance.claimants numbers.few
     (claimants_short balance.claimants bytes.claimants numbers.predicates))
     (short.short_both (asset_short balance.asset bytes.asset)
-    (short.short_both (short.short_i64 balance.amount (amount_fits balance.amount bytes.amount))
+    (short.short_both (short.short_i64 balance.amount (encoded_i64_fits balance.amount bytes.amount))
     (balance_ext_short balance.ext numbers.flags)))))

@@ -1,33 +1,14 @@
 -- Entries are short enough for a bucket's file.
-use Rattle.std.proofs.Common.{ℕ, ◌<◌, ◌≤◌, List, ◌++◌, length, All}
-use Rattle.std.proofs.Common.{Option, Some, None, ℤ, pos, arith}
-use Rattle.std.specs.Prelude.{◌≤ℤ◌}
-use Rattle.close_rules.specs.ledger_types.declared.ids.AccountId.{AccountId}
-use Rattle.close_rules.specs.ledger_types.declared.signer.Signer.{Signer}
-use Rattle.close_rules.specs.ledger_types.declared.account.AccountEntry.{AccountEntry}
-use Rattle.close_rules.specs.ledger_types.declared.account.AccountEntryExtensionV1.{AccountEntryExtensionV1}
-use Rattle.close_rules.specs.ledger_types.declared.account.AccountEntryExtensionV2.{AccountEntryExtensionV2}
-use Rattle.close_rules.specs.ledger_types.declared.data_entry.DataEntry.{DataEntry}
-use Rattle.close_rules.specs.ledger_types.declared.entry.LedgerEntry.{LedgerEntry}
-use Rattle.close_rules.specs.ledger_types.declared.entry.LedgerEntryBody.{LedgerEntryBody}
+use Rattle.close_laws.proofs.Prelude as prelude
+use prelude.{ℕ, ◌<◌, ◌≤◌, List, ◌++◌, length, All, Option, Some, None, arith, ◌≤ℤ◌, AccountId, Signer, AccountEntry}
+use prelude.{AccountEntryExtensionV1, AccountEntryExtensionV2, DataEntry, LedgerEntry, LedgerEntryBody}
+use prelude.{LedgerEntryExtensionV1, i32, optional, extension_of, account_id, signer_key, signer, account_extension_v2}
+use prelude.{account_extension_v1, account_head, account_tail, account_entry, account_v2_fields, account_v1_fields}
+use prelude.{account_fields, data_fields, entry_v1_fields, entry_fields, data_entry, ledger_entry_body}
+use prelude.{ledger_entry_extension_v1, ledger_entry, liabilities_in, second_in, sponsored_in, sponsoring_in}
+use prelude.{sponsor_in, greatest_i64, IsEntryEncodable, IsEncoded}
+use Rattle.std.proofs.Common.{ℤ, pos}
 use Rattle.close_rules.specs.ledger_types.declared.entry.LedgerEntryBody.TheVariants as body
-use Rattle.close_rules.specs.ledger_types.declared.entry.LedgerEntryExtensionV1.{LedgerEntryExtensionV1}
-use Rattle.close_rules.specs.xdr_core.Leaves.{i32}
-use Rattle.close_rules.specs.xdr_core.Xdr.{optional, extension_of}
-use Rattle.close_rules.specs.xdr_entries.Basic.{account_id, signer_key, signer}
-use Rattle.close_rules.specs.xdr_entries.Entries.{account_extension_v2, account_extension_v1, account_head}
-use Rattle.close_rules.specs.xdr_entries.Entries.{account_tail}
-use Rattle.close_rules.specs.xdr_entries.Entries.{account_entry}
-use Rattle.close_rules.specs.xdr_entries.Entries.{account_v2_fields, account_v1_fields, account_fields, data_fields}
-use Rattle.close_rules.specs.xdr_entries.Entries.{entry_v1_fields}
-use Rattle.close_rules.specs.xdr_entries.Entries.{entry_fields, data_entry, ledger_entry_body}
-use Rattle.close_rules.specs.xdr_entries.Entries.{ledger_entry_extension_v1}
-use Rattle.close_rules.specs.xdr_entries.Entries.{ledger_entry}
-use Rattle.close_rules.specs.entry_slots.AccountExtensions.{liabilities_in, second_in, sponsored_in, sponsoring_in}
-use Rattle.close_rules.specs.entry_slots.EntrySponsor.{sponsor_in}
-use Rattle.close_rules.specs.reserve_rules.Reserve.{greatest_i64}
-use Rattle.close_rules.specs.entry_changes.Spellable.{IsEntrySpellable}
-use Rattle.close_rules.specs.State.{IsSpelled}
 use Rattle.close_laws.proofs.Bytes.{IsIdIf, sponsors_in, AreAccountBytes, AreDataBytes, AreBodyBytes}
 use Rattle.close_laws.proofs.Bytes.{AreEntryBytes}
 use Rattle.close_laws.proofs.Short as short
@@ -97,7 +78,7 @@ pub record AreAccountNumbers (account : AccountEntry) : Type 0 where
   pub weights : All (λ one. one.weight ≤ 255) account.signers
   pub ext : AreNumbers account.ext
 
-all_signers : (signers : List Signer) → All (λ one. IsSpelled signer_key one.key) signers
+all_signers : (signers : List Signer) → All (λ one. IsEncoded signer_key one.key) signers
     → All (λ one. one.weight ≤ 255) signers → All (IsShort signer 43) signers
 all_signers signers keys weights = λ k d within. signer_short _ (keys k d within) (weights k d within)
 
@@ -158,7 +139,7 @@ AreBodyNumbers other = Unit {0}
 
 -- an arm of at most 2351 bytes, the most that a claimable balance has
 body_arm : (mark : ℤ) (bytes : List ℕ) (n : ℕ) → n ≤ 2351 → length bytes ≤ n
-    → length (i32.spell mark ++ bytes) ≤ 2355
+    → length (i32.encoding mark ++ bytes) ≤ 2355
 body_arm mark bytes n le few = short.marked_len mark bytes 2351 (short.longer n 2351 le few)
 
 body_short : (of : LedgerEntryBody) → AreBodyBytes of → AreBodyNumbers of → IsShort ledger_entry_body 2355 of
@@ -200,10 +181,10 @@ entry_short e seq bytes numbers =
     short.short_struct entry_fields (short.short_both (short.short_u32 e.last_modified_ledger_seq seq)
     (short.short_both (body_short e.body bytes.body numbers) (extension_short e.ext bytes.sponsor)))
 
--- such an entry can stand in a bucket's file
-pub entry_spellable : (e : LedgerEntry) → e.last_modified_ledger_seq < 4294967296 → AreEntryBytes e
-    → AreBodyNumbers e.body → IsEntrySpellable e
-entry_spellable e seq bytes numbers =
+-- such an entry can be in a bucket's file
+pub entry_encodable : (e : LedgerEntry) → e.last_modified_ledger_seq < 4294967296 → AreEntryBytes e
+    → AreBodyNumbers e.body → IsEntryEncodable e
+entry_encodable e seq bytes numbers =
     let found = entry_short e seq bytes numbers in
     record {
       within = found.within;

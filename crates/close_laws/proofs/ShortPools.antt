@@ -1,12 +1,7 @@
 -- Pools are short.
-use Rattle.std.specs.Prelude.{ℤ, pos, ◌≤ℤ◌}
-use Rattle.close_rules.specs.ledger_types.declared.asset.PoolParams.{PoolParams}
-use Rattle.close_rules.specs.ledger_types.declared.liquidity_pool.LiquidityPoolEntry.{LiquidityPoolEntry}
-use Rattle.close_rules.specs.xdr_core.Leaves.{i32}
-use Rattle.close_rules.specs.xdr_core.Combinators.{constant}
+use Rattle.close_laws.proofs.Prelude.{ℤ, pos, ◌≤ℤ◌, PoolParams, LiquidityPoolEntry, i32, constant, pool_fields}
+use Rattle.close_laws.proofs.Prelude.{liquidity_pool_entry, IsEncoded}
 use Rattle.close_rules.specs.xdr_entries.Basic as basic
-use Rattle.close_rules.specs.xdr_entries.Entries.{pool_fields, liquidity_pool_entry}
-use Rattle.close_rules.specs.State.{IsSpelled}
 use Rattle.close_laws.proofs.Bytes.{ArePoolBytes}
 use Rattle.close_laws.proofs.Short as short
 use Rattle.close_laws.proofs.Short.{IsShort}
@@ -20,15 +15,15 @@ pub record ArePoolNumbers (pool : LiquidityPoolEntry) : Type 0 where
   pub shares : pos 0 ≤ℤ pool.total_pool_shares
   pub lines : pos 0 ≤ℤ pool.pool_shares_trust_line_count
 
-params_short : (params : PoolParams) → IsSpelled basic.pool_params params → IsShort basic.pool_params 124 params
+params_short : (params : PoolParams) → IsEncoded basic.pool_params params → IsShort basic.pool_params 124 params
 unfolding basic.pool_params constant i32
-params_short params spelled =
+params_short params encoded =
     short.short_struct basic.pool_params_fields (short.short_marked (pos 0)
     (short.short_both
-    (asset_short params.asset_a (record { within = spelled.within.1.0; sized = spelled.sized.1.0 }))
+    (asset_short params.asset_a (record { within = encoded.within.1.0; sized = encoded.sized.1.0 }))
     (short.short_both
-    (asset_short params.asset_b (record { within = spelled.within.1.1.0; sized = spelled.sized.1.1.0 }))
-    (short.short_i32 params.fee spelled.sized.1.1.1))))
+    (asset_short params.asset_b (record { within = encoded.within.1.1.0; sized = encoded.sized.1.1.0 }))
+    (short.short_i32 params.fee encoded.sized.1.1.1))))
 
 pub pool_short : (pool : LiquidityPoolEntry) → ArePoolBytes pool → ArePoolNumbers pool
     → IsShort liquidity_pool_entry 191 pool

@@ -1,36 +1,23 @@
--- The image of a ledger's state can be written, and stands for that state.
-use Rattle.std.proofs.Common.{◌≡◌, ℕ, zero, suc, ◌+◌, ◌-◌, ◌*◌, ◌≤◌, List, [], ◌∷◌, ◌++◌, length, Some, None}
-use Rattle.std.proofs.Common.{refl, sym, ap, ◌∙◌, subst, arith, append-nil}
-use Rattle.std.specs.List.{flat_map}
+-- The image of a ledger's state can be written, and represents that state.
+use Rattle.close_laws.proofs.Prelude as prelude
+use prelude.{◌≡◌, ℕ, zero, suc, ◌+◌, ◌-◌, ◌*◌, ◌≤◌, List, [], ◌∷◌, ◌++◌, length, Some, None, refl, sym, ap, ◌∙◌, subst}
+use prelude.{arith, append-nil, flat_map, LedgerHeader, mark, start_of, constant, StartImage, ledger_header}
+use prelude.{ledger_header_laws, EntryMap, IsHeaderInRange, IsLegal, file_of, Pair, file_total, pair_size, ClosingState}
+use prelude.{IsClosingState, IsEncoded, max_file_total, IsFirstBroken, entry_rules, header_in, AreFieldsInRange}
+use prelude.{HasHeader, HasEntries, AreFilesOf, IsImageOf, ImagesRepresentStates}
 use Rattle.std.proofs.lemmas.List.Sums.{sum_by-cons}
-use Rattle.close_rules.specs.ledger_types.declared.header.LedgerHeader.{LedgerHeader}
-use Rattle.close_rules.specs.xdr_core.Leaves.{mark}
-use Rattle.close_rules.specs.xdr_core.Place.{start_of}
-use Rattle.close_rules.specs.xdr_core.Combinators.{constant}
-use Rattle.close_rules.specs.xdr_header.declared.image.StartImage.{StartImage}
 use Rattle.close_rules.specs.xdr_header.Image.{start_image, file, files}
-use Rattle.close_rules.specs.xdr_header.Header.{ledger_header}
-use Rattle.close_rules.proofs.xdr_header_proofs.HeaderLaws.{ledger_header_laws}
-use Rattle.bucket_levels.specs.entry_map.EntryMap.{EntryMap}
-use Rattle.close_rules.specs.legal_rules.Headers.{IsHeaderInRange}
-use Rattle.close_rules.specs.legal_rules.Legal.{IsLegal}
-use Rattle.bucket_levels.specs.bucket_core.File.{file_of}
-use Rattle.bucket_levels.specs.Pairs.{Pair}
-use Rattle.bucket_levels.specs.Size.{file_total, pair_size}
-use Rattle.close_rules.specs.State.{ClosingState, IsClosingState, IsSpelled, max_file_total}
-use Rattle.close_rules.specs.EntryRules.{IsFirstBroken, entry_rules}
-use Rattle.close_rules.specs.Images.{header_in, read_whole, AreFieldsInRange, HasHeader, HasEntries, AreFilesOf}
-use Rattle.close_laws.specs.Images.{IsImageOf, ImagesStandForStates}
+use Rattle.close_rules.specs.Images.{read_complete}
 use Rattle.close_laws.proofs.Short.{longer}
 use Rattle.close_laws.proofs.ShortHeaders.{header_short}
 
 -- ---- the header
 
-header_again : (h : LedgerHeader) → IsSpelled ledger_header h → header_in (ledger_header.spell h) ≡ Some h
+header_again : (h : LedgerHeader) → IsEncoded ledger_header h → header_in (ledger_header.encoding h) ≡ Some h
 unfolding header_in
-header_again h spelled =
-    ap (λ (bytes : List ℕ). read_whole (ledger_header.read (start_of bytes))) (sym (append-nil (ledger_header.spell h)))
-    ∙ ap read_whole (ledger_header_laws.lawful.again 0 h [] spelled.within spelled.sized)
+header_again h encoded =
+    ap (λ (bytes : List ℕ). read_complete (ledger_header.read (start_of bytes))) (sym (append-nil (ledger_header.encoding h)))
+    ∙ ap read_complete (ledger_header_laws.lawful.again 0 h [] encoded.within encoded.sized)
 
 fields_in_range : (h : LedgerHeader) → IsHeaderInRange h → AreFieldsInRange h
 fields_in_range h range = record {
@@ -104,11 +91,11 @@ none_broken : (h : LedgerHeader) (m : EntryMap) → IsLegal h m → IsFirstBroke
 none_broken h m legal = (
   record { entries = legal.entries; authorized = legal.authorized },
   (
-    record { standing = legal.standing; offers = legal.offers },
+    record { existing = legal.existing; offers = legal.offers },
     (
       record { selling = legal.selling; buying = legal.buying },
       (
-        record { booked = legal.subentries; few = legal.few },
+        record { aggregated = legal.subentries; few = legal.few },
         (
           record { sponsoring = legal.sponsoring; sponsored = legal.sponsored; fits = legal.fits },
           (
@@ -135,11 +122,11 @@ has_entries s image state is = record {
   };
   marks = state.marked;
   hash = state.hash;
-  standing = state.standing;
+  existing = state.existing;
 }
 
-pub images_stand_for_states : ImagesStandForStates
-images_stand_for_states s image state is = (
+pub images_represent_states : ImagesRepresentStates
+images_represent_states s image state is = (
   is_within s image state is,
   (s.header, s.levels, s.entries, has_entries s image state is, none_broken s.header s.entries state.legal, refl),
 )

@@ -1,12 +1,8 @@
--- What operations that trade leave and answer, step by step: what they tell stands in entries, so that both are shown
+-- What operations that trade leave and answer, step by step: what they report is in entries, so that both are shown
 -- together.
-use Rattle.std.proofs.Common.{◌≡◌, refl, [], ◌∷◌, Some, None, Result, Ok, Err, Bool, true, false}
-use Rattle.std.proofs.Common.{if◌then◌else◌}
-use Rattle.close_rules.specs.op_types.declared.operation_result.OperationResult.{OperationResult}
-use Rattle.bucket_levels.specs.entry_map.EntryMap.{EntryMap}
-use Rattle.close_rules.specs.entry_slots.Tests.{Tests, first_fault}
-use Rattle.close_rules.specs.op_form.Done.{Attempt}
-use Rattle.close_rules.specs.op_form.Steps.{unless_result, unless_refused, after_step}
+use Rattle.close_laws.proofs.Prelude.{◌≡◌, refl, [], ◌∷◌, Some, None, Result, Ok, Err, Bool, true, false, if◌then◌else◌}
+use Rattle.close_laws.proofs.Prelude.{OperationResult, EntryMap, Tests, first_fault, Attempt, unless_result}
+use Rattle.close_laws.proofs.Prelude.{unless_refused, after_step}
 use Rattle.close_laws.proofs.AnswerSteps.{IsAnswer, Answers, IsDone, AllAnswer}
 use Rattle.close_laws.proofs.Bytes.{AreBytes}
 use Rattle.close_laws.proofs.BytesMaps.{AreBytesIf}
@@ -20,12 +16,12 @@ pub record IsTraded (attempt : Attempt) : Type 0 where
 pub refused : (result : OperationResult) → IsAnswer result → IsTraded (Err result)
 refused result answers = record { leaves = record { gives = tt }; answers = record { ends = answers } }
 
--- behind tests that find nothing
-pub traded_behind : (tests : Tests OperationResult) (next : Attempt) → AllAnswer tests
+-- after tests that find nothing
+pub traded_past : (tests : Tests OperationResult) (next : Attempt) → AllAnswer tests
     → (first_fault tests ≡ None → IsTraded next) → IsTraded (unless_refused tests next)
-traded_behind [] next all holds = holds refl
-traded_behind (test ∷ others) next all holds =
-    either test.0 all.0 holds (traded_behind others next all.1)
+traded_past [] next all holds = holds refl
+traded_past (test ∷ others) next all holds =
+    either test.0 all.0 holds (traded_past others next all.1)
   where
     either : (b : Bool) → IsAnswer test.1
         → ((if b then Some test.1 else first_fault others) ≡ None → IsTraded next)
@@ -34,7 +30,7 @@ traded_behind (test ∷ others) next all holds =
     either true here holds rest = refused test.1 here
     either false here holds rest = rest holds
 
--- behind a change of the map
+-- after a change of the map
 pub traded_after : {F : Type 0} (made : Result EntryMap F) (answers : F → OperationResult) (next : EntryMap → Attempt)
     → AreBytesIf made → ((fault : F) → IsAnswer (answers fault))
     → ((m : EntryMap) → made ≡ Ok m → AreBytes m → IsTraded (next m)) → IsTraded (after_step made answers next)

@@ -1,37 +1,22 @@
 -- What operations on trust lines and their flags answer keeps the bounds on lengths.
-use Rattle.std.proofs.Common.{[], ◌∷◌, ℕ, Option, Some, None, ℤ, pos, not, Bool, true, false}
-use Rattle.std.specs.Prelude.{is_some}
-use Rattle.std.specs.Ordering.{int_eq}
-use Rattle.close_rules.specs.ledger_types.declared.ids.AccountId.{AccountId}
-use Rattle.close_rules.specs.ledger_types.declared.account.AccountEntry.{AccountEntry}
-use Rattle.close_rules.specs.ledger_types.declared.asset.Asset.{Asset}
+use Rattle.close_laws.proofs.Prelude as prelude
+use prelude.{[], ◌∷◌, ℕ, Option, Some, None, not, Bool, true, false, is_some, int_eq, AccountId, AccountEntry, Asset}
+use prelude.{ChangeTrustAsset, TrustLineEntry, AllowTrustOp, ChangeTrustOp, SetTrustLineFlagsOp, OperationResult}
+use prelude.{allow_trust_result, set_trust_line_flags_result, operation_result_tr, operation_result, EntryMap}
+use prelude.{account_at, use_count, Ctx, map_after_adding, issuer_at, line_of_asset, trust_in, change_trust}
+use Rattle.std.proofs.Common.{ℤ, pos}
 use Rattle.close_rules.specs.ledger_types.declared.asset.Asset.TheVariants as asset
-use Rattle.close_rules.specs.ledger_types.declared.asset.ChangeTrustAsset.{ChangeTrustAsset}
 use Rattle.close_rules.specs.ledger_types.declared.asset.ChangeTrustAsset.TheVariants as asked
-use Rattle.close_rules.specs.ledger_types.declared.trust_line.TrustLineEntry.{TrustLineEntry}
-use Rattle.close_rules.specs.op_types.declared.trust_ops.AllowTrustOp.{AllowTrustOp}
-use Rattle.close_rules.specs.op_types.declared.trust_ops.ChangeTrustOp.{ChangeTrustOp}
-use Rattle.close_rules.specs.op_types.declared.trust_ops.SetTrustLineFlagsOp.{SetTrustLineFlagsOp}
-use Rattle.close_rules.specs.op_types.declared.operation_result.OperationResult.{OperationResult}
 use Rattle.close_rules.specs.op_types.declared.operation_result.OperationResult.TheVariants as operation
 use Rattle.close_rules.specs.op_types.declared.trust_results.AllowTrustResult.{AllowTrustResult}
 use Rattle.close_rules.specs.op_types.declared.trust_results.AllowTrustResult.TheVariants as allow
 use Rattle.close_rules.specs.op_types.declared.trust_results.ChangeTrustResult.TheVariants as trust
 use Rattle.close_rules.specs.op_types.declared.trust_results.SetTrustLineFlagsResult.{SetTrustLineFlagsResult}
 use Rattle.close_rules.specs.op_types.declared.trust_results.SetTrustLineFlagsResult.TheVariants as set
-use Rattle.close_rules.specs.xdr_results.Answers.{allow_trust_result, set_trust_line_flags_result}
-use Rattle.close_rules.specs.xdr_results.Results.{operation_result_tr, operation_result}
-use Rattle.bucket_levels.specs.entry_map.EntryMap.{EntryMap}
-use Rattle.close_rules.specs.entry_slots.Accounts.{account_at}
-use Rattle.close_rules.specs.entry_slots.LineExtensions.{use_count}
-use Rattle.close_rules.specs.sponsor_rules.declared.context.Ctx.{Ctx}
-use Rattle.close_rules.specs.sponsor_rules.Adding.{map_after_adding}
-use Rattle.close_rules.specs.op_form.Assets.{issuer_at, line_of_asset}
 use Rattle.close_rules.specs.op_flags.AllowTrust as allowing
 use Rattle.close_rules.specs.op_flags.LineFlags as flagged
 use Rattle.close_rules.specs.op_flags.SetTrustLineFlags as setting
 use Rattle.close_rules.specs.op_trust.ChangeTrust as trusting
-use Rattle.close_rules.specs.op_trust.Operations.{trust_in, change_trust}
 use Rattle.close_laws.proofs.AnswerSteps.{IsAnswer, no_account, Answers, Any, IsDone, first_answers, some_answers}
 use Rattle.close_laws.proofs.AnswerSteps.{charge_answers, step_answers, either_answers}
 use Rattle.close_laws.proofs.RevokedAnswers.{revoked_answers}

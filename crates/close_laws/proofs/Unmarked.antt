@@ -1,21 +1,11 @@
 -- Maps whose entries agree at each key, but for the ledgers of their last changes, have the same sums.
-use Rattle.std.proofs.Common.{◌≡◌, ℕ, refl, sym, ap, subst, ◌∙◌, Bool, true, false, inl, inr, ◌&&◌, T, cond, [], ◌∷◌}
-use Rattle.std.proofs.Common.{Option, Some, None}
-use Rattle.std.specs.Prelude.{◌+ℤ◌}
-use Rattle.std.specs.Ordering.{is_lt, eq_by_cmp}
-use Rattle.std.specs.FinMap.{get, entries, entries_sorted, from_sorted, entries-from_sorted, get-from_sorted}
-use Rattle.std.specs.FinMap.{get-entries}
-use Rattle.std.specs.FinMap.{same_map}
+use Rattle.close_laws.proofs.Prelude.{◌≡◌, ℕ, refl, sym, ap, subst, ◌∙◌, Bool, true, false, inl, inr, ◌&&◌, T, cond, []}
+use Rattle.close_laws.proofs.Prelude.{◌∷◌, Option, Some, None, ◌+ℤ◌, is_lt, eq_by_cmp, get, entries, entries_sorted}
+use Rattle.close_laws.proofs.Prelude.{from_sorted, entries-from_sorted, get-from_sorted, get-entries, same_map}
+use Rattle.close_laws.proofs.Prelude.{LedgerEntry, LedgerKey, key_cmp, keys_total, keys_exact, EntryMap, parts_of}
+use Rattle.close_laws.proofs.Prelude.{Weight, sum_over, total, stamped, IsNextAt, AreNextEntries}
 use Rattle.std.specs.FinMap.Entries.{find, is_sorted, below_all}
-use Rattle.close_rules.specs.ledger_types.declared.entry.LedgerEntry.{LedgerEntry}
-use Rattle.close_rules.specs.ledger_types.declared.key.LedgerKey.{LedgerKey}
-use Rattle.close_rules.specs.ledger_types.KeyOrder.{key_cmp}
-use Rattle.close_rules.proofs.ledger_types_proofs.KeyOrdering.{keys_total, keys_exact}
-use Rattle.bucket_levels.specs.entry_map.EntryMap.{EntryMap}
-use Rattle.bucket_levels.specs.entry_map.Batch.{parts_of}
-use Rattle.close_rules.specs.entry_sums.Sums.{Weight, sum_over, total}
 use Rattle.close_rules.proofs.entry_sums_proofs.Lists.{Pairs}
-use Rattle.close_rules.specs.entry_changes.Next.{stamped, IsNextAt, AreNextEntries}
 
 -- ---- alike
 
@@ -39,25 +29,25 @@ alike_next seq (Some was) (Some e) after is =
       | inr h ↦ subst (AreAlike (Some e)) (sym h.1) refl
     ]
 
--- the entries behind a close are those that its transactions left
+-- the entries after a close are those that its transactions left
 pub next_alike : (seq : ℕ) (before worked after : EntryMap) → AreNextEntries seq before worked after
     → AreMapsAlike worked after
 next_alike seq before worked after next k =
     alike_next seq (get before k) (get worked k) (get after k) (next.each k)
 
--- what stands behind stood before
-pub stood : (was now : Option LedgerEntry) (e : LedgerEntry) → AreAlike was now → now ≡ Some e
+-- what exists after existed before
+pub existed : (was now : Option LedgerEntry) (e : LedgerEntry) → AreAlike was now → now ≡ Some e
     → (x : LedgerEntry) × (was ≡ Some x) × (parts_of x ≡ parts_of e)
-stood None None e alike is = absurd (none_is is)
+existed None None e alike is = absurd (none_is is)
   where
     none_is : None ≡ Some e → ⊥
     none_is h = absurd (cc)
-stood (Some a) (Some b) e alike is = (a, refl, alike ∙ ap parts_of (some_is is))
+existed (Some a) (Some b) e alike is = (a, refl, alike ∙ ap parts_of (some_is is))
   where
     some_is : Some b ≡ Some e → b ≡ e
     some_is h = cc
-stood None (Some b) e alike is = absurd alike
-stood (Some a) None e alike is = absurd alike
+existed None (Some b) e alike is = absurd alike
+existed (Some a) None e alike is = absurd alike
 
 -- ---- entries without the ledgers of their last changes
 

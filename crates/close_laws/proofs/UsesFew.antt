@@ -1,45 +1,24 @@
 -- Few pools use a line: each line of pool shares counts twice as a subentry of its account.
-use Rattle.std.proofs.Common.{◌≡◌, refl, ap, ◌∙◌, ℕ, ◌≤◌, length, Bool, true, false, Option, Some, None, arith}
-use Rattle.std.proofs.lemmas.Int.{ints}
-use Rattle.std.specs.Prelude.{ℤ, pos, ◌+ℤ◌, ◌≤ℤ◌, if◌then◌else◌}
-use Rattle.std.specs.FinMap.{get}
-use Rattle.close_rules.specs.ledger_types.declared.ids.AccountId.{AccountId}
-use Rattle.close_rules.specs.ledger_types.declared.asset.Asset.{Asset}
+use Rattle.close_laws.proofs.Prelude as prelude
+use prelude.{◌≡◌, refl, ap, ◌∙◌, ℕ, ◌≤◌, length, Bool, true, false, Option, Some, None, arith, ints, ℤ, pos, ◌+ℤ◌, ◌≤ℤ◌}
+use prelude.{get, AccountId, Asset, PoolParams, TrustLineAsset, LedgerHeader, LedgerEntry, LedgerEntryBody, LedgerKey}
+use prelude.{EntryMap, same_itself, total_at_most, line_multiplicity, owner_of, is_same_account, Subentries, Uses}
+use prelude.{counted, stated, stated_at, AreSubentriesFew, is_key, for_key, for_account, view, IsLegal, Pools}
+use prelude.{needed_line, uses_of, uses_by, uses, subentries_in, apart_keys, indicator_at_most_one}
+use Rattle.std.specs.Prelude.{if◌then◌else◌}
 use Rattle.close_rules.specs.ledger_types.declared.asset.Asset.TheVariants as asset
-use Rattle.close_rules.specs.ledger_types.declared.asset.PoolParams.{PoolParams}
-use Rattle.close_rules.specs.ledger_types.declared.asset.TrustLineAsset.{TrustLineAsset}
 use Rattle.close_rules.specs.ledger_types.declared.asset.TrustLineAsset.TheVariants as line
-use Rattle.close_rules.specs.ledger_types.declared.header.LedgerHeader.{LedgerHeader}
-use Rattle.close_rules.specs.ledger_types.declared.entry.LedgerEntry.{LedgerEntry}
-use Rattle.close_rules.specs.ledger_types.declared.entry.LedgerEntryBody.{LedgerEntryBody}
 use Rattle.close_rules.specs.ledger_types.declared.entry.LedgerEntryBody.TheVariants as body
-use Rattle.close_rules.specs.ledger_types.declared.key.LedgerKey.{LedgerKey}
 use Rattle.close_rules.specs.ledger_types.declared.key.LedgerKey.TheVariants as key
-use Rattle.bucket_levels.specs.entry_map.EntryMap.{EntryMap}
-use Rattle.bucket_levels.proofs.entry_map_proofs.KeyMaps.{same_itself}
-use Rattle.close_rules.proofs.entry_sums_proofs.Lookups.{apart_keys}
-use Rattle.close_rules.proofs.entry_sums_proofs.Summing.{total_at_most}
-use Rattle.close_rules.specs.sponsor_rules.Charge.{line_multiplicity, owner_of}
-use Rattle.close_rules.specs.sponsor_rules.Payers.{is_same_account}
-use Rattle.close_rules.specs.legal_rules.Books.{Subentries, Uses, counted, stated, stated_at}
-use Rattle.close_rules.specs.legal_rules.Bounds.{AreSubentriesFew}
-use Rattle.close_rules.specs.legal_rules.EntryKeys.{is_key, for_key, for_account}
-use Rattle.close_rules.specs.legal_rules.Legal.{view, IsLegal}
-use Rattle.close_rules.specs.legal_rules.PoolShares.{Pools, needed_line, uses_of, uses_by, uses}
-use Rattle.close_rules.specs.legal_rules.Reserves.{subentries_in}
 
 -- ---- what one line of pool shares counts
 
-one_at_most : (b : Bool) → (if b then pos 1 else pos 0) ≤ℤ pos 1
-one_at_most true = omega (arith, ints)
-one_at_most false = omega (arith, ints)
+for_key_at_most_one : (k : LedgerKey) (o : Option LedgerKey) → for_key k o (pos 1) ≤ℤ pos 1
+for_key_at_most_one k None = omega (arith, ints)
+for_key_at_most_one k (Some named) = indicator_at_most_one (is_key named k)
 
-once : (k : LedgerKey) (o : Option LedgerKey) → for_key k o (pos 1) ≤ℤ pos 1
-once k None = omega (arith, ints)
-once k (Some named) = one_at_most (is_key named k)
-
-twice : (x y : ℤ) → x ≤ℤ pos 1 → y ≤ℤ pos 1 → (x +ℤ y) ≤ℤ pos 2
-twice x y first second = omega (arith, ints)
+sum_at_most_two : (x y : ℤ) → x ≤ℤ pos 1 → y ≤ℤ pos 1 → (x +ℤ y) ≤ℤ pos 2
+sum_at_most_two x y first second = omega (arith, ints)
 
 neither : (x y : ℤ) → x ≤ℤ pos 0 → y ≤ℤ pos 0 → (x +ℤ y) ≤ℤ pos 0
 neither x y first second = omega (arith, ints)
@@ -79,8 +58,8 @@ by_params : (id other : AccountId) (held : TrustLineAsset) (params : Option Pool
     → uses_of (key.TrustLine id held) other params ≤ℤ (if b then pos 2 else pos 0)
 by_params id other held None b is = least b 2
 by_params id other held (Some params) true is =
-    twice _ _ (once (key.TrustLine id held) (needed_line other params.asset_a))
-    (once (key.TrustLine id held) (needed_line other params.asset_b))
+    sum_at_most_two _ _ (for_key_at_most_one (key.TrustLine id held) (needed_line other params.asset_a))
+    (for_key_at_most_one (key.TrustLine id held) (needed_line other params.asset_b))
 by_params id other held (Some params) false is =
     neither _ _ (not_needed id other held is params.asset_a) (not_needed id other held is params.asset_b)
 

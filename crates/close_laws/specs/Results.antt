@@ -6,6 +6,6 @@ use Rattle.close_rules.specs.Close.{applied_in, result_set}
 use Rattle.close_laws.specs.Legal.{IsClosable}
 
 -- the results of a set keep the bounds on lengths
-abbrev pub ResultsAreSpelled : Type 0
-ResultsAreSpelled = (s : ClosingState) (closing : CloseRecord) → IsClosable s closing
+abbrev pub ResultsAreEncoded : Type 0
+ResultsAreEncoded = (s : ClosingState) (closing : CloseRecord) → IsClosable s closing
     → transaction_result_set.within (result_set (applied_in s closing).results)

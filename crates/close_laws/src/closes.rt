@@ -1,8 +1,8 @@
-//! Laws of whole closes.
+//! Laws of complete closes.
 
 ghost use Rattle.close_laws.specs.Closes as spec;
 
-use bucket_levels::steps_stand;
+use bucket_levels::steps_represent;
 use close_rules::op_laws::steps::{legal_settles, settled_legal, transaction_laws};
 use close_rules::tx_apply::sets_conserve;
 
@@ -19,7 +19,7 @@ pub fn next_is_closing()
     legal_settles();
     settled_legal();
     sets_conserve();
-    steps_stand();
+    steps_represent();
 }
 
 /// A close has one answer.

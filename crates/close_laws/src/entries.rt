@@ -1,4 +1,4 @@
-//! Laws of the entries behind a close.
+//! Laws of the entries after a close.
 
 ghost use Rattle.close_laws.specs.Legal as legal;
 
@@ -14,8 +14,8 @@ pub fn next_is_legal()
 }
 
 /// What a close leaves can be written.
-pub fn entries_stay_spellable()
-    ensures { legal.EntriesStaySpellable }
+pub fn entries_stay_encodable()
+    ensures { legal.EntriesStayEncodable }
 {
     transaction_laws();
     legal_settles();

@@ -7,7 +7,7 @@ pub fn images_are_one()
     ensures { spec.ImagesAreOne }
 {}
 
-/// The image of a ledger's state can be written, and stands for that state.
-pub fn images_stand_for_states()
-    ensures { spec.ImagesStandForStates }
+/// The image of a ledger's state can be written, and represents that state.
+pub fn images_represent_states()
+    ensures { spec.ImagesRepresentStates }
 {}

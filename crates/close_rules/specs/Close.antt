@@ -1,4 +1,4 @@
--- What a close does to the state behind a ledger (LedgerManagerImpl::closeLedger in stellar-core).
+-- What a close does to the state after a ledger (LedgerManagerImpl::closeLedger in stellar-core).
 use Rattle.std.specs.Prelude.{◌≡◌, ℕ, ◌+◌, ◌<◌, ◌≤◌, List, map, Some, None, Result, Ok, Err}
 use Rattle.ledger_types.specs.declared.header.LedgerHeader.{LedgerHeader}
 use Rattle.tx_apply.specs.op_types.declared.transaction_result.TransactionResultPair.{TransactionResultPair}
@@ -21,7 +21,7 @@ use Rattle.bucket_levels.specs.Size.{file_total}
 use Rattle.close_rules.specs.State.{ClosingState, max_file_total}
 use Rattle.close_rules.specs.Refusals.{record_in, record_fault}
 
--- the results of a set, in the order in which its transactions were applied, and the state behind the close
+-- the results of a set, in the order in which its transactions were applied, and the state after the close
 pub record PreparedClose : Type 0 where
   pub results : List TransactionResultPair
   pub state : ClosingState
@@ -57,7 +57,7 @@ upgraded_header s closing = all_upgraded (filled_header s closing) (map upgrade_
 
 -- ---- the close
 
--- the bucket of what changed tells the version of the new header
+-- the bucket of what changed states the version of the new header
 pub record IsFreshOf (version : ℕ) (s : ClosingState) (next : ClosingState) (fresh : Contents) : Type 0 where
   pub meta : version_of fresh ≡ Some version
   pub changes : IsFresh s.entries next.entries fresh
@@ -70,7 +70,7 @@ pub record IsClosedOver (Step : (seq : ℕ) → (fresh : Contents) → (old new 
   pub entries : AreNextEntries (s.header.ledger_seq + 1) s.entries (applied_in s closing).entries closed.state.entries
   -- the bucket of what changed goes into the levels
   pub fresh : Contents
-  pub told : IsFreshOf (upgraded_header s closing).ledger_version s closed.state fresh
+  pub recorded : IsFreshOf (upgraded_header s closing).ledger_version s closed.state fresh
   pub levels : Step (s.header.ledger_seq + 1) fresh s.levels closed.state.levels
   -- and last the header takes the hash of the levels
   pub header : closed.state.header ≡ finished (upgraded_header s closing) (list_hash closed.state.levels)
@@ -98,7 +98,7 @@ abbrev pub IsRefused : ClosingState → List ℕ → CloseFault → Type 0
 IsRefused s bytes wrong =
     (closing : CloseRecord) × (record_in bytes ≡ Ok closing) × (record_fault s closing ≡ Some wrong)
 
--- Bytes that are no record are told first, then what a record is refused for, and last levels that are too long.
+-- Bytes that are no record are reported first, then what a record is refused for, and last levels that are too long.
 abbrev pub IsClose : ClosingState → List ℕ → Result PreparedClose CloseFault → Type 0
 IsClose s bytes (Ok closed) = (total : ℕ) × ClosesWith s bytes closed total × (total ≤ max_file_total)
 IsClose s bytes (Err (fault.BadXdr at kind)) = record_in bytes ≡ Err (record { at = at; kind = kind })

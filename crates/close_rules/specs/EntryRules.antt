@@ -6,14 +6,14 @@ use Rattle.ledger_types.specs.declared.asset.Asset.TheVariants as asset
 use Rattle.ledger_types.specs.declared.header.LedgerHeader.{LedgerHeader}
 use Rattle.bucket_levels.specs.entry_map.EntryMap.{EntryMap}
 use Rattle.entry_changes.specs.entry_sums.Sums.{total, EachEntry}
-use Rattle.tx_apply.specs.legal_rules.Books.{Subentries, Sponsoring, Sponsored, Selling, Buying, Shares, ShareLines}
-use Rattle.tx_apply.specs.legal_rules.Books.{Uses}
+use Rattle.tx_apply.specs.legal_rules.Aggregates.{Subentries, Sponsoring, Sponsored, Selling, Buying, Shares, ShareLines}
+use Rattle.tx_apply.specs.legal_rules.Aggregates.{Uses}
 use Rattle.tx_apply.specs.legal_rules.Supply.{held}
 use Rattle.tx_apply.specs.legal_rules.OfferIds.{AreOffersApart}
 use Rattle.tx_apply.specs.legal_rules.Needs.{needed_keys}
 use Rattle.tx_apply.specs.legal_rules.Bounds.{AreSubentriesFew, DoReservesFit, IsFilledOrEmpty}
 use Rattle.tx_apply.specs.legal_rules.Ranges.{IsEntryInRange}
-use Rattle.tx_apply.specs.legal_rules.Legal.{pools_in, IsBooked, AreLinesAuthorized}
+use Rattle.tx_apply.specs.legal_rules.Legal.{pools_in, IsAggregated, AreLinesAuthorized}
 use Rattle.close_rules.specs.declared.image_fault.ImageRule.{ImageRule}
 use Rattle.close_rules.specs.declared.image_fault.ImageRule.TheVariants as rule
 
@@ -22,32 +22,32 @@ pub record AreInRange (h : LedgerHeader) (m : EntryMap) : Type 0 where
   pub entries : EachEntry (λ k e. IsEntryInRange h.id_pool e) m
   pub authorized : EachEntry (λ k e. AreLinesAuthorized m e.body) m
 
--- 8: owners, sponsors, pools and lines stand
+-- 8: owners, sponsors, pools and lines exist
 pub record AreOwned (m : EntryMap) : Type 0 where
-  pub standing : EachEntry (λ k e. All (λ q. get m q ≢ None) (needed_keys (pools_in m) e)) m
+  pub existing : EachEntry (λ k e. All (λ q. get m q ≢ None) (needed_keys (pools_in m) e)) m
   pub offers : AreOffersApart m
 
 -- 9: liabilities are those of the offers; that they lie within balance, room and limit is for the seventh
 pub record AreLiable (m : EntryMap) : Type 0 where
-  pub selling : IsBooked Selling m
-  pub buying : IsBooked Buying m
+  pub selling : IsAggregated Selling m
+  pub buying : IsAggregated Buying m
 
 -- 10: the subentries of each account are counted, and few
 pub record AreSubentriesCounted (m : EntryMap) : Type 0 where
-  pub booked : IsBooked Subentries m
+  pub aggregated : IsAggregated Subentries m
   pub few : EachEntry (λ k e. AreSubentriesFew e.body) m
 
 -- 11: reserves that one account pays for another are counted with both of them, and fit 32 bits beside the subentries
 pub record AreSponsorsCounted (m : EntryMap) : Type 0 where
-  pub sponsoring : IsBooked Sponsoring m
-  pub sponsored : IsBooked Sponsored m
+  pub sponsoring : IsAggregated Sponsoring m
+  pub sponsored : IsAggregated Sponsored m
   pub fits : EachEntry (λ k e. DoReservesFit e.body) m
 
 -- 12: shares, lines of shares and uses of lines are counted, and each pool is filled or empty
 pub record ArePoolsCounted (m : EntryMap) : Type 0 where
-  pub shares : IsBooked Shares m
-  pub share_lines : IsBooked ShareLines m
-  pub uses : IsBooked Uses m
+  pub shares : IsAggregated Shares m
+  pub share_lines : IsAggregated ShareLines m
+  pub uses : IsAggregated Uses m
   pub filled : EachEntry (λ k e. IsFilledOrEmpty e.body) m
 
 -- 13: the lumens of all entries and those of the fee pool are all that the header has

@@ -1,11 +1,11 @@
--- The state that a start image stands for, or the first rule that the image breaks.
+-- The state that a start image represents, or the first rule that the image breaks.
 use Rattle.std.specs.Prelude.{◌≡◌, ◌≢◌, ℕ, ◌*◌, ◌^◌, ◌≤◌, pos, ◌≤ℤ◌, List, [], ◌∷◌, length, All, Option, Some}
 use Rattle.std.specs.Prelude.{None, Result, Ok, Err}
 use Rattle.std.specs.List.{flat_map}
 use Rattle.ledger_types.specs.declared.ids.Hash.{Hash}
 use Rattle.ledger_types.specs.declared.header.LedgerHeader.{LedgerHeader}
 use Rattle.xdr_core.specs.declared.fault.XdrFault.{XdrFault}
-use Rattle.xdr_core.specs.Place.{Reading, start_of}
+use Rattle.xdr_core.specs.Position.{Reading, start_of}
 use Rattle.header_chain.specs.xdr_header.declared.image.StartImage.{StartImage}
 use Rattle.header_chain.specs.xdr_header.Header.{ledger_header}
 use Rattle.bucket_levels.specs.entry_map.EntryMap.{EntryMap}
@@ -15,7 +15,7 @@ use Rattle.bucket_levels.specs.bucket_core.File.{file_of, HasFile}
 use Rattle.bucket_levels.specs.Spills.{level_count}
 use Rattle.bucket_levels.specs.Pairs.{Pair}
 use Rattle.bucket_levels.specs.Size.{file_total}
-use Rattle.bucket_levels.specs.Meaning.{StandFor, AreWellMarked}
+use Rattle.bucket_levels.specs.Meaning.{Represent, AreWellMarked}
 use Rattle.bucket_levels.specs.Hash.{list_hash}
 use Rattle.close_rules.specs.declared.image_fault.ImageFault.{ImageFault}
 use Rattle.close_rules.specs.declared.image_fault.ImageFault.TheVariants as fault
@@ -26,18 +26,18 @@ use Rattle.close_rules.specs.EntryRules.{entry_rules, IsFirstBroken}
 
 -- ---- the header
 
--- a header behind which no byte is left
-abbrev pub if_whole : LedgerHeader → List ℕ → Option LedgerHeader
-if_whole header [] = Some header
-if_whole header (byte ∷ rest) = None
+-- a header after which no byte is left
+abbrev pub if_complete : LedgerHeader → List ℕ → Option LedgerHeader
+if_complete header [] = Some header
+if_complete header (byte ∷ rest) = None
 
-abbrev pub read_whole : Reading XdrFault LedgerHeader → Option LedgerHeader
-read_whole (Ok x) = if_whole x.0 x.1.rest
-read_whole (Err wrong) = None
+abbrev pub read_complete : Reading XdrFault LedgerHeader → Option LedgerHeader
+read_complete (Ok x) = if_complete x.0 x.1.rest
+read_complete (Err wrong) = None
 
--- 1: the header that bytes spell, if they spell one and no more
+-- 1: the header that bytes encode, if they encode one and no more
 unfoldable pub header_in : List ℕ → Option LedgerHeader
-header_in bytes = read_whole (ledger_header.read (start_of bytes))
+header_in bytes = read_complete (ledger_header.read (start_of bytes))
 
 -- 3: all but the version, which is a rule of its own
 pub record AreFieldsInRange (h : LedgerHeader) : Type 0 where
@@ -76,14 +76,14 @@ pub record HasLevels (image : StartImage) (h : LedgerHeader) (levels : List Pair
   pub header : HasHeader image h
   pub files : HasFiles image levels
 
--- the first six, and the entries that the levels stand for
+-- the first six, and the entries that the levels represent
 pub record HasEntries (image : StartImage) (h : LedgerHeader) (levels : List Pair) (m : EntryMap) : Type 0 where
   pub files : HasLevels image h levels
   pub marks : AreWellMarked levels
   pub hash : list_hash levels ≡ h.bucket_list_hash
-  pub standing : StandFor levels m
+  pub existing : Represent levels m
 
--- the state behind the ledger of an image
+-- the state after the ledger of an image
 abbrev pub state_of : Hash → LedgerHeader → List Pair → EntryMap → ClosingState
 state_of network h levels m = record { network = network; header = h; entries = m; levels = levels }
 
@@ -115,7 +115,7 @@ BreaksEntries image broken =
     (h : LedgerHeader) × (levels : List Pair) × (m : EntryMap) × HasEntries image h levels m
     × IsFirstBroken h m entry_rules broken
 
--- the state that an image stands for, or why there is none: the first rule that is broken
+-- the state that an image represents, or why there is none: the first rule that is broken
 abbrev pub IsJudged : Hash → StartImage → Result ClosingState ImageFault → Type 0
 IsJudged network image (Ok s) =
     (h : LedgerHeader) × (levels : List Pair) × (m : EntryMap) × HasEntries image h levels m

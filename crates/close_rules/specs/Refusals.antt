@@ -7,30 +7,30 @@ use Rattle.std.specs.Str.{bytes_eq}
 use Rattle.ledger_types.specs.declared.ids.Hash.{Hash}
 use Rattle.xdr_core.specs.declared.fault.XdrFault.{XdrFault}
 use Rattle.xdr_core.specs.declared.fault.XdrKind.TheVariants.{Trailing}
-use Rattle.xdr_core.specs.Place.{Place, start_of, fault_at, ◌>>=◌}
+use Rattle.xdr_core.specs.Position.{Position, start_of, fault_at, ◌>>=◌}
 use Rattle.header_chain.specs.xdr_header.declared.record.CloseRecord.{CloseRecord}
 use Rattle.header_chain.specs.xdr_header.Records.{close_record}
 use Rattle.tx_apply.specs.value_hashes.Hashes.{ledger_hash_of}
 use Rattle.tx_apply.specs.entry_slots.Tests.{Tests, first_fault}
 use Rattle.tx_apply.specs.fee_rules.SetHash.{hash_of_set}
 use Rattle.tx_apply.specs.op_form.Sequences.{last_seq}
-use Rattle.header_chain.specs.Upgrades.{upgrade_in, first_place, is_bad_at, is_out_of_profile}
-use Rattle.tx_apply.specs.Set.{missing_place}
+use Rattle.header_chain.specs.Upgrades.{upgrade_in, first_index, is_bad_at, is_out_of_profile}
+use Rattle.tx_apply.specs.Set.{missing_index}
 use Rattle.close_rules.specs.declared.close_fault.CloseFault.{CloseFault}
 use Rattle.close_rules.specs.declared.close_fault.CloseFault.TheVariants as fault
 use Rattle.close_rules.specs.State.{ClosingState}
 
 -- ---- the record
 
--- a record behind which no byte is left, or the fault at the first byte left over
-abbrev pub ended_by : List ℕ → Place → CloseRecord → Result CloseRecord XdrFault
+-- a record after which no byte is left, or the fault at the first byte left over
+abbrev pub ended_by : List ℕ → Position → CloseRecord → Result CloseRecord XdrFault
 ended_by [] p closing = Ok closing
 ended_by (byte ∷ rest) p closing = Err (fault_at p Trailing)
 
-abbrev pub ended : CloseRecord × Place → Result CloseRecord XdrFault
+abbrev pub ended : CloseRecord × Position → Result CloseRecord XdrFault
 ended x = ended_by x.1.rest x.1 x.0
 
--- the record that bytes spell, and no more, or the first fault
+-- the record that bytes encode, and no more, or the first fault
 unfoldable pub record_in : List ℕ → Result CloseRecord XdrFault
 record_in bytes = close_record.read (start_of bytes) >>= ended
 
@@ -65,7 +65,7 @@ term_fault s closing = first_fault (term_tests s closing)
 
 -- ---- its upgrades
 
--- the place of the first bad upgrade, or else of the first one that isn't made here
+-- the index of the first bad upgrade, or else of the first one that isn't made here
 abbrev pub upgrade_fault_in : ClosingState → (bad out_of_profile : Option ℕ) → Option CloseFault
 upgrade_fault_in s bad out_of_profile =
     option_or (option_map fault.BadUpgrade bad) (option_map fault.UpgradeOutOfProfile out_of_profile)
@@ -73,13 +73,13 @@ upgrade_fault_in s bad out_of_profile =
 unfoldable pub upgrade_fault : ClosingState → CloseRecord → Option CloseFault
 upgrade_fault s closing =
     let asked = map upgrade_in closing.scp_value.upgrades in
-    upgrade_fault_in s (first_place (is_bad_at asked) asked)
-    (first_place (λ i. is_out_of_profile s.header (slice_get asked i)) asked)
+    upgrade_fault_in s (first_index (is_bad_at asked) asked)
+    (first_index (λ i. is_out_of_profile s.header (slice_get asked i)) asked)
 
 -- ---- its set
 
 unfoldable pub set_fault : ClosingState → CloseRecord → Option CloseFault
-set_fault s closing = option_map fault.FeeSourceMissing (missing_place s.entries closing.tx_set)
+set_fault s closing = option_map fault.FeeSourceMissing (missing_index s.entries closing.tx_set)
 
 -- ---- all of these
 

@@ -1,4 +1,4 @@
--- The state behind a closed ledger, from which the next one closes.
+-- The state after a closed ledger, from which the next one closes.
 use Rattle.std.specs.Prelude.{◌≡◌, ℕ, ◌≤◌, List, length}
 use Rattle.ledger_types.specs.declared.ids.Hash.{Hash}
 use Rattle.ledger_types.specs.declared.header.LedgerHeader.{LedgerHeader}
@@ -10,9 +10,9 @@ use Rattle.tx_apply.specs.legal_rules.Legal.{IsLegal}
 use Rattle.bucket_levels.specs.Spills.{level_count}
 use Rattle.bucket_levels.specs.Pairs.{Pair}
 use Rattle.bucket_levels.specs.Size.{file_total}
-use Rattle.bucket_levels.specs.Meaning.{StandFor, AreWellMarked}
+use Rattle.bucket_levels.specs.Meaning.{Represent, AreWellMarked}
 use Rattle.bucket_levels.specs.Hash.{list_hash}
-use Rattle.entry_changes.specs.Spellable.{AreSpellable}
+use Rattle.entry_changes.specs.Encodable.{AreEncodable}
 
 -- the network, the header of the ledger, its entries, and the files of its levels
 pub record ClosingState : Type 0 where
@@ -21,8 +21,8 @@ pub record ClosingState : Type 0 where
   pub entries : EntryMap
   pub levels : List Pair
 
--- a value that has a spelling
-pub record IsSpelled {V : Type 0} (f : Format XdrFault V) (v : V) : Type 0 where
+-- a value that has an encoding
+pub record IsEncoded {V : Type 0} (f : Format XdrFault V) (v : V) : Type 0 where
   pub within : f.within v
   pub sized : f.sized v
 
@@ -30,14 +30,14 @@ pub record IsSpelled {V : Type 0} (f : Format XdrFault V) (v : V) : Type 0 where
 abbrev pub max_file_total : ℕ
 max_file_total = 536870912
 
--- a legal state, and levels that stand for its entries and whose hash its header has
+-- a legal state, and levels that represent its entries and whose hash its header has
 pub record IsClosingState (s : ClosingState) : Type 0 where
   pub legal : IsLegal s.header s.entries
   pub count : length s.levels ≡ level_count
   pub marked : AreWellMarked s.levels
-  pub standing : StandFor s.levels s.entries
+  pub existing : Represent s.levels s.entries
   pub hash : list_hash s.levels ≡ s.header.bucket_list_hash
   -- all of it can be written
-  pub header : IsSpelled ledger_header s.header
-  pub entries : AreSpellable s.entries
+  pub header : IsEncoded ledger_header s.header
+  pub entries : AreEncodable s.entries
   pub files : file_total s.levels ≤ max_file_total

@@ -1,4 +1,4 @@
 //! Bounds on what ledgers can close.
 
-/// The number of the last ledger: none closes behind it.
+/// The number of the last ledger: none closes after it.
 pub const LAST_SEQ: u32 = 2147483647;

@@ -1,14 +1,8 @@
 -- The two forms of an option in words, and what `clap` needs of its value.
-use Rattle.std.proofs.Common.{◌≡◌, ◌≢◌, ap, refl, inl, inr, Bool, true, false, List, [], ◌∷◌, ◌++◌, None}
-use Rattle.std.proofs.Common.{codes, nat_eq}
-use Rattle.std.proofs.lemmas.Bool.{eqb-true}
+use Rattle.command_words.proofs.Prelude.{◌≡◌, ◌≢◌, ap, refl, inl, inr, Bool, true, false, List, [], ◌∷◌, ◌++◌, None}
+use Rattle.command_words.proofs.Prelude.{codes, nat_eq, eqb-true, long_of, short_of, read_as, reading_of, accepts, Text}
+use Rattle.command_words.proofs.Prelude.{ValueParser, IsOption, IsUnhyphened, option_word}
 use Rattle.std.specs.Str.{bytes_eq}
-use Rattle.clap.specs.Lexer.{long_of, short_of}
-use Rattle.clap.specs.Values.{read_as, reading_of}
-use Rattle.clap.specs.ValueTests.{accepts}
-use Rattle.clap.specs.Walk.{Text}
-use Rattle.clap.specs.declared.builder.ValueParser.{ValueParser}
-use Rattle.command_words.specs.Words.{IsOption, IsUnhyphened, option_word}
 
 pub data Form : Type 0 where
   own : Form

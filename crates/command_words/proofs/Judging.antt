@@ -1,11 +1,9 @@
--- What tests of words come to.
-use Rattle.std.proofs.Common.{◌≡◌, ◌≤◌, ◌∙◌, ◌⊎◌, ℕ, arith, ap, sym, subst, inl, inr, List, ◌++◌, length, take, drop}
-use Rattle.std.proofs.Common.{Option, Some, None, MatchOption, is_some, Bool, false, true≢false, IsTrue, Bor}
-use Rattle.std.proofs.lemmas.List.{take-map, drop-map, take-append-drop}
-use Rattle.std.specs.Prelude.{String, string_bytes}
+-- What tests of words yield.
+use Rattle.command_words.proofs.Prelude.{◌≡◌, ◌≤◌, ◌∙◌, ◌⊎◌, ℕ, arith, ap, sym, subst, inl, inr, List, ◌++◌, length}
+use Rattle.command_words.proofs.Prelude.{take, drop, Option, Some, None, MatchOption, is_some, Bool, false, true≢false}
+use Rattle.command_words.proofs.Prelude.{IsTrue, Bor, take-map, drop-map, take-append-drop, String, string_bytes}
+use Rattle.command_words.proofs.Prelude.{IsOption, AreSampleOptions, words_of, AreSeedAndLedgers}
 use Rattle.std.specs.Global.{Global}
-use Rattle.command_words.specs.Words.{IsOption, AreSampleOptions, words_of}
-use Rattle.command_words.specs.Judging.{AreSeedAndLedgers}
 
 pub never_true : {P : Type 0} → (P → ⊥) → (IsTrue false → P) × (P → IsTrue false)
 never_true never = ((λ e. absurd (true≢false (sym e))), (λ p. absurd (never p)))
@@ -24,21 +22,21 @@ pub parts_of : (words one other : List (String Global)) (at : ℕ) → one ≡ t
 parts_of words one other at is is' =
     (ap words_of is ∙ sym (take-map string_bytes at words), ap words_of is' ∙ sym (drop-map string_bytes at words))
 
--- the words are cut behind the first, or behind the second
+-- the words are cut after the first, or after the second
 abbrev CutWhere : (List (List ℕ) → List (List ℕ) → Type 0) → List (List ℕ) → Type 0
 CutWhere P words = ((1 ≤ length words) × P (take 1 words) (drop 1 words))
     ⊎ ((2 ≤ length words) × P (take 2 words) (drop 2 words))
 
 -- an option is one word or two
-cut_behind : (P : List (List ℕ) → List (List ℕ) → Type 0) (name value : List ℕ) (front back words : List (List ℕ))
-    → IsOption name value front → words ≡ front ++ back → P front back → CutWhere P words
-cut_behind P name value front back words (some, inl (is, plain)) e holds =
-    let whole = sym (e ∙ ap (λ ws. ws ++ back) is) in
-    inr (subst (λ ws. (2 ≤ length ws) × P (take 2 ws) (drop 2 ws)) whole
+cut_after : (P : List (List ℕ) → List (List ℕ) → Type 0) (name value : List ℕ) (prefix back words : List (List ℕ))
+    → IsOption name value prefix → words ≡ prefix ++ back → P prefix back → CutWhere P words
+cut_after P name value prefix back words (some, inl (is, plain)) e holds =
+    let entire = sym (e ∙ ap (λ ws. ws ++ back) is) in
+    inr (subst (λ ws. (2 ≤ length ws) × P (take 2 ws) (drop 2 ws)) entire
     (omega arith, subst (λ ws. P ws back) is holds))
-cut_behind P name value front back words (some, inr is) e holds =
-    let whole = sym (e ∙ ap (λ ws. ws ++ back) is) in
-    inl (subst (λ ws. (1 ≤ length ws) × P (take 1 ws) (drop 1 ws)) whole
+cut_after P name value prefix back words (some, inr is) e holds =
+    let entire = sym (e ∙ ap (λ ws. ws ++ back) is) in
+    inl (subst (λ ws. (1 ≤ length ws) × P (take 1 ws) (drop 1 ws)) entire
     (omega arith, subst (λ ws. P ws back) is holds))
 
 weaker : (P Q : List (List ℕ) → List (List ℕ) → Type 0) (words : List (List ℕ))
@@ -59,9 +57,9 @@ cut_options seed ledgers words are =
     let ledgers_in = are.ledgers_option.option in
     elim are.either [
       | inl e ↦ weaker AreSeedAndLedgers AreBoth words (λ one other are. inl are)
-          (cut_behind AreSeedAndLedgers _ _ are.seed_words are.ledgers_words words seed_in e both)
+          (cut_after AreSeedAndLedgers _ _ are.seed_words are.ledgers_words words seed_in e both)
       | inr e ↦ weaker (λ one other. AreSeedAndLedgers other one) AreBoth words (λ one other are. inr are)
-          (cut_behind (λ one other. AreSeedAndLedgers other one) _ _ are.ledgers_words are.seed_words words ledgers_in e
+          (cut_after (λ one other. AreSeedAndLedgers other one) _ _ are.ledgers_words are.seed_words words ledgers_in e
           both)
     ]
 

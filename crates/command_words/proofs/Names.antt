@@ -1,6 +1,5 @@
 -- Which command a name is of.
-use Rattle.std.proofs.Common.{◌≡◌, ℕ, refl, List, codes}
-use Rattle.command_words.specs.Words.{Command, Init, Run, CatchUp, Show, Sample, name_of}
+use Rattle.command_words.proofs.Prelude.{◌≡◌, ℕ, refl, List, codes, Command, Init, Run, CatchUp, Show, Sample, name_of}
 use Rattle.command_words.proofs.Options.{apart}
 
 -- with what holds of the command

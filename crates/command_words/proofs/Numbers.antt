@@ -1,23 +1,16 @@
 -- What `parse` and the parser of `u32` make of texts of digits.
-use Rattle.std.proofs.Common.{◌≡◌, ◌≢◌, ◌<◌, ◌≤◌, ◌^◌, ◌∙◌, ℕ, arith, refl, sym, subst, List, [], ◌∷◌, length}
-use Rattle.std.proofs.Common.{slice_index, get_or, MatchOption, Option, Some, None, Result, Ok, Err, nat_eq, codes}
-use Rattle.std.proofs.Common.{true, false, true≢false}
-use Rattle.std.specs.Prelude.{pos, ◌≤ℤ◌, FitsSigned}
+use Rattle.command_words.proofs.Prelude.{◌≡◌, ◌≢◌, ◌<◌, ◌≤◌, ◌^◌, ◌∙◌, ℕ, arith, refl, sym, subst, List, [], ◌∷◌}
+use Rattle.command_words.proofs.Prelude.{length, slice_index, get_or, MatchOption, Option, Some, None, Result, Ok, Err}
+use Rattle.command_words.proofs.Prelude.{nat_eq, codes, true, false, true≢false, pos, ◌≤ℤ◌, FitsSigned, unwrap_or}
+use Rattle.command_words.proofs.Prelude.{AllDigits, IsNumeral, ParsesUnsigned, digits_value, signed_digits_value}
+use Rattle.command_words.proofs.Prelude.{without_leading_sign, ne_eqb, without_minus, accepts, ReadsOne, any_u32}
 use Rattle.std.specs.Int.{w64}
 use Rattle.std.specs.List.{starts_with}
-use Rattle.std.specs.Option.{unwrap_or}
 use Rattle.std.specs.Result.{OkIff, result_ok}
-use Rattle.std.specs.Str.Parse.{AllDigits, IsNumeral, ParsesUnsigned, digits_value, signed_digits_value}
-use Rattle.std.specs.Str.Parse.{without_leading_sign}
-use Rattle.std.proofs.lemmas.Bool.{ne_eqb}
 use Rattle.std.proofs.lemmas.Int.{ints}
 use Rattle.std.proofs.lemmas.Str.Parse.{IsNumeralModel, numerals_by_value, digit_from_value, tells_digits}
 use Rattle.std.proofs.lemmas.Str.Parse.{digits_value_short, parse_plain, parse_gives}
-use Rattle.clap.specs.Lexer.{without_minus}
-use Rattle.clap.specs.ValueTests.{accepts}
-use Rattle.clap.specs.Words.{ReadsOne}
 use Rattle.clap.proofs.ValueTestLemmas.{Accepts-accepts}
-use Rattle.command_words.specs.Parser.{any_u32}
 
 abbrev digits : IsNumeralModel (AllDigits 10) (digits_value 10)
 digits = numerals_by_value (AllDigits 10) tells_digits

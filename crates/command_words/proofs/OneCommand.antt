@@ -16,15 +16,15 @@ module _ (s l s' l' : ℕ) (options : List (List ℕ)) (a : AreSampleOptions s l
   either_one : (options ≡ a.seed_words ++ a.ledgers_words) ⊎ (options ≡ a.ledgers_words ++ a.seed_words)
       → (options ≡ b.seed_words ++ b.ledgers_words) ⊎ (options ≡ b.ledgers_words ++ b.seed_words) → (s ≡ s') × (l ≡ l')
   either_one (inl x) (inl y) =
-      let front = numbers_one _ s s' a.seed_words b.seed_words a.ledgers_words b.ledgers_words a.seed_option
+      let prefix = numbers_one _ s s' a.seed_words b.seed_words a.ledgers_words b.ledgers_words a.seed_option
       b.seed_option (sym x ∙ y) in
-      let moved = subst (IsNumberOption (codes "ledgers") l) front.1 a.ledgers_option in
-      (front.0, number_one _ l l' b.ledgers_words moved b.ledgers_option)
+      let moved = subst (IsNumberOption (codes "ledgers") l) prefix.1 a.ledgers_option in
+      (prefix.0, number_one _ l l' b.ledgers_words moved b.ledgers_option)
   either_one (inr x) (inr y) =
-      let front = numbers_one _ l l' a.ledgers_words b.ledgers_words a.seed_words b.seed_words a.ledgers_option
+      let prefix = numbers_one _ l l' a.ledgers_words b.ledgers_words a.seed_words b.seed_words a.ledgers_option
       b.ledgers_option (sym x ∙ y) in
-      let moved = subst (IsNumberOption (codes "seed") s) front.1 a.seed_option in
-      (number_one _ s s' b.seed_words moved b.seed_option, front.0)
+      let moved = subst (IsNumberOption (codes "seed") s) prefix.1 a.seed_option in
+      (number_one _ s s' b.seed_words moved b.seed_option, prefix.0)
   either_one (inl x) (inr y) = absurd (never_both s l' a.seed_words b.ledgers_words a.ledgers_words b.seed_words
       a.seed_option b.ledgers_option (sym x ∙ y))
   either_one (inr x) (inl y) = absurd (never_both s' l b.seed_words a.ledgers_words b.ledgers_words a.seed_words
@@ -33,7 +33,7 @@ module _ (s l s' l' : ℕ) (options : List (List ℕ)) (a : AreSampleOptions s l
   sample_one : (s ≡ s') × (l ≡ l')
   sample_one = either_one a.either b.either
 
--- the options are behind one name
+-- the options are after one name
 names_one : (words options options' : List (List ℕ)) (name name' : List ℕ) → words ≡ name ∷ options
     → words ≡ name' ∷ options' → (name ≡ name') × (options' ≡ options)
 names_one words options options' name name' is is' = (cc, cc)

@@ -9,28 +9,28 @@ apart a b differ e =
     let same = eq-eqb (slice_index a 2) (slice_index b 2) (ap (λ t. slice_index t 2) e) in
     absurd (true≢false (sym same ∙ differ))
 
--- the word of an option isn't one that has a value behind an equals sign
+-- the word of an option isn't one that has a value after an equals sign
 never_joined : (name value : List ℕ) → option_word name ≡ option_word name ++ codes "=" ++ value → ⊥
 never_joined name value e = omega (arith, simp length-append at (ap length e))
 
-joined_one : (front value other : List ℕ) → front ++ codes "=" ++ value ≡ front ++ codes "=" ++ other → value ≡ other
+joined_one : (prefix value other : List ℕ) → prefix ++ codes "=" ++ value ≡ prefix ++ codes "=" ++ other → value ≡ other
 joined_one [] value other e = cc
-joined_one (x ∷ front) value other e = joined_one front value other cc
+joined_one (x ∷ prefix) value other e = joined_one prefix value other cc
 
--- ---- in front of other words
+-- ---- before other words
 
-module _ (name value other : List ℕ) (front front' rest rest' : List (List ℕ)) where
-  pub front_one : IsOption name value front → IsOption name other front' → front ++ rest ≡ front' ++ rest'
-      → (value ≡ other) × (front ≡ front') × (rest ≡ rest')
-  front_one (some, inl (is, plain)) (some', inl (is', plain')) e =
+module _ (name value other : List ℕ) (prefix prefix' rest rest' : List (List ℕ)) where
+  pub prefix_one : IsOption name value prefix → IsOption name other prefix' → prefix ++ rest ≡ prefix' ++ rest'
+      → (value ≡ other) × (prefix ≡ prefix') × (rest ≡ rest')
+  prefix_one (some, inl (is, plain)) (some', inl (is', plain')) e =
       let same : option_word name ∷ value ∷ rest ≡ option_word name ∷ other ∷ rest' = cc in (cc, cc, cc)
-  front_one (some, inl (is, plain)) (some', inr is') e =
+  prefix_one (some, inl (is, plain)) (some', inr is') e =
       let same : option_word name ∷ value ∷ rest ≡ (option_word name ++ codes "=" ++ other) ∷ rest' = cc in
       absurd (never_joined name other cc)
-  front_one (some, inr is) (some', inl (is', plain')) e =
+  prefix_one (some, inr is) (some', inl (is', plain')) e =
       let same : (option_word name ++ codes "=" ++ value) ∷ rest ≡ option_word name ∷ other ∷ rest' = cc in
       absurd (never_joined name value cc)
-  front_one (some, inr is) (some', inr is') e =
+  prefix_one (some, inr is) (some', inr is') e =
       let same : (option_word name ++ codes "=" ++ value) ∷ rest ≡ (option_word name ++ codes "=" ++ other) ∷ rest' =
       cc in
       let values : value ≡ other = joined_one (option_word name) value other cc in
@@ -38,15 +38,15 @@ module _ (name value other : List ℕ) (front front' rest rest' : List (List ℕ
 
 pub option_one : (name value other : List ℕ) (words : List (List ℕ)) → IsOption name value words
     → IsOption name other words → value ≡ other
-option_one name value other words is is' = (front_one name value other words words [] [] is is' refl).0
+option_one name value other words is is' = (prefix_one name value other words words [] [] is is' refl).0
 
 -- ---- options that are numbers
 
-module _ (name : List ℕ) (n m : ℕ) (front front' rest rest' : List (List ℕ)) where
-  pub numbers_one : IsNumberOption name n front → IsNumberOption name m front' → front ++ rest ≡ front' ++ rest'
+module _ (name : List ℕ) (n m : ℕ) (prefix prefix' rest rest' : List (List ℕ)) where
+  pub numbers_one : IsNumberOption name n prefix → IsNumberOption name m prefix' → prefix ++ rest ≡ prefix' ++ rest'
       → (n ≡ m) × (rest ≡ rest')
   numbers_one is is' e =
-      let one = front_one name is.value is'.value front front' rest rest' is.option is'.option e in
+      let one = prefix_one name is.value is'.value prefix prefix' rest rest' is.option is'.option e in
       let same = one.0 in
       let number = is.is in
       let number' = is'.is in
@@ -76,10 +76,10 @@ heads_same : (a b : List ℕ) (more others : List (List ℕ)) → a ∷ more ≡
 heads_same a b more others e = cc
 
 -- words that begin with a seed don't begin with a number of ledgers
-pub never_both : (n m : ℕ) (front front' rest rest' : List (List ℕ)) → IsNumberOption (codes "seed") n front
-    → IsNumberOption (codes "ledgers") m front' → front ++ rest ≡ front' ++ rest' → ⊥
-never_both n m front front' rest rest' is is' e =
-    let seed = first_word (codes "seed") is.value front is.option in
-    let ledgers = first_word (codes "ledgers") is'.value front' is'.option in
+pub never_both : (n m : ℕ) (prefix prefix' rest rest' : List (List ℕ)) → IsNumberOption (codes "seed") n prefix
+    → IsNumberOption (codes "ledgers") m prefix' → prefix ++ rest ≡ prefix' ++ rest' → ⊥
+never_both n m prefix prefix' rest rest' is is' e =
+    let seed = first_word (codes "seed") is.value prefix is.option in
+    let ledgers = first_word (codes "ledgers") is'.value prefix' is'.option in
     let same = ap (λ ws. ws ++ rest) (sym seed.2) ∙ (e ∙ ap (λ ws. ws ++ rest') ledgers.2) in
     apart _ _ refl (heads_same _ _ _ _ same)

@@ -1,15 +1,10 @@
 -- What `clap` reads of words that are a command: each option has its value.
-use Rattle.std.proofs.Common.{◌≡◌, ◌<◌, ◌^◌, ◌∙◌, ℕ, ap, ap₂, refl, sym, subst, inl, inr, arith, true}
-use Rattle.std.proofs.Common.{List, [], ◌∷◌, ◌++◌, Some, codes}
-use Rattle.std.specs.Str.Parse.{digits_value}
-use Rattle.clap.specs.Walk.{Row, Text, one_of}
-use Rattle.clap.specs.Values.{read_as, reading_of}
-use Rattle.clap.specs.Simple.{is_simple, subcommand_of}
-use Rattle.clap.specs.Takes.{takes}
-use Rattle.command_words.specs.Words.{Command, Init, Run, CatchUp, Show, Sample, name_of, Spells, IsOption}
-use Rattle.command_words.specs.Words.{IsNumberOption, AreRunOptions, AreSampleOptions, AreOptionsOf}
-use Rattle.command_words.specs.Parser.{any_u32, program_app}
-use Rattle.command_words.specs.Found.{FindsOptions, FindsNumber}
+use Rattle.command_words.proofs.Prelude.{◌≡◌, ◌<◌, ◌^◌, ◌∙◌, ℕ, ap, ap₂, refl, sym, subst, inl, inr, arith, true, List}
+use Rattle.command_words.proofs.Prelude.{[], ◌∷◌, ◌++◌, Some, codes, digits_value, Row, Text, one_of, read_as}
+use Rattle.command_words.proofs.Prelude.{reading_of, subcommand_of, takes, Command, Init, Run, CatchUp, Show, Sample}
+use Rattle.command_words.proofs.Prelude.{name_of, Parses, IsOption, IsNumberOption, AreRunOptions, AreSampleOptions}
+use Rattle.command_words.proofs.Prelude.{AreOptionsOf, any_u32, program_app, FindsOptions, FindsNumber}
+use Rattle.clap.specs.Simple.{is_simple}
 use Rattle.command_words.proofs.Numbers.{u32_accepts, u32_reads}
 use Rattle.command_words.proofs.Forms.{form_of, IsTaken}
 use Rattle.command_words.proofs.Shapes.{AreRead, more, init_read, catchup_read, show_read, run_alone_read, run_read}
@@ -105,7 +100,7 @@ IsTakenAs words command = (takes (program_app any_u32) words ≡ true) × ((rows
     × (subcommand_of (program_app any_u32) words ≡ Some (name_of command, rows)) × FindsOptions command rows)
 
 -- words that are a command are taken, and each option has its value
-pub command_read : (words : List Text) (command : Command) → Spells words command → IsTakenAs words command
+pub command_read : (words : List Text) (command : Command) → Parses words command → IsTakenAs words command
 command_read words command (options, is, are) =
     let read = options_read command options are in
     subst (λ ws. IsTakenAs ws command) (sym is) (read.1.taken, (read.0, read.1.found, read.2))

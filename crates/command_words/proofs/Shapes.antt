@@ -1,14 +1,9 @@
 -- What `clap` makes of the words of each command, where its numbers have any parser.
-use Rattle.std.proofs.Common.{◌≡◌, refl, true, List, [], ◌∷◌, ◌++◌, Some, codes}
-use Rattle.clap.specs.Walk.{Row, Text, with_values}
-use Rattle.clap.specs.Values.{reading_of}
-use Rattle.clap.specs.Simple.{subcommand_of}
-use Rattle.clap.specs.Takes.{takes}
-use Rattle.clap.specs.declared.builder.ValueParser.{ValueParser}
+use Rattle.command_words.proofs.Prelude.{◌≡◌, refl, true, List, [], ◌∷◌, ◌++◌, Some, codes, Row, Text, with_values}
+use Rattle.command_words.proofs.Prelude.{reading_of, subcommand_of, takes, ValueParser, program_app}
 use Rattle.clap.specs.declared.builder.ValueParser.TheVariants as vp
 use Rattle.clap.specs.declared.parser.ValueSource.TheVariants.{CommandLine}
 use Rattle.clap.proofs.OnLiterals.{clap_on_literals}
-use Rattle.command_words.specs.Parser.{program_app}
 use Rattle.command_words.proofs.Forms.{Form, own, joined, words_in, FitsForm, IsTaken}
 
 -- the rows with one more, of an option with this parser

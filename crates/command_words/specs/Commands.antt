@@ -1,4 +1,4 @@
--- A command in memory as the command that words spell.
+-- A command in memory as the command that words give.
 use Rattle.command_words.specs.declared.command.Command.{Command}
 use Rattle.command_words.specs.declared.command.Command.TheVariants as command
 use Rattle.command_words.specs.Words as words

@@ -24,7 +24,7 @@ abbrev pub sample_app : ValueParser → App
 sample_app number =
     with_rule (with_one (codes "sample") (number_rule number (codes "seed"))) (number_rule number (codes "ledgers"))
 
--- no word in front is the program's name, and none asks for help or for a version
+-- the first word isn't the program's name, and no word asks for help or for a version
 abbrev pub bare_app : App
 bare_app = on_top (λ s. record s {
   no_binary_name = true;

@@ -1,4 +1,4 @@
--- Which words are a command. The words are those behind the program's name, as their bytes in UTF-8.
+-- Which words are a command. The words are those after the program's name, as their bytes in UTF-8.
 use Rattle.std.specs.Prelude.{◌≡◌, ◌≢◌, ◌⊎◌, ℕ, ◌<◌, ◌≤◌, ◌^◌, List, [], ◌∷◌, ◌++◌, length, map, codes}
 use Rattle.std.specs.Global.{Global}
 use Rattle.std.specs.String.{string_bytes}
@@ -42,7 +42,7 @@ pub record IsNumberOption (name : List ℕ) (number : ℕ) (words : List (List �
 
 -- ---- commands
 
--- the options of `run`: none stands for no workers
+-- the options of `run`: none means no workers
 abbrev pub AreRunOptions : (workers : ℕ) → List (List ℕ) → Type 0
 AreRunOptions workers options = (workers ≤ 8)
     × (((options ≡ []) × (workers ≡ 0)) ⊎ IsNumberOption (codes "workers") workers options)
@@ -74,15 +74,15 @@ AreOptionsOf (Sample seed ledgers) options = AreSampleOptions seed ledgers optio
 
 -- The words are the command's name and then its options, each at most once and in any order, and one that it needs
 -- exactly once.
-abbrev pub Spells : List (List ℕ) → Command → Type 0
-Spells words command = (options : List (List ℕ)) × (words ≡ name_of command ∷ options) × AreOptionsOf command options
+abbrev pub Parses : List (List ℕ) → Command → Type 0
+Parses words command = (options : List (List ℕ)) × (words ≡ name_of command ∷ options) × AreOptionsOf command options
 
 -- The words are no command.
-abbrev pub SpellsNone : List (List ℕ) → Type 0
-SpellsNone words = (command : Command) → Spells words command → ⊥
+abbrev pub ParsesNone : List (List ℕ) → Type 0
+ParsesNone words = (command : Command) → Parses words command → ⊥
 
 -- ---- the law
 
 -- Words are at most one command.
 abbrev pub CommandsAreOne : Type 0
-CommandsAreOne = (words : List (List ℕ)) (one other : Command) → Spells words one → Spells words other → one ≡ other
+CommandsAreOne = (words : List (List ℕ)) (one other : Command) → Parses words one → Parses words other → one ≡ other

@@ -7,9 +7,9 @@ pub enum Command<'a> {
     Init { passphrase: &'a str },
     /// To close the records of the input over a store, with 0 to 8 workers.
     Run { workers: u32 },
-    /// To close the records behind a start image, in memory alone.
+    /// To close the records after a start image, in memory alone.
     CatchUp { passphrase: &'a str },
-    /// To tell of the ledger in a store.
+    /// To show the ledger in a store.
     Show,
     /// To close 1 to 20000 ledgers that are made from a seed.
     Sample { seed: u32, ledgers: u32 },

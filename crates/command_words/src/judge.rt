@@ -1,7 +1,7 @@
 //! Which words are a command. No memory is taken.
 
 ghost use Rattle.std.specs.Prelude.{◌≡◌, ◌≤◌, ◌⊎◌, ◌++◌, ℕ, IsTrue, ◌↔◌, List, codes, take, drop, length};
-ghost use Rattle.command_words.specs.Words.{words_of, Spells, Command as Spelled, name_of, AreOptionsOf};
+ghost use Rattle.command_words.specs.Words.{words_of, Parses, Command as Parsed, name_of, AreOptionsOf};
 ghost use Rattle.command_words.specs.Words.{IsOption, AreRunOptions, AreSampleOptions};
 ghost use Rattle.command_words.specs.Judging.{AreSeedAndLedgers};
 
@@ -54,7 +54,7 @@ fn are_sample_options(words: &[String]) -> bool
 
 /// Whether the words are options of the command of this name.
 fn are_options_of(name: &str, words: &[String]) -> bool
-    ensures { IsTrue result ↔ ((command : Spelled) × (name.now ≡ name_of command)
+    ensures { IsTrue result ↔ ((command : Parsed) × (name.now ≡ name_of command)
         × AreOptionsOf command (words_of words.now)) }
 {
     match name {
@@ -68,7 +68,7 @@ fn are_options_of(name: &str, words: &[String]) -> bool
 
 /// Whether the words are a command.
 pub(crate) fn is_command(words: &[String]) -> bool
-    ensures { IsTrue result ↔ ((command : Spelled) × Spells (words_of words.now) command) }
+    ensures { IsTrue result ↔ ((command : Parsed) × Parses (words_of words.now) command) }
 {
     match words.split_first() {
         Some((name, options)) => are_options_of(name.as_str(), options),

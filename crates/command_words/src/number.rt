@@ -14,7 +14,7 @@ fn number_of(text: &str) -> Option<u64>
     ensures { MatchOption result (IsNumeral 10 text.now → length text.now ≤ 10 → ⊥)
         (λ number. IsNumeral 10 text.now × (length text.now ≤ 10) × (number ≡ digits_value 10 text.now)) }
 {
-    // A sign in front is no digit, though `parse` takes one.
+    // A leading sign is no digit, though `parse` takes one.
     let is_signed = text.starts_with("+");
     if is_signed || text.len() > MOST_DIGITS {
         None

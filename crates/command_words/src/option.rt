@@ -20,15 +20,15 @@ fn is_own_value(word: &str) -> bool
     !word.is_empty() && !word.starts_with("-")
 }
 
-/// The value behind the equals sign, where the word is the option of this name with it.
+/// The value after the equals sign, where the word is the option of this name with it.
 fn joined_value<'a>(name: &str, word: &'a str) -> Option<&'a str>
     ensures { MatchOption result ((value : List ℕ) → value ≢ []
         → word.entry.now ≢ option_word name.now ++ codes "=" ++ value)
         (λ value. (value.now ≢ []) × (word.entry.now ≡ option_word name.now ++ codes "=" ++ value.now)) }
 {
     let named = word.strip_prefix("--")?;
-    let behind = named.strip_prefix(name)?;
-    let value = behind.strip_prefix("=")?;
+    let after = named.strip_prefix(name)?;
+    let value = after.strip_prefix("=")?;
     if value.is_empty() { None } else { Some(value) }
 }
 

@@ -1,4 +1,4 @@
-//! The commands as `clap` has them. The words that it is given were judged before, so it is told no bounds, and not
+//! The commands as `clap` has them. The words that it is given were judged before, so it is given no bounds, and not
 //! which options a command needs.
 
 ghost use Rattle.std.specs.Prelude.{◌≡◌, IfOk, false, codes};

@@ -3,7 +3,7 @@
 ghost use Rattle.std.specs.Prelude.{◌≡◌, IfErr, IfOk, IsSomeAnd, ℕ, List};
 ghost use Rattle.clap.specs.Words.{Text, kind_of, found_of, rows_of};
 ghost use Rattle.clap.specs.declared.error.ErrorKind.TheVariants.{OutOfMemory};
-ghost use Rattle.command_words.specs.Words.{words_of, Spells, Command as Spelled, name_of};
+ghost use Rattle.command_words.specs.Words.{words_of, Parses, Command as Parsed, name_of};
 ghost use Rattle.command_words.specs.Commands.{command_at};
 ghost use Rattle.command_words.specs.Found.{Finds, FindsOptions, FindsText, FindsNumberOrNone};
 
@@ -12,10 +12,10 @@ use crate::parser::program;
 use clap::{ArgMatches, Error};
 use std::alloc::Global;
 
-/// What `clap` finds in words that are a command. On these only want of memory is an error.
+/// What `clap` finds in words that are a command. On these only an allocation failure is an error.
 pub(crate) fn matches_of<'a>(alloc: Global, words: &'a [String]) -> Result<ArgMatches<'a>, Error>
-    requires { (command : Spelled) × Spells (words_of words.now) command }
-    ensures finds { IfOk result (λ matches. (command : Spelled) × Spells (words_of words.entry.now) command
+    requires { (command : Parsed) × Parses (words_of words.now) command }
+    ensures finds { IfOk result (λ matches. (command : Parsed) × Parses (words_of words.entry.now) command
         × Finds matches command) }
     ensures memory { IfErr result (λ e. kind_of e ≡ OutOfMemory) }
 {
@@ -38,7 +38,7 @@ fn number_in(values: &ArgMatches<'_>, name: &str) -> u32
 
 /// The command of this name, with the values that were found.
 fn command_of<'a>(name: &str, values: &ArgMatches<'a>) -> Option<Command<'a>>
-    ensures { (command : Spelled) → name.now ≡ name_of command
+    ensures { (command : Parsed) → name.now ≡ name_of command
         → FindsOptions command (rows_of (found_of values.now)) → IsSomeAnd result (λ read. command_at read ≡ command) }
 {
     match name {
@@ -62,7 +62,7 @@ fn command_of<'a>(name: &str, values: &ArgMatches<'a>) -> Option<Command<'a>>
 
 /// The command that was found.
 pub(crate) fn found_command<'a>(matches: &ArgMatches<'a>) -> Option<Command<'a>>
-    ensures { (command : Spelled) → Finds matches.now command → IsSomeAnd result (λ read. command_at read ≡ command) }
+    ensures { (command : Parsed) → Finds matches.now command → IsSomeAnd result (λ read. command_at read ≡ command) }
 {
     match matches.subcommand() {
         Some((name, values)) => command_of(name, values),

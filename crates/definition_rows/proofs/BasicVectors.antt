@@ -1,9 +1,8 @@
 -- Vectors of assets, prices and signers: how long the value is that the bytes begin with, or which fault reading meets
 -- at which offset. So many bytes are the value's encoding (Encodings). The rows named `_vectors` come from a program
 -- that shares nothing with this one; those named `_by_hand` were laid out by hand from the protocol's XDR.
-use Rattle.std.proofs.Common.{◌≡◌, refl, true, ◌&&◌}
-use Rattle.xdr_core.specs.declared.fault.XdrKind.TheVariants.{Short, BadEnum}
-use Rattle.xdr_entries.specs.Basic.{asset, trust_line_asset, price, signer_key, signer}
+use Rattle.definition_rows.proofs.Prelude.{◌≡◌, refl, true, ◌&&◌, Short, BadEnum, asset, trust_line_asset, price}
+use Rattle.definition_rows.proofs.Prelude.{signer_key, signer}
 use Rattle.definition_rows.proofs.Rows.{hex}
 use Rattle.definition_rows.proofs.Readings.{has_value, has_fault}
 use Rattle.definition_rows.proofs.Opened.{entries_formats}

@@ -1,17 +1,11 @@
 -- Files of buckets, laid out by hand after Stellar-ledger.x.
-use Rattle.std.proofs.Common.{◌≡◌, refl, ℕ, Bool, true, false, ◌&&◌, List, [], ◌∷◌, Some, None}
-use Rattle.std.specs.Prelude.{◌++◌, Option, is_none, map, length, replicate}
-use Rattle.std.specs.Ordering.{is_eq}
-use Rattle.xdr_core.specs.declared.fault.XdrKind.TheVariants.{Short, Trailing}
-use Rattle.xdr_core.specs.Place.{start_of}
-use Rattle.ledger_types.specs.declared.key.LedgerKey.{LedgerKey}
+use Rattle.definition_rows.proofs.Prelude.{◌≡◌, refl, ℕ, Bool, true, false, ◌&&◌, List, [], ◌∷◌, Some, None, ◌++◌}
+use Rattle.definition_rows.proofs.Prelude.{is_none, map, length, is_eq, Short, Trailing, start_of, LedgerKey}
+use Rattle.definition_rows.proofs.Prelude.{BucketEntry, key_cmp, bucket_entry, NoMeta, SecondMeta, Order, items_ahead}
+use Rattle.std.specs.Prelude.{Option, replicate}
 use Rattle.ledger_types.specs.declared.key.LedgerKey.TheVariants.{Account}
-use Rattle.ledger_types.specs.declared.bucket.BucketEntry.{BucketEntry}
 use Rattle.ledger_types.specs.declared.bucket.BucketEntry.TheVariants.{Dead}
-use Rattle.ledger_types.specs.KeyOrder.{key_cmp}
-use Rattle.xdr_entries.specs.Keys.{bucket_entry}
-use Rattle.bucket_core.specs.declared.fault.BucketFault.TheVariants.{Xdr, NoMeta, SecondMeta, Order}
-use Rattle.bucket_core.specs.Reading.{items_ahead}
+use Rattle.bucket_core.specs.declared.fault.BucketFault.TheVariants.{Xdr}
 use Rattle.bucket_core.specs.Find.{item_under}
 use Rattle.definition_rows.proofs.Rows.{hex}
 use Rattle.definition_rows.proofs.BucketReadings.{has_first_fault, is_hashed_file}
@@ -70,7 +64,7 @@ unfolding hex finds_nothing finds_dead entries_formats
 an_item_is_found_under_its_key = refl
 
 -- the lengths of the items, without their record marks
-a_cursor_goes_over_the_items : map (λ item. length (bucket_entry.spell item)) (items_ahead (start_of file))
+a_cursor_goes_over_the_items : map (λ item. length (bucket_entry.encoding item)) (items_ahead (start_of file))
     ≡ 12 ∷ 44 ∷ 44 ∷ []
 unfolding hex items_ahead entries_formats
 a_cursor_goes_over_the_items = refl

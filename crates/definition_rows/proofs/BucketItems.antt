@@ -1,15 +1,9 @@
 -- Keys and items of buckets, laid out by hand after Stellar-ledger-entries.x and Stellar-ledger.x.
-use Rattle.std.proofs.Common.{◌≡◌, refl, ℕ, Bool, true, false, ◌&&◌, List, [], ◌∷◌, Ok, Err}
-use Rattle.std.specs.Prelude.{◌++◌, nat_eq, bytes_eq, length, replicate}
-use Rattle.std.specs.Ordering.{is_lt, is_gt, is_eq}
-use Rattle.xdr_core.specs.declared.fault.XdrFault.{XdrFault}
-use Rattle.xdr_core.specs.declared.fault.XdrKind.{XdrKind}
-use Rattle.xdr_core.specs.declared.fault.XdrKind.TheVariants.{Short, BadEnum, BadMark, Trailing}
-use Rattle.xdr_core.specs.Place.{Place, Reading, start_of}
-use Rattle.ledger_types.specs.declared.key.LedgerKey.{LedgerKey}
-use Rattle.ledger_types.specs.declared.bucket.BucketEntry.{BucketEntry}
-use Rattle.ledger_types.specs.KeyOrder.{key_cmp}
-use Rattle.xdr_entries.specs.Keys.{ledger_key, bucket_entry}
+use Rattle.definition_rows.proofs.Prelude.{◌≡◌, refl, ℕ, Bool, true, false, ◌&&◌, List, [], ◌∷◌, Ok, Err, ◌++◌, nat_eq}
+use Rattle.definition_rows.proofs.Prelude.{length, is_lt, is_gt, is_eq, XdrFault, XdrKind, Short, BadEnum, BadMark}
+use Rattle.definition_rows.proofs.Prelude.{Trailing, Position, Reading, start_of, LedgerKey, BucketEntry, key_cmp}
+use Rattle.definition_rows.proofs.Prelude.{ledger_key, bucket_entry}
+use Rattle.std.specs.Prelude.{bytes_eq, replicate}
 use Rattle.bucket_items.specs.declared.item.BucketEntryType.{BucketEntryType}
 use Rattle.bucket_items.specs.declared.item.BucketEntryType.TheVariants.{Meta, Live, Dead, Init}
 use Rattle.bucket_items.specs.Item.{item_type, item_key_text}
@@ -71,22 +65,22 @@ is_itself (Ok a) (Ok b) = is_eq (key_cmp a.0 b.0)
 is_itself a b = false
 
 -- the key that the first text encodes comes before that of the second, and that one after it
-unfoldable stands_before : List ℕ → List ℕ → Bool
-stands_before a b = rises (ledger_key.read (start_of a)) (ledger_key.read (start_of b))
+unfoldable precedes : List ℕ → List ℕ → Bool
+precedes a b = rises (ledger_key.read (start_of a)) (ledger_key.read (start_of b))
 
 unfoldable equals_itself : List ℕ → Bool
 equals_itself a = is_itself (ledger_key.read (start_of a)) (ledger_key.read (start_of a))
 
 -- each before the next one
-keys_are_ordered_by_their_texts : (stands_before account_key later_account_key
-    && stands_before later_account_key native_line_key
-    && stands_before native_line_key pool_line_key
-    && stands_before pool_line_key offer_below_zero_key
-    && stands_before offer_below_zero_key offer_key
-    && stands_before offer_key longer_name_key
-    && stands_before longer_name_key shorter_name_key
-    && stands_before shorter_name_key balance_key
-    && stands_before balance_key pool_key
+keys_are_ordered_by_their_texts : (precedes account_key later_account_key
+    && precedes later_account_key native_line_key
+    && precedes native_line_key pool_line_key
+    && precedes pool_line_key offer_below_zero_key
+    && precedes offer_below_zero_key offer_key
+    && precedes offer_key longer_name_key
+    && precedes longer_name_key shorter_name_key
+    && precedes shorter_name_key balance_key
+    && precedes balance_key pool_key
     && equals_itself account_key
     && equals_itself later_account_key
     && equals_itself native_line_key
@@ -97,7 +91,7 @@ keys_are_ordered_by_their_texts : (stands_before account_key later_account_key
     && equals_itself shorter_name_key
     && equals_itself balance_key
     && equals_itself pool_key) ≡ true
-unfolding hex stands_before equals_itself entries_formats
+unfolding hex precedes equals_itself entries_formats
 keys_are_ordered_by_their_texts = refl
 
 -- ---- items
@@ -122,16 +116,16 @@ record Shown : Type 0 where
   len : ℕ
   after : ℕ
 
-abbrev is_shown : Shown → BucketEntry × Place → Bool
-is_shown shown (item, place) =
+abbrev is_shown : Shown → BucketEntry × Position → Bool
+is_shown shown (item, index) =
     nat_eq (type_number (item_type item)) (type_number shown.type) && bytes_eq (item_key_text item) shown.key
-    && nat_eq (length (bucket_entry.spell item)) shown.len && nat_eq place.at shown.after
+    && nat_eq (length (bucket_entry.encoding item)) shown.len && nat_eq index.at shown.after
 
 -- the items from an offset on, and then its end
-abbrev shows : List Shown → Place → Reading XdrFault BucketEntry → Bool
-shows [] place read = nat_eq (length place.rest) 0
-shows (shown ∷ others) place (Ok read) = is_shown shown read && shows others read.1 (item_at read.1)
-shows (shown ∷ others) place (Err fault) = false
+abbrev shows : List Shown → Position → Reading XdrFault BucketEntry → Bool
+shows [] index read = nat_eq (length index.rest) 0
+shows (shown ∷ others) index (Ok read) = is_shown shown read && shows others read.1 (item_at read.1)
+shows (shown ∷ others) index (Err fault) = false
 
 unfoldable has_items : List Shown → List ℕ → Bool
 has_items shown bytes = shows shown (start_of bytes) (item_at (start_of bytes))
@@ -147,7 +141,7 @@ unfoldable has_item_fault : XdrKind → ℕ → List ℕ → Bool
 has_item_fault kind offset bytes = is_fault kind offset (item_at (start_of bytes))
 
 -- an item that is too short for its fields is so at its own end, and bytes that are left over in it are named
-faults_of_items_have_their_places : (has_item_fault Short 0 []
+faults_of_items_have_their_offsets : (has_item_fault Short 0 []
     && has_item_fault Short 3 (hex "800000")
     && has_item_fault BadMark 0 (hex "0000000cffffffff0000001200000000")
     && has_item_fault Short 12 (hex "80000008ffffffff0000001200000000")
@@ -155,4 +149,4 @@ faults_of_items_have_their_places : (has_item_fault Short 0 []
     && has_item_fault BadEnum 4 (hex "8000000c000000030000001200000000")
     && has_item_fault BadEnum 12 (hex "8000000cffffffff0000001200000001")) ≡ true
 unfolding hex has_item_fault entries_formats
-faults_of_items_have_their_places = refl
+faults_of_items_have_their_offsets = refl

@@ -1,20 +1,19 @@
 -- What the file of a bucket is, as truths that rows are made of.
-use Rattle.std.proofs.Common.{ℕ, Bool, false, ◌&&◌, List}
-use Rattle.std.specs.Prelude.{nat_eq, bytes_eq, length, Option, is_none}
+use Rattle.definition_rows.proofs.Prelude.{ℕ, Bool, false, ◌&&◌, List, nat_eq, length, is_none, start_of, NoMeta}
+use Rattle.definition_rows.proofs.Prelude.{SecondMeta, Order, items_ahead, contents_of}
+use Rattle.std.specs.Prelude.{bytes_eq, Option}
 use Rattle.std.specs.Option.{option_eq}
-use Rattle.xdr_core.specs.Place.{start_of}
 use Rattle.bucket_core.specs.declared.fault.BucketFault.{BucketFault}
-use Rattle.bucket_core.specs.declared.fault.BucketFault.TheVariants.{Xdr, NoMeta, SecondMeta, Order}
+use Rattle.bucket_core.specs.declared.fault.BucketFault.TheVariants.{Xdr}
 use Rattle.bucket_core.specs.Bucket.{version_of}
 use Rattle.bucket_core.specs.Faults.{fault_from, first_fault}
-use Rattle.bucket_core.specs.Reading.{items_ahead, contents_of}
 use Rattle.bucket_core.specs.Hash.{file_hash}
 use Rattle.definition_rows.proofs.Readings.{kind_number}
 use Rattle.definition_rows.proofs.Opened.{sha_256}
 
 abbrev pub are_same_fault : BucketFault → BucketFault → Bool
-are_same_fault (Xdr at kind) (Xdr offset wanted) =
-    nat_eq at offset && nat_eq (kind_number kind) (kind_number wanted)
+are_same_fault (Xdr at kind) (Xdr offset expected) =
+    nat_eq at offset && nat_eq (kind_number kind) (kind_number expected)
 are_same_fault (NoMeta at) (NoMeta offset) = nat_eq at offset
 are_same_fault (SecondMeta at) (SecondMeta offset) = nat_eq at offset
 are_same_fault (Order at) (Order offset) = nat_eq at offset

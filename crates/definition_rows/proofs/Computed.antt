@@ -1,11 +1,8 @@
 -- What a call answers, computed, where its contract says that a value is there exactly where something holds.
-use Rattle.std.proofs.Common.{◌≡◌, refl, sym, ap, ℕ, ◌<◌, ◌≤◌, ◌⊎◌, inl, inr, ◌↔◌, Bool, true, false, not, ◌&&◌, ◌||◌}
-use Rattle.std.proofs.Common.{Option, Some, None}
-use Rattle.std.specs.Prelude.{SomeIff, nat_eq, nat_le, nat_lt}
-use Rattle.std.specs.Bool.{Decides, then_some}
-use Rattle.std.specs.declared.cmp.Ordering.{Ordering}
-use Rattle.std.specs.declared.cmp.Ordering.TheVariants.{Less, Equal, Greater}
-use Rattle.std.proofs.lemmas.Bool.{leb-true, le-leb, ltb-true, lt-ltb, and_parts, and_from, false≢true}
+use Rattle.definition_rows.proofs.Prelude.{◌≡◌, refl, sym, ap, ℕ, ◌<◌, ◌≤◌, ◌⊎◌, inl, inr, ◌↔◌, Bool, true, false, not}
+use Rattle.definition_rows.proofs.Prelude.{◌&&◌, ◌||◌, Option, Some, None, SomeIff, nat_eq, nat_le, nat_lt, Decides}
+use Rattle.definition_rows.proofs.Prelude.{then_some, Ordering, Less, Equal, Greater, leb-true, le-leb, ltb-true}
+use Rattle.definition_rows.proofs.Prelude.{lt-ltb, and_parts, and_from, false≢true}
 
 pub answers_so : {V : Type 0} (answer : Option V) (P : Type 0) (v : V) (test : Bool) → Decides test P
     → SomeIff answer P v → answer ≡ then_some test v
@@ -16,21 +13,21 @@ answers_so (Some x) P v false decides some = absurd (false≢true (decides.1 som
 
 -- ---- tests of what definitions state
 
-pub at_most : (m n : ℕ) → Decides (nat_le m n) (m ≤ n)
-at_most m n = (leb-true m n, le-leb m n)
+pub nat_le_decides : (m n : ℕ) → Decides (nat_le m n) (m ≤ n)
+nat_le_decides m n = (leb-true m n, le-leb m n)
 
 pub below : (m n : ℕ) → Decides (nat_lt m n) (m < n)
 below m n = (ltb-true m n, lt-ltb m n)
 
-pub both : {P Q : Type 0} (p q : Bool) → Decides p P → Decides q Q → Decides (p && q) (P × Q)
-both p q decides_p decides_q = (
+pub and_decides : {P Q : Type 0} (p q : Bool) → Decides p P → Decides q Q → Decides (p && q) (P × Q)
+and_decides p q decides_p decides_q = (
   λ e. let parts = and_parts p q e in (decides_p.0 parts.0, decides_q.0 parts.1),
   λ h. and_from p q (decides_p.1 h.0) (decides_q.1 h.1),
 )
 
-pub either : {P Q : Type 0} (p q : Bool) → Decides p P → Decides q Q → Decides (p || q) (P ⊎ Q)
-either true q decides_p decides_q = (λ e. inl (decides_p.0 refl), λ h. refl)
-either false q decides_p decides_q = (
+pub or_decides : {P Q : Type 0} (p q : Bool) → Decides p P → Decides q Q → Decides (p || q) (P ⊎ Q)
+or_decides true q decides_p decides_q = (λ e. inl (decides_p.0 refl), λ h. refl)
+or_decides false q decides_p decides_q = (
   λ e. inr (decides_q.0 e),
   λ h. elim h [ inl x ↦ absurd (false≢true (decides_p.1 x)) | inr y ↦ decides_q.1 y ],
 )

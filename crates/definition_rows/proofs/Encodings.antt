@@ -1,17 +1,8 @@
 -- Each type that has vectors: where a row says that a value has so many bytes, these are the value's encoding.
-use Rattle.std.proofs.Common.{◌≡◌, ℕ, true, List}
-use Rattle.xdr_core.specs.Format.{IsBytes}
-use Rattle.xdr_core.specs.Xdr.{Xdr}
-use Rattle.xdr_entries.specs.Basic.{asset, price, signer, signer_key, trust_line_asset}
-use Rattle.xdr_entries.specs.Predicates.{claim_predicate}
-use Rattle.xdr_entries.specs.Entries.{claimant, ledger_entry}
-use Rattle.xdr_entries.specs.Keys.{ledger_key, bucket_entry}
-use Rattle.xdr_tx.specs.Operations.{operation}
-use Rattle.xdr_tx.specs.Transactions.{memo, transaction_envelope, transaction_set}
-use Rattle.xdr_results.specs.Results.{transaction_result_set}
-use Rattle.xdr_header.specs.Header.{ledger_header, ledger_upgrade, stellar_value}
-use Rattle.xdr_header.specs.Records.{close_record}
-use Rattle.xdr_header.specs.Image.{start_image}
+use Rattle.definition_rows.proofs.Prelude as prelude
+use prelude.{◌≡◌, ℕ, true, List, IsBytes, Xdr, asset, price, signer, signer_key, trust_line_asset, claim_predicate}
+use prelude.{claimant, ledger_entry, ledger_key, bucket_entry, operation, memo, transaction_envelope, transaction_set}
+use prelude.{transaction_result_set, ledger_header, ledger_upgrade, stellar_value, close_record, start_image}
 use Rattle.xdr_entries.proofs.BasicLaws.{asset_laws, price_laws, signer_laws, signer_key_laws, trust_line_asset_laws}
 use Rattle.xdr_entries.proofs.PredicateLaws.{claim_predicate_laws}
 use Rattle.xdr_entries.proofs.EntryLaws.{claimant_laws, ledger_entry_laws}

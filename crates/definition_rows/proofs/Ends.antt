@@ -1,14 +1,8 @@
 -- What follows a value is left to its reader's caller, laid out by hand: the caller finds the end, or `Trailing`
 -- at the first byte that is left.
-use Rattle.std.proofs.Common.{◌≡◌, refl, ℕ, true, List, Ok, Err}
-use Rattle.std.specs.Prelude.{◌++◌, drop, Result}
-use Rattle.xdr_core.specs.declared.fault.XdrFault.{XdrFault}
-use Rattle.xdr_core.specs.declared.fault.XdrKind.TheVariants.{Trailing}
-use Rattle.xdr_core.specs.Place.{Reading, start_of}
-use Rattle.xdr_core.specs.Ending.{EndsAt}
-use Rattle.xdr_core.specs.Leaves.{mark}
-use Rattle.xdr_entries.specs.Keys.{bucket_entry}
-use Rattle.xdr_header.specs.Records.{close_record}
+use Rattle.definition_rows.proofs.Prelude.{◌≡◌, refl, ℕ, true, List, Ok, Err, ◌++◌, drop, XdrFault, Trailing, Reading}
+use Rattle.definition_rows.proofs.Prelude.{start_of, EndsAt, mark, bucket_entry, close_record}
+use Rattle.std.specs.Prelude.{Result}
 use Rattle.definition_rows.proofs.Rows.{hex}
 use Rattle.definition_rows.proofs.Readings.{has_value}
 use Rattle.definition_rows.proofs.Opened.{headers_formats}
@@ -24,11 +18,11 @@ record_and_four_bytes =
     ++ hex "00000000"
 
 -- the end of the text that was read, or the fault there
-abbrev EndsBehind : {V : Type 0} → Reading XdrFault V → Result (Unit {0}) XdrFault → Type 0
-EndsBehind (Ok read) result = EndsAt read.1 result
-EndsBehind (Err fault) result = ⊥
+abbrev EndsAfter : {V : Type 0} → Reading XdrFault V → Result (Unit {0}) XdrFault → Type 0
+EndsAfter (Ok read) result = EndsAt read.1 result
+EndsAfter (Err fault) result = ⊥
 
-a_close_record_with_four_bytes_after_it_is_trailing : EndsBehind (close_record.read (start_of record_and_four_bytes))
+a_close_record_with_four_bytes_after_it_is_trailing : EndsAfter (close_record.read (start_of record_and_four_bytes))
     (Err (record { at = 88; kind = Trailing }))
 unfolding hex headers_formats
 a_close_record_with_four_bytes_after_it_is_trailing = (refl, λ ended. absurd (cc))
@@ -37,7 +31,7 @@ a_close_record_with_four_bytes_after_it_is_trailing = (refl, λ ended. absurd (c
 abbrev meta : List ℕ
 meta = hex "8000000cffffffff0000001200000000"
 
-a_meta_item_of_version_18_has_16_bytes : EndsBehind ((mark 12).read (start_of meta)) (Ok tt)
-    × EndsBehind (bucket_entry.read (start_of (drop 4 meta))) (Ok tt) × has_value (mark 12) 16 meta ≡ true
+a_meta_item_of_version_18_has_16_bytes : EndsAfter ((mark 12).read (start_of meta)) (Ok tt)
+    × EndsAfter (bucket_entry.read (start_of (drop 4 meta))) (Ok tt) × has_value (mark 12) 16 meta ≡ true
 unfolding hex has_value headers_formats
 a_meta_item_of_version_18_has_16_bytes = (refl, refl, refl)

@@ -2,10 +2,8 @@
 -- which fault reading meets at which offset. So many bytes are the value's encoding (Encodings). The rows named
 -- `_vectors` come from a program that shares nothing with this one; those named `_by_hand` were laid out by hand from
 -- the protocol's XDR.
-use Rattle.std.proofs.Common.{◌≡◌, refl, true, ◌&&◌}
-use Rattle.std.specs.Prelude.{◌++◌}
-use Rattle.xdr_core.specs.declared.fault.XdrKind.TheVariants.{Short, Padding, BadEnum, BadFlag, TooLong}
-use Rattle.xdr_tx.specs.Transactions.{transaction_envelope, transaction_set}
+use Rattle.definition_rows.proofs.Prelude.{◌≡◌, refl, true, ◌&&◌, ◌++◌, Short, Padding, BadEnum, BadFlag, TooLong}
+use Rattle.definition_rows.proofs.Prelude.{transaction_envelope, transaction_set}
 use Rattle.definition_rows.proofs.Rows.{hex}
 use Rattle.definition_rows.proofs.Readings.{has_value, has_fault}
 use Rattle.definition_rows.proofs.Opened.{transactions_formats}

@@ -1,8 +1,8 @@
 -- Exchanges, adjusted amounts and liabilities, each row worked out with whole numbers of any size by a program that
 -- follows the branches of stellar-core (OfferExchange). The contracts of `exchange`, `adjust` and `liabilities` name
 -- these definitions.
-use Rattle.std.proofs.Common.{◌≡◌, refl, ℕ, Bool, true, false, ◌&&◌}
-use Rattle.std.specs.Prelude.{nat_eq, not, if◌then◌else◌}
+use Rattle.definition_rows.proofs.Prelude.{◌≡◌, refl, ℕ, Bool, true, false, ◌&&◌, nat_eq, if◌then◌else◌}
+use Rattle.std.specs.Prelude.{not}
 use Rattle.offer_exchange.specs.declared.rounding.Rounding.{Rounding}
 use Rattle.offer_exchange.specs.declared.rounding.Rounding.TheVariants.{Normal, StrictSend, StrictReceive}
 use Rattle.offer_exchange.specs.Exchange.{Bounds, unlimited, wheat_stays, exchanged, adjusted, liabilities}

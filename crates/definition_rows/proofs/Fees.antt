@@ -1,22 +1,17 @@
 -- Sets laid out by hand: the order of their transactions, their hashes by another SHA-256, and what they charge. The
 -- contracts of fee_rules name these definitions.
-use Rattle.std.proofs.Common.{◌≡◌, refl, ℕ, ℤ, pos, List, [], ◌∷◌, ◌++◌, Bool, true, false, ◌&&◌, Ok, Err}
-use Rattle.std.specs.Str.{bytes_eq}
-use Rattle.sha2.specs.Sha256.{sha256, first_words, schedule, rounds, compress, hash_after, digest_bytes}
-use Rattle.ledger_types.specs.declared.header.LedgerHeader.{LedgerHeader}
+use Rattle.definition_rows.proofs.Prelude as prelude
+use prelude.{◌≡◌, refl, ℕ, ℤ, pos, List, [], ◌∷◌, Bool, true, false, ◌&&◌, Ok, Err, bytes_eq, sha256, first_words}
+use prelude.{schedule, rounds, compress, hash_after, digest_bytes, LedgerHeader, XdrFault, Reading, start_of, u32, i32}
+use prelude.{i64, flag, fixed, count, opaque_at, constant, option, list, many_at, hash, muxed_account, operation}
+use prelude.{operation_body, second_body_arms, memo, after_source, transaction, fee_bump_transaction}
+use prelude.{transaction_v1_envelope, fee_bump_envelope, transaction_envelope, transaction_set}
+use Rattle.std.proofs.Common.{◌++◌}
 use Rattle.op_types.specs.declared.transaction.TransactionEnvelope.{TransactionEnvelope}
 use Rattle.op_types.specs.declared.transaction.TransactionSet.{TransactionSet}
-use Rattle.xdr_core.specs.declared.fault.XdrFault.{XdrFault}
-use Rattle.xdr_core.specs.Place.{Reading, start_of}
-use Rattle.xdr_core.specs.Leaves.{u32, i32, i64, flag, fixed, count, opaque_at}
-use Rattle.xdr_core.specs.Combinators.{constant, option, list, many_at}
-use Rattle.xdr_entries.specs.Basic.{hash, muxed_account}
-use Rattle.xdr_tx.specs.Operations.{operation, operation_body, second_body_arms}
-use Rattle.xdr_tx.specs.Transactions.{memo, behind_source, transaction, fee_bump_transaction, transaction_v1_envelope}
-use Rattle.xdr_tx.specs.Transactions.{fee_bump_envelope, transaction_envelope, transaction_set}
 use Rattle.fee_rules.specs.Ranking.{first_ranked}
 use Rattle.fee_rules.specs.SetHash.{hash_of_set}
-use Rattle.fee_rules.specs.Turns.{mixed_bytes, places_in_order, apply_order_of}
+use Rattle.fee_rules.specs.Turns.{mixed_bytes, indices_in_order, apply_order_of}
 use Rattle.fee_rules.specs.Fees.{least_bid, set_base_fee, fee_charged}
 use Rattle.definition_rows.proofs.Rows.{hex}
 
@@ -27,21 +22,21 @@ decoded_passes test (Err fault) = false
 -- The set that bytes decode to passes a test.
 unfoldable set_passes : (encoding : List ℕ) → (TransactionSet → Bool) → Bool
 unfolding transaction_set hash transaction_envelope transaction_v1_envelope fee_bump_envelope transaction
-    fee_bump_transaction behind_source memo muxed_account operation operation_body second_body_arms constant option list
+    fee_bump_transaction after_source memo muxed_account operation operation_body second_body_arms constant option list
     many_at u32 i32 i64 flag fixed count opaque_at hex
 set_passes encoding test = decoded_passes test (transaction_set.read (start_of encoding))
 
 -- ---- order and hash
 
--- Its transactions are applied in this order of their places.
-unfoldable is_order : (places : List ℕ) → TransactionSet → Bool
+-- Its transactions are applied in this order of their indices.
+unfoldable is_order : (indices : List ℕ) → TransactionSet → Bool
 unfolding sha256 first_words schedule rounds compress hash_after digest_bytes first_ranked hash_of_set mixed_bytes
-    places_in_order
-is_order places set = bytes_eq (apply_order_of set) places
+    indices_in_order
+is_order indices set = bytes_eq (apply_order_of set) indices
 
-unfoldable is_hash : (wanted : List ℕ) → TransactionSet → Bool
+unfoldable is_hash : (expected : List ℕ) → TransactionSet → Bool
 unfolding sha256 first_words schedule rounds compress hash_after digest_bytes first_ranked hash_of_set
-is_hash wanted set = bytes_eq (hash_of_set set).0 wanted
+is_hash expected set = bytes_eq (hash_of_set set).0 expected
 
 -- three transactions of one source, with the sequence numbers 3, 1 and 2
 abbrev one_source : List ℕ
@@ -71,10 +66,10 @@ transactions_of_one_source_go_by_their_sequence_numbers :
 unfolding set_passes is_order
 transactions_of_one_source_go_by_their_sequence_numbers = refl
 
-the_first_of_each_source_go_first_and_equal_ones_by_place :
+the_first_of_each_source_go_first_and_equal_ones_by_index :
     set_passes two_sources (is_order (0 ∷ 3 ∷ 2 ∷ 1 ∷ [])) ≡ true
 unfolding set_passes is_order
-the_first_of_each_source_go_first_and_equal_ones_by_place = refl
+the_first_of_each_source_go_first_and_equal_ones_by_index = refl
 
 -- SHA-256 of 32 bytes 55 and of its envelopes in the order of their hashes
 abbrev hash_of_one_source : List ℕ
@@ -114,8 +109,8 @@ charged any max_tx_set_size set =
     let header = record any { base_fee = 100; max_tx_set_size = max_tx_set_size } in
     let fee = set_base_fee header set.txs in fee ∷ charges fee set.txs (pos 1000 ∷ pos 1000 ∷ pos 3 ∷ [])
 
-a_crowded_set_costs_its_least_bid : (any : LedgerHeader)
+a_set_in_surge_costs_its_least_bid : (any : LedgerHeader)
     → (set_passes three_bids (λ set. bytes_eq (charged any 102 set) (120 ∷ 240 ∷ 120 ∷ 3 ∷ []))
     && set_passes three_bids (λ set. bytes_eq (charged any 103 set) (100 ∷ 200 ∷ 100 ∷ 3 ∷ []))) ≡ true
 unfolding set_passes least_bid
-a_crowded_set_costs_its_least_bid any = refl
+a_set_in_surge_costs_its_least_bid any = refl

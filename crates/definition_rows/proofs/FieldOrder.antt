@@ -2,32 +2,28 @@
 -- comes first, and which of two arms of one body has which discriminant, is the choice of a format, which its reader
 -- and its writer only follow. The encodings were laid out by hand from the protocol's XDR.
 --
--- Fields of the variants of ClaimAtom stand here by position; that these are their names is in the contracts of
+-- Fields of the variants of ClaimAtom are given here by position; that these are their names is in the contracts of
 -- `atom_of` in trade_cross/src/progress.rt and trade_cross/src/pool_swap.rt.
-use Rattle.std.proofs.Common.{◌≡◌, refl, ℕ, pos, true, ◌&&◌, List, [], ◌∷◌}
-use Rattle.std.specs.Prelude.{◌++◌, replicate, codes, Some, None, Ok}
-use Rattle.xdr_core.specs.Place.{start_of}
-use Rattle.ledger_types.specs.declared.ids.AccountId.{AccountId}
-use Rattle.ledger_types.specs.declared.ids.Hash.{Hash}
+use Rattle.definition_rows.proofs.Prelude as prelude
+use prelude.{◌≡◌, refl, ℕ, pos, true, ◌&&◌, List, [], ◌∷◌, ◌++◌, start_of, AccountId, Hash, Asset, roll-ClaimPredicate}
+use prelude.{ClaimPredicate-F, AccountEntry, TrustLineEntry, OfferEntry, DataEntry, LiquidityPoolEntry, LedgerHeader}
+use prelude.{liabilities, pool_params, price, signer_key, claim_predicate, account_extension_v2, account_entry}
+use prelude.{trust_line_entry, offer_entry, data_entry, liquidity_pool_entry, bucket_entry, set_options_op}
+use prelude.{path_payment_strict_receive_op, path_payment_strict_send_op, manage_sell_offer_op, manage_buy_offer_op}
+use prelude.{create_passive_sell_offer_op, set_trust_line_flags_op, liquidity_pool_deposit_op}
+use prelude.{liquidity_pool_withdraw_op, time_bounds, memo, claim_atom, manage_offer_effect, operation_result_tr}
+use prelude.{inner_transaction_outcome, transaction_outcome, ledger_upgrade, ledger_header}
+use Rattle.std.specs.Prelude.{replicate, codes, Some, None, Ok}
 use Rattle.ledger_types.specs.declared.ids.MuxedAccount.{MuxedAccount}
 use Rattle.ledger_types.specs.declared.ids.MuxedAccount.TheVariants as muxed
 use Rattle.ledger_types.specs.declared.signer.SignerKey.TheVariants as signer
-use Rattle.ledger_types.specs.declared.asset.Asset.{Asset}
 use Rattle.ledger_types.specs.declared.asset.Asset.TheVariants as asset
 use Rattle.ledger_types.specs.declared.asset.TrustLineAsset.TheVariants as line
 use Rattle.ledger_types.specs.declared.asset.PoolParams.{PoolParams}
 use Rattle.ledger_types.specs.declared.price.Price.{Price}
-use Rattle.ledger_types.specs.declared.predicate.ClaimPredicate.TheViews.{roll-ClaimPredicate}
-use Rattle.ledger_types.specs.declared.predicate.ClaimPredicate.TheOpen.{ClaimPredicate-F}
-use Rattle.ledger_types.specs.declared.account.AccountEntry.{AccountEntry}
-use Rattle.ledger_types.specs.declared.trust_line.TrustLineEntry.{TrustLineEntry}
-use Rattle.ledger_types.specs.declared.offer.OfferEntry.{OfferEntry}
-use Rattle.ledger_types.specs.declared.data_entry.DataEntry.{DataEntry}
-use Rattle.ledger_types.specs.declared.liquidity_pool.LiquidityPoolEntry.{LiquidityPoolEntry}
 use Rattle.ledger_types.specs.declared.entry.LedgerEntry.{LedgerEntry}
 use Rattle.ledger_types.specs.declared.entry.LedgerEntryBody.TheVariants as body
 use Rattle.ledger_types.specs.declared.bucket.BucketEntry.TheVariants as bucket
-use Rattle.ledger_types.specs.declared.header.LedgerHeader.{LedgerHeader}
 use Rattle.ledger_types.specs.declared.header.LedgerUpgrade.TheVariants as upgrade
 use Rattle.ledger_types.specs.declared.claim_atom.ClaimAtom.{ClaimAtom}
 use Rattle.ledger_types.specs.declared.claim_atom.ClaimAtom.TheVariants as atoms
@@ -47,18 +43,6 @@ use Rattle.op_types.specs.declared.operation_result.OperationResultTr.TheVariant
 use Rattle.op_types.specs.declared.transaction_result.InnerTransactionOutcome.TheVariants as inner
 use Rattle.op_types.specs.declared.transaction_result.InnerTransactionResultPair.{InnerTransactionResultPair}
 use Rattle.op_types.specs.declared.transaction_result.TransactionOutcome.TheVariants as outcome
-use Rattle.xdr_entries.specs.Basic.{liabilities, pool_params, price, signer_key}
-use Rattle.xdr_entries.specs.Predicates.{claim_predicate}
-use Rattle.xdr_entries.specs.Entries.{account_extension_v2, account_entry, trust_line_entry, offer_entry, data_entry}
-use Rattle.xdr_entries.specs.Entries.{liquidity_pool_entry}
-use Rattle.xdr_entries.specs.Keys.{bucket_entry}
-use Rattle.xdr_tx.specs.Operations.{set_options_op, path_payment_strict_receive_op, path_payment_strict_send_op}
-use Rattle.xdr_tx.specs.Operations.{manage_sell_offer_op, manage_buy_offer_op, create_passive_sell_offer_op}
-use Rattle.xdr_tx.specs.Operations.{set_trust_line_flags_op, liquidity_pool_deposit_op, liquidity_pool_withdraw_op}
-use Rattle.xdr_tx.specs.Transactions.{time_bounds, memo}
-use Rattle.xdr_results.specs.Answers.{claim_atom, manage_offer_effect}
-use Rattle.xdr_results.specs.Results.{operation_result_tr, inner_transaction_outcome, transaction_outcome}
-use Rattle.xdr_header.specs.Header.{ledger_upgrade, ledger_header}
 use Rattle.definition_rows.proofs.Rows.{hex}
 use Rattle.definition_rows.proofs.Readings.{is_encoding}
 use Rattle.definition_rows.proofs.Opened.{entries_formats, transactions_formats, results_formats, headers_formats}

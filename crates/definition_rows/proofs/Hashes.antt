@@ -1,32 +1,25 @@
 -- Hashes of envelopes laid out by hand, which another SHA-256 makes of their preimages, and the published hash of the
 -- public network's first ledger. The contracts of value_hashes name these definitions.
-use Rattle.std.proofs.Common.{◌≡◌, refl, ℕ, List, ◌++◌, replicate, Bool, true, false, ◌&&◌, Ok, Err}
-use Rattle.std.specs.Str.{bytes_eq}
-use Rattle.sha2.specs.Sha256.{sha256, first_words, schedule, rounds, compress, hash_after, digest_bytes}
-use Rattle.ledger_types.specs.declared.ids.Hash.{Hash}
-use Rattle.xdr_core.specs.declared.fault.XdrFault.{XdrFault}
-use Rattle.xdr_core.specs.Place.{Reading, start_of}
-use Rattle.xdr_core.specs.Leaves.{u32, u64, i32, i64, flag, fixed, var, count, opaque_at}
-use Rattle.xdr_core.specs.Combinators.{constant, option, list, many_at, times, extension}
-use Rattle.xdr_core.specs.Xdr.{Xdr}
-use Rattle.xdr_entries.specs.Basic.{hash, muxed_account}
-use Rattle.xdr_tx.specs.Operations.{operation, operation_body, second_body_arms, bump_sequence_op}
-use Rattle.xdr_tx.specs.Transactions.{memo, decorated_signature, behind_source, transaction, transaction_v0}
-use Rattle.xdr_tx.specs.Transactions.{fee_bump_transaction, transaction_v1_envelope, transaction_v0_envelope}
-use Rattle.xdr_tx.specs.Transactions.{fee_bump_envelope, transaction_envelope}
-use Rattle.xdr_results.specs.Results.{transaction_result_set}
-use Rattle.xdr_header.specs.Header.{stellar_value, limits, counts, ledger_header}
+use Rattle.definition_rows.proofs.Prelude as prelude
+use prelude.{◌≡◌, refl, ℕ, List, replicate, Bool, true, false, ◌&&◌, Ok, Err, bytes_eq, sha256, first_words, schedule}
+use prelude.{rounds, compress, hash_after, digest_bytes, Hash, XdrFault, Reading, start_of, u32, u64, i32, i64, flag}
+use prelude.{fixed, var, count, opaque_at, constant, option, list, many_at, times, extension, Xdr, hash, muxed_account}
+use prelude.{operation, operation_body, second_body_arms, bump_sequence_op, memo, decorated_signature, after_source}
+use prelude.{transaction, transaction_v0, fee_bump_transaction, transaction_v1_envelope, transaction_v0_envelope}
+use prelude.{fee_bump_envelope, transaction_envelope, transaction_result_set, stellar_value, limits, counts}
+use prelude.{ledger_header}
+use Rattle.std.proofs.Common.{◌++◌}
 use Rattle.value_hashes.specs.Hashes.{signed_hash_of, envelope_hash_of, ledger_hash_of, results_hash_of}
 use Rattle.definition_rows.proofs.Rows.{hex}
 
 abbrev is_hash : {V : Type 0} → (V → Hash) → List ℕ → Reading XdrFault V → Bool
-is_hash hash_of wanted (Ok x) = bytes_eq (hash_of x.0).0 wanted
-is_hash hash_of wanted (Err fault) = false
+is_hash hash_of expected (Ok x) = bytes_eq (hash_of x.0).0 expected
+is_hash hash_of expected (Err fault) = false
 
 -- The value that bytes decode to has this hash.
-unfoldable has_hash : {V : Type 0} → Xdr V → (V → Hash) → (encoding wanted : List ℕ) → Bool
+unfoldable has_hash : {V : Type 0} → Xdr V → (V → Hash) → (encoding expected : List ℕ) → Bool
 unfolding sha256 first_words schedule rounds compress hash_after digest_bytes hex
-has_hash format hash_of encoding wanted = is_hash hash_of wanted (format.read (start_of encoding))
+has_hash format hash_of encoding expected = is_hash hash_of expected (format.read (start_of encoding))
 
 -- the id of the test network
 abbrev test_network : Hash
@@ -90,7 +83,7 @@ transactions_have_the_hashes_that_another_sha256_makes : (
     && has_hash transaction_envelope (signed_hash_of test_network) fee_bump hash_of_fee_bump
     && has_hash transaction_envelope envelope_hash_of bump_sequence hash_of_envelope) ≡ true
 unfolding has_hash transaction_envelope transaction_v1_envelope transaction_v0_envelope fee_bump_envelope transaction
-    transaction_v0 fee_bump_transaction behind_source decorated_signature memo muxed_account operation operation_body
+    transaction_v0 fee_bump_transaction after_source decorated_signature memo muxed_account operation operation_body
     second_body_arms bump_sequence_op constant option list many_at u32 i32 i64 flag fixed var count opaque_at
 transactions_have_the_hashes_that_another_sha256_makes = refl
 

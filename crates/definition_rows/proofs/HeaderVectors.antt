@@ -2,10 +2,8 @@
 -- which fault reading meets at which offset. So many bytes are the value's encoding (Encodings). The rows named
 -- `_vectors` come from a program that shares nothing with this one; those named `_by_hand` were laid out by hand from
 -- the protocol's XDR, among them the public network's first header.
-use Rattle.std.proofs.Common.{◌≡◌, refl, true, ◌&&◌}
-use Rattle.std.specs.Prelude.{◌++◌}
-use Rattle.xdr_core.specs.declared.fault.XdrKind.TheVariants.{Short, BadEnum, TooLong}
-use Rattle.xdr_header.specs.Header.{ledger_upgrade, stellar_value, ledger_header}
+use Rattle.definition_rows.proofs.Prelude.{◌≡◌, refl, true, ◌&&◌, ◌++◌, Short, BadEnum, TooLong, ledger_upgrade}
+use Rattle.definition_rows.proofs.Prelude.{stellar_value, ledger_header}
 use Rattle.definition_rows.proofs.Rows.{hex}
 use Rattle.definition_rows.proofs.Readings.{has_value, has_fault}
 use Rattle.definition_rows.proofs.Opened.{headers_formats}

@@ -1,15 +1,11 @@
 -- Skip lists and upgrades with known answers. The contracts of `finish` and `apply_upgrades` name these definitions.
-use Rattle.std.proofs.Common.{◌≡◌, refl, sym, ap, ◌∙◌, ℕ, List, [], ◌∷◌, Option, Some, None, Result, Ok, Err}
-use Rattle.std.specs.List.{slice_get}
-use Rattle.ledger_types.specs.declared.ids.Hash.{Hash}
-use Rattle.ledger_types.specs.declared.header.LedgerHeader.{LedgerHeader}
+use Rattle.definition_rows.proofs.Prelude.{◌≡◌, refl, sym, ap, ◌∙◌, ℕ, List, [], ◌∷◌, Option, Some, None, Result, Ok}
+use Rattle.definition_rows.proofs.Prelude.{Err, slice_get, Hash, LedgerHeader, u32, i32, ledger_upgrade}
 use Rattle.ledger_types.specs.declared.header.LedgerUpgrade.{LedgerUpgrade}
-use Rattle.xdr_core.specs.Leaves.{u32, i32}
-use Rattle.xdr_header.specs.Header.{ledger_upgrade}
 use Rattle.header_chain.specs.declared.upgrades.UpgradeFault.{UpgradeFault}
 use Rattle.header_chain.specs.declared.upgrades.UpgradeFault.TheVariants.{Bad, OutOfProfile}
 use Rattle.header_chain.specs.SkipList.{skip_list_after}
-use Rattle.header_chain.specs.Upgrades.{upgrade_in, is_bad_at, is_out_of_profile, first_place, all_upgraded, IsUpgraded}
+use Rattle.header_chain.specs.Upgrades.{upgrade_in, is_bad_at, is_out_of_profile, first_index, all_upgraded, IsUpgraded}
 use Rattle.definition_rows.proofs.Rows.{hex}
 
 -- ---- skip lists
@@ -35,19 +31,19 @@ answer_of None None = Ok tt
 -- what a list of upgrades is answered
 abbrev answer : LedgerHeader → List (Option LedgerUpgrade) → Result (Unit {0}) UpgradeFault
 answer header asked =
-    answer_of (first_place (is_bad_at asked) asked)
-    (first_place (λ i. is_out_of_profile header (slice_get asked i)) asked)
+    answer_of (first_index (is_bad_at asked) asked)
+    (first_index (λ i. is_out_of_profile header (slice_get asked i)) asked)
 
 -- by the contract of apply_upgrades
 upgrades_answer : (asked : List (Option LedgerUpgrade)) (old new : LedgerHeader)
     (result : Result (Unit {0}) UpgradeFault) → IsUpgraded asked old new result → result ≡ answer old asked
 upgrades_answer asked old new (Ok done) (none_bad, none_out, upgraded) =
-    sym (ap (λ bad. answer_of bad (first_place (λ i. is_out_of_profile old (slice_get asked i)) asked)) none_bad
+    sym (ap (λ bad. answer_of bad (first_index (λ i. is_out_of_profile old (slice_get asked i)) asked)) none_bad
     ∙ ap (answer_of None) none_out)
 upgrades_answer asked old new (Err (Bad index)) (some_bad, stays) =
-    sym (ap (λ bad. answer_of bad (first_place (λ i. is_out_of_profile old (slice_get asked i)) asked)) some_bad)
+    sym (ap (λ bad. answer_of bad (first_index (λ i. is_out_of_profile old (slice_get asked i)) asked)) some_bad)
 upgrades_answer asked old new (Err (OutOfProfile index)) (none_bad, some_out, stays) =
-    sym (ap (λ bad. answer_of bad (first_place (λ i. is_out_of_profile old (slice_get asked i)) asked)) none_bad
+    sym (ap (λ bad. answer_of bad (first_index (λ i. is_out_of_profile old (slice_get asked i)) asked)) none_bad
     ∙ ap (answer_of None) some_out)
 
 -- two upgrades, each a type and a number

@@ -1,22 +1,16 @@
 -- Ids that the networks publish, and hashes that another SHA-256 makes of preimages laid out by hand. The contracts of
 -- hash_ids name these definitions.
-use Rattle.std.proofs.Common.{◌≡◌, refl, ℕ, pos, List, [], ◌∷◌, replicate, Bool, true, ◌&&◌, codes}
-use Rattle.std.specs.Str.{bytes_eq}
-use Rattle.sha2.specs.Sha256.{sha256, first_words, schedule, rounds, compress, hash_after, digest_bytes}
-use Rattle.ledger_types.specs.declared.ids.AccountId.{AccountId}
-use Rattle.ledger_types.specs.declared.ids.Hash.{Hash}
-use Rattle.ledger_types.specs.declared.asset.Asset.{Asset}
-use Rattle.ledger_types.specs.declared.asset.Asset.TheVariants.{Native, Alphanum4, Alphanum12}
-use Rattle.xdr_core.specs.Leaves.{u32, i32, i64, fixed}
-use Rattle.xdr_core.specs.Combinators.{constant}
-use Rattle.xdr_entries.specs.Basic.{account_id, hash, asset, pool_params}
+use Rattle.definition_rows.proofs.Prelude.{◌≡◌, refl, ℕ, pos, List, [], ◌∷◌, replicate, Bool, true, ◌&&◌, codes}
+use Rattle.definition_rows.proofs.Prelude.{bytes_eq, sha256, first_words, schedule, rounds, compress, hash_after}
+use Rattle.definition_rows.proofs.Prelude.{digest_bytes, AccountId, Hash, Asset, Native, Alphanum4, Alphanum12, u32}
+use Rattle.definition_rows.proofs.Prelude.{i32, i64, fixed, constant, account_id, hash, asset, pool_params}
 use Rattle.hash_ids.specs.Ids.{hash_of, network_id_of, tx_hash_of, set_hash_of, balance_id_of, revoke_id_of, pool_id_of}
 use Rattle.definition_rows.proofs.Rows.{hex}
 
 -- a hash has these bytes
 unfoldable is_hash : Hash → List ℕ → Bool
 unfolding sha256 first_words schedule rounds compress hash_after digest_bytes hex
-is_hash made wanted = bytes_eq made.0 wanted
+is_hash made expected = bytes_eq made.0 expected
 
 abbrev public_network : List ℕ
 public_network = hex "7ac33997544e3175d266bd022439b22cdb16508c01163f26e5cb2a3e1045a979"

@@ -1,21 +1,13 @@
 -- Keys in their order, and the key of an entry of each type, worked out by hand. The contracts of `keys_are_ordered`
 -- and of `LedgerEntry::key` name these definitions.
-use Rattle.std.proofs.Common.{◌≡◌, refl, pos, negsuc, List, [], ◌∷◌, replicate, Bool, true, ◌&&◌, codes}
-use Rattle.std.specs.Ordering.{is_lt}
-use Rattle.ledger_types.specs.declared.ids.AccountId.{AccountId}
-use Rattle.ledger_types.specs.declared.ids.Hash.{Hash}
-use Rattle.ledger_types.specs.declared.account.AccountEntry.{AccountEntry}
+use Rattle.definition_rows.proofs.Prelude.{◌≡◌, refl, pos, negsuc, List, [], ◌∷◌, replicate, Bool, true, ◌&&◌, codes}
+use Rattle.definition_rows.proofs.Prelude.{is_lt, AccountId, Hash, AccountEntry, TrustLineEntry, OfferEntry, DataEntry}
+use Rattle.definition_rows.proofs.Prelude.{LiquidityPoolEntry, LedgerKey, key_cmp}
 use Rattle.ledger_types.specs.declared.asset.TrustLineAsset.TheVariants as line
-use Rattle.ledger_types.specs.declared.trust_line.TrustLineEntry.{TrustLineEntry}
-use Rattle.ledger_types.specs.declared.offer.OfferEntry.{OfferEntry}
-use Rattle.ledger_types.specs.declared.data_entry.DataEntry.{DataEntry}
 use Rattle.ledger_types.specs.declared.claimable_balance.ClaimableBalanceEntry.{ClaimableBalanceEntry}
-use Rattle.ledger_types.specs.declared.liquidity_pool.LiquidityPoolEntry.{LiquidityPoolEntry}
 use Rattle.ledger_types.specs.declared.entry.LedgerEntryBody.TheVariants as body
-use Rattle.ledger_types.specs.declared.key.LedgerKey.{LedgerKey}
 use Rattle.ledger_types.specs.declared.key.LedgerKey.TheVariants as key
 use Rattle.ledger_types.specs.Keys.{key_of_body}
-use Rattle.ledger_types.specs.KeyOrder.{key_cmp}
 
 abbrev low : AccountId
 low = record { 0 = replicate 32 0x7f }

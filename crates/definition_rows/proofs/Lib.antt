@@ -13,7 +13,7 @@ mod FieldOrder
 mod BucketReadings
 mod BucketItems
 mod BucketFiles
-mod WholeFiles
+mod EntireFiles
 mod UnreadFiles
 mod MetaFaults
 mod OrderFaults
@@ -31,3 +31,4 @@ mod Signers
 mod Identities
 mod Hashes
 mod Fees
+pub mod Prelude

@@ -1,8 +1,7 @@
 -- Files of buckets that don't begin with META or have a second one, as another program has them: the first fault and
 -- its offset.
-use Rattle.std.proofs.Common.{◌≡◌, refl, true, ◌&&◌}
-use Rattle.std.specs.Prelude.{◌++◌, Some}
-use Rattle.bucket_core.specs.declared.fault.BucketFault.TheVariants.{NoMeta, SecondMeta}
+use Rattle.definition_rows.proofs.Prelude.{◌≡◌, refl, true, ◌&&◌, ◌++◌, NoMeta, SecondMeta}
+use Rattle.std.specs.Prelude.{Some}
 use Rattle.definition_rows.proofs.Rows.{hex}
 use Rattle.definition_rows.proofs.BucketReadings.{has_first_fault}
 use Rattle.definition_rows.proofs.Opened.{entries_formats}

@@ -1,47 +1,33 @@
 -- Groups of formats: to open a group is to open each format in it, so that rows of a type compute.
-use Rattle.std.specs.Prelude.{⊤}
-use Rattle.xdr_core.specs.Leaves.{u32, u64, i32, i64, flag, opaque_at, fixed, count, var, mark}
-use Rattle.xdr_core.specs.Combinators.{refused, constant, option, many_at, list, times, extension}
-use Rattle.xdr_entries.specs.Basic.{hash, account_id, claimable_balance_id, muxed_account, signer_key, signer, asset}
-use Rattle.xdr_entries.specs.Basic.{trust_line_asset, pool_params, change_trust_asset, price, liabilities}
-use Rattle.xdr_entries.specs.Predicates.{predicate_below}
-use Rattle.xdr_entries.specs.Entries.{account_extension_v2, account_extension_v1, account_head, account_tail}
-use Rattle.xdr_entries.specs.Entries.{account_entry, trust_line_extension_v2, trust_line_extension_v1}
-use Rattle.xdr_entries.specs.Entries.{trust_line_entry, offer_entry, data_entry, claimant}
-use Rattle.xdr_entries.specs.Entries.{claimable_balance_extension_v1, claimable_balance_entry, liquidity_pool_entry}
-use Rattle.xdr_entries.specs.Entries.{ledger_entry_body, ledger_entry_extension_v1, ledger_entry}
-use Rattle.xdr_entries.specs.Keys.{ledger_key, bucket_entry}
-use Rattle.xdr_tx.specs.Operations.{create_account_op, set_options_op, account_merge_op, manage_data_op}
-use Rattle.xdr_tx.specs.Operations.{bump_sequence_op, payment_op, path_payment_strict_receive_op}
-use Rattle.xdr_tx.specs.Operations.{path_payment_strict_send_op, manage_sell_offer_op, create_passive_sell_offer_op}
-use Rattle.xdr_tx.specs.Operations.{manage_buy_offer_op, change_trust_op, asset_code, allow_trust_op}
-use Rattle.xdr_tx.specs.Operations.{set_trust_line_flags_op, clawback_op, create_claimable_balance_op}
-use Rattle.xdr_tx.specs.Operations.{claim_claimable_balance_op, clawback_claimable_balance_op}
-use Rattle.xdr_tx.specs.Operations.{begin_sponsoring_future_reserves_op, revoke_sponsorship_op}
-use Rattle.xdr_tx.specs.Operations.{liquidity_pool_deposit_op, liquidity_pool_withdraw_op, last_body_arms}
-use Rattle.xdr_tx.specs.Operations.{third_body_arms, second_body_arms, operation_body, operation}
-use Rattle.xdr_tx.specs.Transactions.{memo, time_bounds, decorated_signature, behind_source, transaction}
-use Rattle.xdr_tx.specs.Transactions.{transaction_v0, transaction_v1_envelope, transaction_v0_envelope}
-use Rattle.xdr_tx.specs.Transactions.{fee_bump_transaction, fee_bump_envelope, transaction_envelope, transaction_set}
-use Rattle.xdr_results.specs.Answers.{claim_atom, simple_payment_result, path_payment_success, manage_offer_effect}
-use Rattle.xdr_results.specs.Answers.{manage_offer_success, inflation_payout, create_account_result, payment_result}
-use Rattle.xdr_results.specs.Answers.{path_payment_strict_receive_result, path_payment_strict_send_result}
-use Rattle.xdr_results.specs.Answers.{manage_offer_result, set_options_result, change_trust_result}
-use Rattle.xdr_results.specs.Answers.{allow_trust_result, account_merge_result, inflation_result, manage_data_result}
-use Rattle.xdr_results.specs.Answers.{bump_sequence_result, create_claimable_balance_result}
-use Rattle.xdr_results.specs.Answers.{claim_claimable_balance_result, begin_sponsoring_future_reserves_result}
-use Rattle.xdr_results.specs.Answers.{end_sponsoring_future_reserves_result, revoke_sponsorship_result}
-use Rattle.xdr_results.specs.Answers.{clawback_result, clawback_claimable_balance_result, set_trust_line_flags_result}
-use Rattle.xdr_results.specs.Answers.{liquidity_pool_deposit_result, liquidity_pool_withdraw_result}
-use Rattle.xdr_results.specs.Results.{last_run_arms, third_run_arms, second_run_arms, operation_result_tr}
-use Rattle.xdr_results.specs.Results.{operation_result, inner_transaction_outcome, inner_transaction_result}
-use Rattle.xdr_results.specs.Results.{inner_transaction_result_pair, transaction_outcome, transaction_result}
-use Rattle.xdr_results.specs.Results.{transaction_result_pair, transaction_result_set}
-use Rattle.xdr_header.specs.Header.{ledger_close_value_signature, stellar_value, ledger_upgrade}
-use Rattle.xdr_header.specs.Header.{ledger_header_extension_v1, limits, counts, ledger_header}
-use Rattle.xdr_header.specs.Records.{close_record}
-use Rattle.xdr_header.specs.Image.{file, files, start_image}
-use Rattle.sha2.specs.Sha256.{sha256, first_words, schedule, rounds, compress, hash_after, digest_bytes}
+use Rattle.definition_rows.proofs.Prelude as prelude
+use prelude.{⊤, u32, u64, i32, i64, flag, opaque_at, fixed, count, var, mark, refused, constant, option, many_at, list}
+use prelude.{times, extension, hash, account_id, claimable_balance_id, muxed_account, signer_key, signer, asset}
+use prelude.{trust_line_asset, pool_params, change_trust_asset, price, liabilities, predicate_below}
+use prelude.{account_extension_v2, account_extension_v1, account_head, account_tail, account_entry}
+use prelude.{trust_line_extension_v2, trust_line_extension_v1, trust_line_entry, offer_entry, data_entry, claimant}
+use prelude.{claimable_balance_extension_v1, claimable_balance_entry, liquidity_pool_entry, ledger_entry_body}
+use prelude.{ledger_entry_extension_v1, ledger_entry, ledger_key, bucket_entry, create_account_op, set_options_op}
+use prelude.{account_merge_op, manage_data_op, bump_sequence_op, payment_op, path_payment_strict_receive_op}
+use prelude.{path_payment_strict_send_op, manage_sell_offer_op, create_passive_sell_offer_op, manage_buy_offer_op}
+use prelude.{change_trust_op, asset_code, allow_trust_op, set_trust_line_flags_op, clawback_op}
+use prelude.{create_claimable_balance_op, claim_claimable_balance_op, clawback_claimable_balance_op}
+use prelude.{begin_sponsoring_future_reserves_op, revoke_sponsorship_op, liquidity_pool_deposit_op}
+use prelude.{liquidity_pool_withdraw_op, last_body_arms, third_body_arms, second_body_arms, operation_body, operation}
+use prelude.{memo, time_bounds, decorated_signature, after_source, transaction, transaction_v0, transaction_v1_envelope}
+use prelude.{transaction_v0_envelope, fee_bump_transaction, fee_bump_envelope, transaction_envelope, transaction_set}
+use prelude.{claim_atom, simple_payment_result, path_payment_success, manage_offer_effect, manage_offer_success}
+use prelude.{inflation_payout, create_account_result, payment_result, path_payment_strict_receive_result}
+use prelude.{path_payment_strict_send_result, manage_offer_result, set_options_result, change_trust_result}
+use prelude.{allow_trust_result, account_merge_result, inflation_result, manage_data_result, bump_sequence_result}
+use prelude.{create_claimable_balance_result, claim_claimable_balance_result, begin_sponsoring_future_reserves_result}
+use prelude.{end_sponsoring_future_reserves_result, revoke_sponsorship_result, clawback_result}
+use prelude.{clawback_claimable_balance_result, set_trust_line_flags_result, liquidity_pool_deposit_result}
+use prelude.{liquidity_pool_withdraw_result, last_run_arms, third_run_arms, second_run_arms, operation_result_tr}
+use prelude.{operation_result, inner_transaction_outcome, inner_transaction_result, inner_transaction_result_pair}
+use prelude.{transaction_outcome, transaction_result, transaction_result_pair, transaction_result_set}
+use prelude.{ledger_close_value_signature, stellar_value, ledger_upgrade, ledger_header_extension_v1, limits, counts}
+use prelude.{ledger_header, close_record, file, files, start_image, sha256, first_words, schedule, rounds, compress}
+use prelude.{hash_after, digest_bytes}
 
 -- the formats of RFC 4506, and those that are made of others
 unfoldable pub core_formats : ⊤
@@ -65,7 +51,7 @@ unfolding entries_formats create_account_op set_options_op account_merge_op mana
     set_trust_line_flags_op clawback_op create_claimable_balance_op claim_claimable_balance_op
     clawback_claimable_balance_op begin_sponsoring_future_reserves_op revoke_sponsorship_op
     liquidity_pool_deposit_op liquidity_pool_withdraw_op last_body_arms third_body_arms second_body_arms
-    operation_body operation memo time_bounds decorated_signature behind_source transaction transaction_v0
+    operation_body operation memo time_bounds decorated_signature after_source transaction transaction_v0
     transaction_v1_envelope transaction_v0_envelope fee_bump_transaction fee_bump_envelope transaction_envelope
     transaction_set
 transactions_formats = tt

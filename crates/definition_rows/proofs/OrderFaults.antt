@@ -1,7 +1,6 @@
 -- Files of buckets whose keys don't rise, as another program has them: the first fault and its offset.
-use Rattle.std.proofs.Common.{◌≡◌, refl, true, ◌&&◌}
-use Rattle.std.specs.Prelude.{◌++◌, Some}
-use Rattle.bucket_core.specs.declared.fault.BucketFault.TheVariants.{Order}
+use Rattle.definition_rows.proofs.Prelude.{◌≡◌, refl, true, ◌&&◌, ◌++◌, Order}
+use Rattle.std.specs.Prelude.{Some}
 use Rattle.definition_rows.proofs.Rows.{hex}
 use Rattle.definition_rows.proofs.BucketReadings.{has_first_fault}
 use Rattle.definition_rows.proofs.Opened.{entries_formats}

@@ -1,14 +1,14 @@
 -- Swaps, deposits and withdrawals. The expected numbers were worked out by Python's whole numbers, straight from the
 -- formulas of CAP-0038. The contracts of pool_math name these definitions.
-use Rattle.std.proofs.Common.{◌≡◌, refl, ℕ, ℤ, pos, ◌+◌, ◌*◌, ◌≤◌, min, Bool, true, false, ◌&&◌, Option, Some, None}
-use Rattle.std.specs.Prelude.{SomeIff, option_map, nat_eq, nat_le, nat_lt}
-use Rattle.std.specs.Bool.{Decides, then_some}
+use Rattle.definition_rows.proofs.Prelude.{◌≡◌, refl, ℕ, ℤ, pos, ◌+◌, ◌*◌, ◌≤◌, min, Bool, true, false, ◌&&◌, Option}
+use Rattle.definition_rows.proofs.Prelude.{Some, None, SomeIff, option_map, nat_eq, nat_le, nat_lt, Decides, then_some}
 use Rattle.pool_math.specs.declared.deposits.Deposited.{Deposited}
 use Rattle.pool_math.specs.Calls.{numbers_of, AnswersDeposit}
 use Rattle.pool_math.specs.Pools.{greatest, given_for, CanGive, taken_for, CanTake, withdrawn}
 use Rattle.pool_math.specs.Pools.{Deposit, CanDeposit, shares_for, later_deposit}
-use Rattle.definition_rows.proofs.Computed.{answers_so, at_most, below, both, same_numbers}
+use Rattle.definition_rows.proofs.Computed.{answers_so, below, same_numbers}
 use Rattle.definition_rows.proofs.Quotients.{is_root}
+use Rattle.definition_rows.proofs.Computed.{and_decides, nat_le_decides}
 
 -- ---- swaps: what calls of swap_in and swap_out answer
 
@@ -17,10 +17,10 @@ can_give x y put = (nat_le 1 x && nat_le 1 y) && (nat_le (x + put) greatest && n
 
 can_give_decides : (x y put : ℕ) → Decides (can_give x y put) (CanGive x y put)
 can_give_decides x y put =
-    let decides = both (nat_le 1 x && nat_le 1 y) (nat_le (x + put) greatest && nat_le 1 (given_for x y put))
-    (both (nat_le 1 x) (nat_le 1 y) (at_most 1 x) (at_most 1 y))
-    (both (nat_le (x + put) greatest) (nat_le 1 (given_for x y put))
-    (at_most (x + put) greatest) (at_most 1 (given_for x y put))) in (
+    let decides = and_decides (nat_le 1 x && nat_le 1 y) (nat_le (x + put) greatest && nat_le 1 (given_for x y put))
+    (and_decides (nat_le 1 x) (nat_le 1 y) (nat_le_decides 1 x) (nat_le_decides 1 y))
+    (and_decides (nat_le (x + put) greatest) (nat_le 1 (given_for x y put))
+    (nat_le_decides (x + put) greatest) (nat_le_decides 1 (given_for x y put))) in (
       λ e.
           let h = decides.0 e in record { some_x = h.0.0; some_y = h.0.1; fits = h.1.0; some = h.1.1 },
       λ h. decides.1 ((h.some_x, h.some_y), (h.fits, h.some)),
@@ -40,10 +40,10 @@ can_take x y want = (nat_le 1 x && nat_le 1 y) && (nat_lt want y && nat_le (x + 
 
 can_take_decides : (x y want : ℕ) → Decides (can_take x y want) (CanTake x y want)
 can_take_decides x y want =
-    let decides = both (nat_le 1 x && nat_le 1 y) (nat_lt want y && nat_le (x + taken_for x y want) greatest)
-    (both (nat_le 1 x) (nat_le 1 y) (at_most 1 x) (at_most 1 y))
-    (both (nat_lt want y) (nat_le (x + taken_for x y want) greatest)
-    (below want y) (at_most (x + taken_for x y want) greatest)) in (
+    let decides = and_decides (nat_le 1 x && nat_le 1 y) (nat_lt want y && nat_le (x + taken_for x y want) greatest)
+    (and_decides (nat_le 1 x) (nat_le 1 y) (nat_le_decides 1 x) (nat_le_decides 1 y))
+    (and_decides (nat_lt want y) (nat_le (x + taken_for x y want) greatest)
+    (below want y) (nat_le_decides (x + taken_for x y want) greatest)) in (
       λ e.
           let h = decides.0 e in record { some_x = h.0.0; some_y = h.0.1; left = h.1.0; fits = h.1.1 },
       λ h. decides.1 ((h.some_x, h.some_y), (h.left, h.fits)),
@@ -71,7 +71,7 @@ fewest_shares pool most = min (shares_for pool.0 pool.2 most.0) (shares_for pool
 can_deposit_decides : (pool : ℕ × ℕ × ℕ) (most : ℕ × ℕ) → 1 ≤ pool.2
     → Decides (nat_le (fewest_shares pool most) greatest) (CanDeposit pool.0 pool.1 pool.2 most.0 most.1)
 can_deposit_decides pool most some =
-    let decides = at_most (fewest_shares pool most) greatest in
+    let decides = nat_le_decides (fewest_shares pool most) greatest in
     (λ e. record { fits = λ _. decides.0 e }, λ h. decides.1 (h.fits some))
 
 deposit_is_some_iff : (pool : ℕ × ℕ × ℕ) (most : ℕ × ℕ) (answer : Option Deposited) → 1 ≤ pool.2
@@ -93,16 +93,16 @@ deposit_answers pool most answer some h =
 
 abbrev same_deposits : Option Deposit → Option (ℕ × ℕ × ℕ) → Bool
 same_deposits None None = true
-same_deposits (Some d) (Some wanted) = nat_eq d.shares wanted.0 && nat_eq d.a wanted.1 && nat_eq d.b wanted.2
+same_deposits (Some d) (Some expected) = nat_eq d.shares expected.0 && nat_eq d.a expected.1 && nat_eq d.b expected.2
 same_deposits a b = false
 
 -- A deposit into a pool that isn't empty gives so many shares for so much of each asset. The pool is its reserves and
 -- its shares.
 abbrev later_gives : ℕ × ℕ × ℕ → ℕ × ℕ → Option (ℕ × ℕ × ℕ) → Bool
-later_gives pool most wanted =
+later_gives pool most expected =
     same_deposits
     (then_some (nat_le (fewest_shares pool most) greatest) (later_deposit pool.0 pool.1 pool.2 most.0 most.1))
-    wanted
+    expected
 
 -- a withdrawal takes so much
 abbrev withdrawal_takes : (reserve total shares taken : ℕ) → Bool

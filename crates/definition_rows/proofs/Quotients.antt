@@ -1,17 +1,15 @@
 -- Rounded quotients, roots and orders of fractions, worked out with whole numbers of any size. The contracts of
 -- wide_math name these definitions.
-use Rattle.std.proofs.Common.{◌≡◌, refl, sym, ◌∙◌, ℕ, ℤ, pos, ◌+◌, ◌*◌, ◌^◌, ◌<◌, Bool, true, ◌&&◌, Option, Some, None}
-use Rattle.std.specs.Prelude.{SomeIff, nat_le, nat_lt}
-use Rattle.std.specs.Bool.{Decides, then_some}
-use Rattle.std.specs.declared.cmp.Ordering.{Ordering}
-use Rattle.std.specs.declared.cmp.Ordering.TheVariants.{Less, Equal, Greater}
-use Rattle.std.specs.Ordering.{nat_cmp}
+use Rattle.definition_rows.proofs.Prelude.{◌≡◌, refl, sym, ◌∙◌, ℕ, ℤ, pos, ◌+◌, ◌*◌, ◌^◌, ◌<◌, Bool, true, ◌&&◌, Option}
+use Rattle.definition_rows.proofs.Prelude.{Some, None, SomeIff, nat_le, nat_lt, Decides, then_some, Ordering, Less}
+use Rattle.definition_rows.proofs.Prelude.{Equal, Greater, nat_cmp}
 use Rattle.wide_math.specs.declared.quotient.Round.{Round}
 use Rattle.wide_math.specs.declared.quotient.Round.TheVariants.{Down, Up}
 use Rattle.wide_math.specs.Quotient.{quotient}
 use Rattle.wide_math.specs.Root.{IsRoot, square_root}
 use Rattle.wide_math.proofs.Roots.{root_function}
-use Rattle.definition_rows.proofs.Computed.{answers_so, below, at_most, both, same_numbers, same_orders}
+use Rattle.definition_rows.proofs.Computed.{answers_so, below, same_numbers, same_orders}
+use Rattle.definition_rows.proofs.Computed.{and_decides, nat_le_decides}
 
 -- the greatest number of 64 bits with a sign
 abbrev greatest : ℕ
@@ -42,14 +40,14 @@ abbrev pub is_root : (v root : ℕ) → Bool
 is_root v root = nat_le (root * root) v && nat_lt v ((root + 1) * (root + 1))
 
 pub is_root_decides : (v root : ℕ) → Decides (is_root v root) (IsRoot v root)
-is_root_decides v root = both (nat_le (root * root) v) (nat_lt v ((root + 1) * (root + 1)))
-    (at_most (root * root) v) (below v ((root + 1) * (root + 1)))
+is_root_decides v root = and_decides (nat_le (root * root) v) (nat_lt v ((root + 1) * (root + 1)))
+    (nat_le_decides (root * root) v) (below v ((root + 1) * (root + 1)))
 
 -- what isqrt answers, of which a row gives the number
 root_answers : (v root answer : ℕ) → is_root v root ≡ true → answer ≡ square_root v → answer ≡ root
 root_answers v root answer e h = h ∙ sym (root_function v root ((is_root_decides v root).0 e))
 
--- two fractions stand so
+-- two fractions are ordered so
 abbrev are_ordered : (a b : ℕ × ℕ) → Ordering → Bool
 are_ordered a b order = same_orders (nat_cmp (a.0 * b.1) (b.0 * a.1)) order
 

@@ -1,14 +1,9 @@
 -- What reading makes of bytes, as truths that rows are made of.
-use Rattle.std.proofs.Common.{◌≡◌, refl, ℕ, Bool, true, false, ◌&&◌, List, length, ◌++◌, Ok, Err, arith}
-use Rattle.std.specs.Prelude.{nat_eq, bytes_eq}
-use Rattle.std.proofs.lemmas.Bool.{eqb-true}
-use Rattle.xdr_core.specs.declared.fault.XdrFault.{XdrFault}
-use Rattle.xdr_core.specs.declared.fault.XdrKind.{XdrKind}
-use Rattle.xdr_core.specs.declared.fault.XdrKind.TheVariants.{Short, Padding, BadEnum, BadFlag, TooLong, BadMark}
-use Rattle.xdr_core.specs.declared.fault.XdrKind.TheVariants.{Trailing, TooDeep}
-use Rattle.xdr_core.specs.Place.{Reading, start_of}
-use Rattle.xdr_core.specs.Format.{IsBytes, Lawful}
-use Rattle.xdr_core.specs.Xdr.{Xdr}
+use Rattle.definition_rows.proofs.Prelude.{◌≡◌, refl, ℕ, Bool, true, false, ◌&&◌, List, Ok, Err, arith, nat_eq}
+use Rattle.definition_rows.proofs.Prelude.{eqb-true, XdrFault, XdrKind, Short, Padding, BadEnum, BadFlag, TooLong}
+use Rattle.definition_rows.proofs.Prelude.{BadMark, Trailing, TooDeep, Reading, start_of, IsBytes, Lawful, Xdr}
+use Rattle.std.proofs.Common.{length, ◌++◌}
+use Rattle.std.specs.Prelude.{bytes_eq}
 
 -- the kinds of faults, numbered
 abbrev pub kind_number : XdrKind → ℕ
@@ -23,7 +18,7 @@ kind_number TooDeep = 7
 
 -- The bytes are the value's encoding.
 unfoldable pub is_encoding : {V : Type 0} → Xdr V → V → List ℕ → Bool
-is_encoding format value bytes = bytes_eq (format.spell value) bytes
+is_encoding format value bytes = bytes_eq (format.encoding value) bytes
 
 -- a value was read, and the offset after it is n
 abbrev pub is_value : {V : Type 0} → ℕ → Reading XdrFault V → Bool
@@ -49,8 +44,8 @@ has_fault format kind offset bytes = is_fault kind offset (format.read (start_of
 pub record BeginsWithEncoding {V : Type 0} (format : Xdr V) (n : ℕ) (bytes : List ℕ) : Type 0 where
   pub value : V
   pub rest : List ℕ
-  pub prefix : bytes ≡ format.spell value ++ rest
-  pub len : length (format.spell value) ≡ n
+  pub prefix : bytes ≡ format.encoding value ++ rest
+  pub len : length (format.encoding value) ≡ n
 
 encoded_as : {V : Type 0} (format : Xdr V) → Lawful format → (n : ℕ) (bytes : List ℕ) → IsBytes bytes
     → (reading : Reading XdrFault V) → format.read (start_of bytes) ≡ reading → is_value n reading ≡ true
@@ -58,7 +53,7 @@ encoded_as : {V : Type 0} (format : Xdr V) → Lawful format → (n : ℕ) (byte
 encoded_as format lawful n bytes are (Ok (v, q)) read ends =
     let taken = (lawful.takes (start_of bytes) q v are read).taken in
     let at : q.at ≡ n = eqb-true q.at n ends in
-    let len : length (format.spell v) ≡ n = omega (arith, taken.at, at) in
+    let len : length (format.encoding v) ≡ n = omega (arith, taken.at, at) in
     record { value = v; rest = q.rest; prefix = taken.parts; len = len }
 encoded_as format lawful n bytes are (Err fault) read ends = absurd (cc)
 

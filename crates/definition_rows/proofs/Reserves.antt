@@ -1,16 +1,14 @@
 -- What accounts and trust lines can spend and take, worked out by hand at a base reserve of half a lumen. The
 -- contracts of reserve_rules name these definitions.
-use Rattle.std.proofs.Common.{◌≡◌, refl, ℕ, ℤ, pos, negsuc, neg_ℤ, ◌+ℤ◌, ◌≤ℤ◌, ◌<ℤ◌, ◌↔◌, Bool, true, false}
-use Rattle.std.proofs.Common.{[], not, ◌&&◌, ◌||◌, Option, Some, None, if◌then◌else◌, arith}
-use Rattle.std.specs.Prelude.{int_le, int_lt}
-use Rattle.std.specs.Bool.{Decides}
-use Rattle.std.specs.Ordering.{int_eq}
+use Rattle.definition_rows.proofs.Prelude.{◌≡◌, refl, ℕ, ℤ, pos, negsuc, neg_ℤ, ◌+ℤ◌, ◌≤ℤ◌, ◌<ℤ◌, ◌↔◌, Bool, true}
+use Rattle.definition_rows.proofs.Prelude.{false, [], not, ◌&&◌, ◌||◌, Option, Some, None, arith, int_le, int_lt}
+use Rattle.definition_rows.proofs.Prelude.{Decides, int_eq, AccountEntry, TrustLineEntry}
+use Rattle.std.proofs.Common.{if◌then◌else◌}
 use Rattle.std.proofs.lemmas.Int.{ints}
-use Rattle.ledger_types.specs.declared.account.AccountEntry.{AccountEntry}
 use Rattle.ledger_types.specs.declared.account.AccountEntryExtensionV1.{AccountEntryExtensionV1}
-use Rattle.ledger_types.specs.declared.trust_line.TrustLineEntry.{TrustLineEntry}
 use Rattle.reserve_rules.specs.Reserve.{min_balance, available, room, line_available, line_room, Passes}
-use Rattle.definition_rows.proofs.Computed.{both, either, same_flags, not_where}
+use Rattle.definition_rows.proofs.Computed.{same_flags, not_where}
+use Rattle.definition_rows.proofs.Computed.{and_decides, or_decides}
 
 abbrev base_reserve : ℕ
 base_reserve = 5000000
@@ -58,17 +56,17 @@ abbrev passes : (delta to_take to_spend : ℤ) → Bool
 passes delta to_take to_spend =
     (int_le (pos 0) delta && int_lt to_take delta) || (int_lt delta (pos 0) && int_lt to_spend (neg_ℤ delta))
 
-at_most : (a b : ℤ) → Decides (int_le a b) (a ≤ℤ b)
-at_most a b = (λ e. grind (arith, ints), λ h. grind (arith, ints))
+int_le_decides : (a b : ℤ) → Decides (int_le a b) (a ≤ℤ b)
+int_le_decides a b = (λ e. grind (arith, ints), λ h. grind (arith, ints))
 
 below : (a b : ℤ) → Decides (int_lt a b) (a <ℤ b)
 below a b = (λ e. grind (arith, ints), λ h. grind (arith, ints))
 
 passes_decides : (delta to_take to_spend : ℤ) → Decides (passes delta to_take to_spend) (Passes delta to_take to_spend)
 passes_decides delta to_take to_spend =
-    either (int_le (pos 0) delta && int_lt to_take delta) (int_lt delta (pos 0) && int_lt to_spend (neg_ℤ delta))
-    (both (int_le (pos 0) delta) (int_lt to_take delta) (at_most (pos 0) delta) (below to_take delta))
-    (both (int_lt delta (pos 0)) (int_lt to_spend (neg_ℤ delta)) (below delta (pos 0)) (below to_spend (neg_ℤ delta)))
+    or_decides (int_le (pos 0) delta && int_lt to_take delta) (int_lt delta (pos 0) && int_lt to_spend (neg_ℤ delta))
+    (and_decides (int_le (pos 0) delta) (int_lt to_take delta) (int_le_decides (pos 0) delta) (below to_take delta))
+    (and_decides (int_lt delta (pos 0)) (int_lt to_spend (neg_ℤ delta)) (below delta (pos 0)) (below to_spend (neg_ℤ delta)))
 
 -- what calls of add_balance and line_add answer, by their contracts
 change_answers : (delta to_take to_spend : ℤ) (done : Bool) → ((done ≡ false) ↔ Passes delta to_take to_spend)

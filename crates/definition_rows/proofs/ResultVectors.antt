@@ -1,10 +1,7 @@
 -- Vectors of result sets: how long the value is that the bytes begin with, or which fault reading meets at which
 -- offset. So many bytes are the value's encoding (Encodings). The rows named `_vectors` come from a program that shares
 -- nothing with this one; those named `_by_hand` were laid out by hand from the protocol's XDR.
-use Rattle.std.proofs.Common.{◌≡◌, refl, true, ◌&&◌}
-use Rattle.std.specs.Prelude.{◌++◌}
-use Rattle.xdr_core.specs.declared.fault.XdrKind.TheVariants.{BadEnum}
-use Rattle.xdr_results.specs.Results.{transaction_result_set}
+use Rattle.definition_rows.proofs.Prelude.{◌≡◌, refl, true, ◌&&◌, ◌++◌, BadEnum, transaction_result_set}
 use Rattle.definition_rows.proofs.Rows.{hex}
 use Rattle.definition_rows.proofs.Readings.{has_value, has_fault}
 use Rattle.definition_rows.proofs.Opened.{results_formats}

@@ -1,6 +1,6 @@
 -- What rows are made of. A lemma is a group of rows under `&&`, each of which the checker computes.
-use Rattle.std.proofs.Common.{ℕ, ◌+◌, ◌*◌, ◌-◌, List, [], ◌∷◌}
-use Rattle.std.specs.Prelude.{nat_lt, if◌then◌else◌, codes}
+use Rattle.definition_rows.proofs.Prelude.{ℕ, ◌+◌, ◌*◌, ◌-◌, List, [], ◌∷◌, nat_lt, if◌then◌else◌}
+use Rattle.std.specs.Prelude.{codes}
 use Prim.Native.String.{String}
 
 -- the number of a hexadecimal digit, 0 to 9 or a to f

@@ -1,10 +1,9 @@
 -- Which signers count, and which signatures are used, worked out by hand. The contracts of `Checker` name these
 -- definitions.
-use Rattle.std.proofs.Common.{◌≡◌, refl, ℕ, List, [], ◌∷◌, map, replicate, Bool, true, false, ◌&&◌, codes}
-use Rattle.std.specs.List.{list_all}
-use Rattle.sha2.specs.Sha256.{sha256, first_words, schedule, rounds, compress, hash_after, digest_bytes}
-use Rattle.ledger_types.specs.declared.ids.Hash.{Hash}
-use Rattle.ledger_types.specs.declared.account.AccountEntry.{AccountEntry}
+use Rattle.definition_rows.proofs.Prelude.{◌≡◌, refl, ℕ, List, [], ◌∷◌, replicate, Bool, true, false, ◌&&◌, codes}
+use Rattle.definition_rows.proofs.Prelude.{list_all, sha256, first_words, schedule, rounds, compress, hash_after}
+use Rattle.definition_rows.proofs.Prelude.{digest_bytes, Hash, AccountEntry}
+use Rattle.std.proofs.Common.{map}
 use Rattle.ledger_types.specs.declared.signer.Signer.{Signer}
 use Rattle.ledger_types.specs.declared.signer.SignerKey.TheVariants.{Ed25519, PreAuthTx, HashX}
 use Rattle.op_types.specs.declared.transaction.DecoratedSignature.{DecoratedSignature}
@@ -55,21 +54,21 @@ abbrev all_used : List HeldSignature → Bool
 all_used signatures = list_all (λ signature. signature.is_used) signatures
 
 -- The only check of a transaction that has these signatures succeeds or not, and uses all of them or not.
-unfoldable comes_to : AccountEntry → List Signer → List DecoratedSignature → (need : ℕ) → (success use_of_all : Bool)
+unfoldable yields : AccountEntry → List Signer → List DecoratedSignature → (need : ℕ) → (success use_of_all : Bool)
     → Bool
 unfolding first_match counted_by_signatures reaches until_reached used_at used_for sha256 first_words schedule rounds
     compress hash_after digest_bytes hex
-comes_to any signers signatures need success use_of_all =
+yields any signers signatures need success use_of_all =
     let account = signed_by signers any in
     let shown = map held signatures in
     same_flags (succeeds transaction shown account need) success
     && same_flags (all_used (after_check transaction shown account need)) use_of_all
 
 signatures_are_used_up_to_the_one_that_reaches_the_need : (any : AccountEntry)
-    → (comes_to any (hash_x one 1 ∷ hash_x two 1 ∷ []) (signed_two ∷ signed_one ∷ []) 2 true true
-    && comes_to any (hash_x one 1 ∷ hash_x two 1 ∷ []) (signed_two ∷ signed_one ∷ []) 1 true false
-    && comes_to any (hash_x one 1 ∷ hash_x two 1 ∷ []) (signed_two ∷ signed_one ∷ []) 3 false true) ≡ true
-unfolding comes_to
+    → (yields any (hash_x one 1 ∷ hash_x two 1 ∷ []) (signed_two ∷ signed_one ∷ []) 2 true true
+    && yields any (hash_x one 1 ∷ hash_x two 1 ∷ []) (signed_two ∷ signed_one ∷ []) 1 true false
+    && yields any (hash_x one 1 ∷ hash_x two 1 ∷ []) (signed_two ∷ signed_one ∷ []) 3 false true) ≡ true
+unfolding yields
 signatures_are_used_up_to_the_one_that_reaches_the_need any = refl
 
 -- three checks: of an account with a signer by the second preimage, and twice of one with a signer by the first
@@ -87,26 +86,26 @@ a_signature_stays_used_and_can_count_for_several_accounts : (any : AccountEntry)
     && all_used second
     && succeeds transaction second with_one 1
     && all_used third) ≡ true
-unfolding comes_to
+unfolding yields
 a_signature_stays_used_and_can_count_for_several_accounts any = refl
 
 each_signer_counts_once : (any : AccountEntry)
-    → (comes_to any (hash_x one 1 ∷ []) (signed_one ∷ signed_one ∷ []) 2 false false
-    && comes_to any (hash_x one 1 ∷ hash_x one 1 ∷ []) (signed_one ∷ signed_one ∷ []) 2 true true) ≡ true
-unfolding comes_to
+    → (yields any (hash_x one 1 ∷ []) (signed_one ∷ signed_one ∷ []) 2 false false
+    && yields any (hash_x one 1 ∷ hash_x one 1 ∷ []) (signed_one ∷ signed_one ∷ []) 2 true true) ≡ true
+unfolding yields
 each_signer_counts_once any = refl
 
 a_weight_above_255_counts_as_255 : (any : AccountEntry)
-    → (comes_to any (hash_x one 1000 ∷ []) (signed_one ∷ []) 255 true true
-    && comes_to any (hash_x one 1000 ∷ []) (signed_one ∷ []) 256 false true) ≡ true
-unfolding comes_to
+    → (yields any (hash_x one 1000 ∷ []) (signed_one ∷ []) 255 true true
+    && yields any (hash_x one 1000 ∷ []) (signed_one ∷ []) 256 false true) ≡ true
+unfolding yields
 a_weight_above_255_counts_as_255 any = refl
 
 a_need_of_0_takes_one_signer : (any : AccountEntry)
-    → (comes_to any (hash_x one 1 ∷ []) [] 0 false true
-    && comes_to any (hash_x one 1 ∷ []) (signed_two ∷ []) 0 false false
-    && comes_to any (hash_x one 1 ∷ []) (signed_one ∷ []) 0 true true) ≡ true
-unfolding comes_to
+    → (yields any (hash_x one 1 ∷ []) [] 0 false true
+    && yields any (hash_x one 1 ∷ []) (signed_two ∷ []) 0 false false
+    && yields any (hash_x one 1 ∷ []) (signed_one ∷ []) 0 true true) ≡ true
+unfolding yields
 a_need_of_0_takes_one_signer any = refl
 
 -- a signer by the hash of the transaction
@@ -114,14 +113,14 @@ abbrev by_hash : Signer
 by_hash = record { key = PreAuthTx transaction; weight = 2 }
 
 a_signer_by_the_hash_counts_before_the_signatures : (any : AccountEntry)
-    → (comes_to any (hash_x one 2 ∷ by_hash ∷ []) (signed_one ∷ []) 2 true false
-    && comes_to any (hash_x one 2 ∷ by_hash ∷ []) (signed_one ∷ []) 4 true true) ≡ true
-unfolding comes_to
+    → (yields any (hash_x one 2 ∷ by_hash ∷ []) (signed_one ∷ []) 2 true false
+    && yields any (hash_x one 2 ∷ by_hash ∷ []) (signed_one ∷ []) 4 true true) ≡ true
+unfolding yields
 a_signer_by_the_hash_counts_before_the_signatures any = refl
 
 an_ed25519_key_and_a_wrong_hint_match_nothing : (any : AccountEntry)
-    → (comes_to any (record { key = Ed25519 one.0; weight = 1 } ∷ []) (signed_one ∷ []) 1 false false
-    && comes_to any [] (signed_nine ∷ []) 1 false false
-    && comes_to any (hash_x one 1 ∷ []) (misled ∷ []) 1 false false) ≡ true
-unfolding comes_to
+    → (yields any (record { key = Ed25519 one.0; weight = 1 } ∷ []) (signed_one ∷ []) 1 false false
+    && yields any [] (signed_nine ∷ []) 1 false false
+    && yields any (hash_x one 1 ∷ []) (misled ∷ []) 1 false false) ≡ true
+unfolding yields
 an_ed25519_key_and_a_wrong_hint_match_nothing any = refl

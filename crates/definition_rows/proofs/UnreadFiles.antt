@@ -1,7 +1,6 @@
 -- Files of buckets of which an item doesn't read, as another program has them: the first fault and its offset.
-use Rattle.std.proofs.Common.{◌≡◌, refl, true, ◌&&◌}
-use Rattle.std.specs.Prelude.{◌++◌, Some}
-use Rattle.xdr_core.specs.declared.fault.XdrKind.TheVariants.{Short, BadEnum, BadFlag, TooLong}
+use Rattle.definition_rows.proofs.Prelude.{◌≡◌, refl, true, ◌&&◌, ◌++◌, Short, BadEnum, BadFlag, TooLong}
+use Rattle.std.specs.Prelude.{Some}
 use Rattle.bucket_core.specs.declared.fault.BucketFault.TheVariants.{Xdr}
 use Rattle.definition_rows.proofs.Rows.{hex}
 use Rattle.definition_rows.proofs.BucketReadings.{has_first_fault}

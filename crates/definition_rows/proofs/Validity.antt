@@ -1,12 +1,8 @@
 -- Texts, assets and predicates at both sides of each bound. The contracts of valid_values name these definitions.
-use Rattle.std.proofs.Common.{◌≡◌, refl, ap, ◌∙◌, ℕ, zero, suc, ℤ, pos, negsuc, List, [], ◌∷◌, codes}
-use Rattle.std.proofs.Common.{Bool, true, false, not, ◌&&◌}
-use Rattle.std.proofs.Common.{Option, Some, None}
-use Rattle.ledger_types.specs.declared.ids.AccountId.{AccountId}
-use Rattle.ledger_types.specs.declared.asset.Asset.TheVariants.{Native, Alphanum4, Alphanum12}
+use Rattle.definition_rows.proofs.Prelude.{◌≡◌, refl, ap, ◌∙◌, ℕ, zero, suc, ℤ, pos, negsuc, List, [], ◌∷◌, codes, Bool}
+use Rattle.definition_rows.proofs.Prelude.{true, false, not, ◌&&◌, Option, Some, None, AccountId, Native, Alphanum4}
+use Rattle.definition_rows.proofs.Prelude.{Alphanum12, roll-ClaimPredicate, out-roll-ClaimPredicate, ClaimPredicate-F}
 use Rattle.ledger_types.specs.declared.predicate.ClaimPredicate.{ClaimPredicate}
-use Rattle.ledger_types.specs.declared.predicate.ClaimPredicate.TheViews.{roll-ClaimPredicate, out-roll-ClaimPredicate}
-use Rattle.ledger_types.specs.declared.predicate.ClaimPredicate.TheOpen.{ClaimPredicate-F}
 use Rattle.valid_values.specs.Texts.{is_valid_text}
 use Rattle.valid_values.specs.Assets.{is_valid_code, is_valid_asset}
 use Rattle.valid_values.specs.Predicates.{is_valid_level, is_valid_below, is_valid_predicate, is_valid_stored_predicate}

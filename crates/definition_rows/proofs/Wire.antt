@@ -1,33 +1,25 @@
 -- Encodings laid out by hand after RFC 4506 and RFC 5531, read and written. The contracts of `Cursor` and `Builder`
 -- name these formats.
-use Rattle.std.proofs.Common.{◌≡◌, refl, ap, ℕ, pos, negsuc, List, [], ◌∷◌, ◌++◌, drop, Bool, true, false, ◌&&◌}
-use Rattle.std.proofs.Common.{Some, None, Result, Ok, Err, codes, ◌-◌}
+use Rattle.definition_rows.proofs.Prelude.{◌≡◌, refl, ap, ℕ, pos, negsuc, List, [], ◌∷◌, Bool, true, false, ◌&&◌, Some}
+use Rattle.definition_rows.proofs.Prelude.{None, Result, Ok, Err, codes, ◌-◌, nat_eq, int_eq, bytes_eq, false≢true}
+use Rattle.definition_rows.proofs.Prelude.{XdrFault, XdrKind, Short, Padding, TooLong, BadFlag, BadMark, BadEnum}
+use Rattle.definition_rows.proofs.Prelude.{Trailing, Position, Reading, start_of, onward, u32, u64, i32, i64, flag}
+use Rattle.definition_rows.proofs.Prelude.{fixed, count, var, opaque_at, mark, ◌⨾◌, constant, option, list, many_at}
+use Rattle.definition_rows.proofs.Prelude.{extension, Xdr, tag, optional, list_of, extension_of, EndsAt}
+use Rattle.std.proofs.Common.{◌++◌, drop}
 use Prim.Native.String.{String}
-use Rattle.std.specs.Prelude.{nat_eq}
-use Rattle.std.specs.Ordering.{int_eq}
-use Rattle.std.specs.Str.{bytes_eq}
-use Rattle.std.proofs.lemmas.Bool.{false≢true}
-use Rattle.xdr_core.specs.declared.fault.XdrFault.{XdrFault}
-use Rattle.xdr_core.specs.declared.fault.XdrKind.{XdrKind}
-use Rattle.xdr_core.specs.declared.fault.XdrKind.TheVariants.{Short, Padding, TooLong, BadFlag, BadMark, BadEnum}
-use Rattle.xdr_core.specs.declared.fault.XdrKind.TheVariants.{Trailing}
-use Rattle.xdr_core.specs.Place.{Place, Reading, start_of, onward}
-use Rattle.xdr_core.specs.Leaves.{u32, u64, i32, i64, flag, fixed, count, var, opaque_at, mark}
-use Rattle.xdr_core.specs.Combinators.{◌⨾◌, constant, option, list, many_at, extension}
-use Rattle.xdr_core.specs.Xdr.{Xdr, tag, optional, list_of, extension_of}
-use Rattle.xdr_core.specs.Ending.{EndsAt}
 use Rattle.definition_rows.proofs.Computed.{same_numbers, same_flags}
 use Rattle.definition_rows.proofs.Rows.{hex}
 use Rattle.definition_rows.proofs.Readings.{kind_number}
 
 -- ---- what rows say
 
-abbrev is_value : {V : Type 0} → (V → V → Bool) → Place → V → (end : ℕ) → Reading XdrFault V → Bool
+abbrev is_value : {V : Type 0} → (V → V → Bool) → Position → V → (end : ℕ) → Reading XdrFault V → Bool
 is_value same p v end (Ok x) = same x.0 v && nat_eq x.1.at end && bytes_eq x.1.rest (drop (end - p.at) p.rest)
 is_value same p v end (Err fault) = false
 
 -- A value begins at an offset and ends at another.
-abbrev reads : {V : Type 0} → Xdr V → (V → V → Bool) → Place → V → (end : ℕ) → Bool
+abbrev reads : {V : Type 0} → Xdr V → (V → V → Bool) → Position → V → (end : ℕ) → Bool
 reads format same p v end = is_value same p v end (format.read p)
 
 abbrev is_fault : {V : Type 0} → (at : ℕ) → XdrKind → Reading XdrFault V → Bool
@@ -35,7 +27,7 @@ is_fault at kind (Ok x) = false
 is_fault at kind (Err fault) = nat_eq fault.at at && nat_eq (kind_number fault.kind) (kind_number kind)
 
 -- No value begins there, and the fault names its offset.
-abbrev fails : {V : Type 0} → Xdr V → Place → (at : ℕ) → XdrKind → Bool
+abbrev fails : {V : Type 0} → Xdr V → Position → (at : ℕ) → XdrKind → Bool
 fails format p at kind = is_fault at kind (format.read p)
 
 -- A value is written as these bytes, after one that stays.
@@ -43,7 +35,7 @@ abbrev writes : {V : Type 0} → Xdr V → V → List ℕ → Bool
 writes format v encoding = bytes_eq (format.onto (255 ∷ []) v) (255 ∷ encoding)
 
 -- the start of these bytes
-abbrev input : String → Place
+abbrev input : String → Position
 input digits = start_of (hex digits)
 
 abbrev same_units : Unit {0} → Unit {0} → Bool
@@ -137,25 +129,25 @@ abbrev same_values : Values → Values → Bool
 same_values (a, (b, (c, (d, (e, f))))) (i, (j, (k, (l, (m, n))))) =
     same_flags a i && same_flags b j && nat_eq c k && bytes_eq d l && bytes_eq e m && bytes_eq f n
 
-fields_stand_one_after_another : (
+fields_follow_one_another : (
     reads fields same_values (start_of fields_input) values 32
     && bytes_eq (fields.onto [] values ++ codes "raw") fields_input) ≡ true
 unfolding flag count fixed var opaque_at hex
-fields_stand_one_after_another = refl
+fields_follow_one_another = refl
 
 -- after so many bytes of them
-abbrev after : ℕ → Place
+abbrev after : ℕ → Position
 after n = onward n (start_of fields_input)
 
 -- Offsets are counted from the start of the input.
-a_fault_names_its_offset_in_the_whole_input : (
+a_fault_names_its_offset_in_the_entire_input : (
     fails (count 1) (after 8) 8 TooLong
     && fails flag (after 8) 8 BadFlag
     && fails (fixed 3) (after 12) 15 Padding
     && fails u32 (after 35) 35 Short
     && fails u64 (after 35) 35 Short) ≡ true
 unfolding flag count fixed opaque_at u32 u64 hex
-a_fault_names_its_offset_in_the_whole_input = refl
+a_fault_names_its_offset_in_the_entire_input = refl
 
 abbrev is_empty : List ℕ → Bool
 is_empty [] = true
@@ -176,11 +168,11 @@ nothing_is_left_after_the_last_byte (Err fault) left_over = absurd (left_over.1 
 -- ---- record marks and tags
 
 -- after four bytes
-abbrev after_word : String → Place
+abbrev after_word : String → Position
 after_word digits = onward 4 (start_of (codes "word" ++ hex digits))
 
 -- The kind of a mark and its length are tested before what follows.
-a_record_stands_after_its_mark : (
+a_record_follows_its_mark : (
     reads (mark 4) bytes_eq (after_word "800000026162") (codes "ab") 10
     && reads (mark 4) bytes_eq (after_word "80000004616263646566") (codes "abcd") 12
     && reads (mark 4) bytes_eq (after_word "80000000") [] 8
@@ -191,13 +183,13 @@ a_record_stands_after_its_mark : (
     && fails (mark 4) (after_word "80000004616263") 11 Short
     && fails (mark 4) (after_word "800000") 7 Short) ≡ true
 unfolding mark hex
-a_record_stands_after_its_mark = refl
+a_record_follows_its_mark = refl
 
 -- inside a record whose mark is at offset 4
-abbrev inside : List ℕ → Place
+abbrev inside : List ℕ → Position
 inside contents = record { at = 8; rest = contents }
 
--- What is in a record ends with it, and its offsets are those of the whole input.
+-- What is in a record ends with it, and its offsets are those of the entire input.
 a_record_is_read_to_its_own_end : (
     reads (mark 8) bytes_eq (after_word "80000004000000076d6f7265") (hex "00000007") 12
     && reads (mark 8) bytes_eq (after_word "80000008000000096d6f7265") (hex "000000096d6f7265") 16
@@ -228,30 +220,30 @@ a_tag_is_one_number = refl
 -- ---- lists, options and extensions of words of 32 bits
 
 -- The last list's count is far above what follows.
-a_list_stands_after_its_length : (
+a_list_follows_its_length : (
     reads (list_of 0 u32) bytes_eq (input "00000000") [] 4
     && reads (list_of 2 u32) bytes_eq (input "000000020000000700000008") (7 ∷ 8 ∷ []) 12
     && fails (list_of 2 u32) (input "00000003") 0 TooLong
     && fails (list_of 2 u32) (input "00000002000000070000") 10 Short
     && fails (list_of 4294967295 u32) (input "ffffffff0000000700000008") 12 Short) ≡ true
 unfolding list many_at count u32 hex
-a_list_stands_after_its_length = refl
+a_list_follows_its_length = refl
 
-an_option_stands_after_its_flag : (
+an_option_follows_its_flag : (
     reads (optional u32) same_numbers (input "00000000") None 4
     && reads (optional u32) same_numbers (input "0000000100000007") (Some 7) 8
     && fails (optional u32) (input "00000001") 4 Short
     && fails (optional u32) (input "0000000200000007") 0 BadFlag) ≡ true
 unfolding option flag u32 hex
-an_option_stands_after_its_flag = refl
+an_option_follows_its_flag = refl
 
-an_extension_stands_after_its_discriminant : (
+an_extension_follows_its_discriminant : (
     reads (extension_of (pos 1) u32) same_numbers (input "0000000000000007") None 4
     && reads (extension_of (pos 1) u32) same_numbers (input "0000000100000007") (Some 7) 8
     && fails (extension_of (pos 1) u32) (input "0000000200000007") 0 BadEnum
     && fails (extension_of (pos 1) u32) (input "000000010000") 6 Short) ≡ true
 unfolding extension i32 u32 hex
-an_extension_stands_after_its_discriminant = refl
+an_extension_follows_its_discriminant = refl
 
 what_is_written_is_what_is_read : (
     writes (optional u32) None (hex "00000000")

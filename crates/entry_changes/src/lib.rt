@@ -1,3 +1,2 @@
-//! What a close changes of the entries, as definitions: which entries stand behind it, and which of them can be
-//! written.
+//! What a close changes of the entries, as definitions: which entries exist after it, and which of them can be written.
 #![tactic(auto)]

@@ -1,24 +1,13 @@
 -- A batch that takes what changed at each changed key, in the order of keys, is the batch of what changed.
-use Rattle.std.proofs.Common.{◌≡◌, ◌↔◌, inl, inr, refl, sym, ap, subst, ◌∙◌, true, false, ◌||◌, List, [], ◌∷◌, ◌++◌}
-use Rattle.std.proofs.Common.{Option, Some, None, IfSome, option_to_list, map, All, Contains, append_assoc, arith}
-use Rattle.std.proofs.Common.{length}
-use Rattle.std.specs.declared.cmp.Ordering.TheVariants.{Less}
-use Rattle.std.specs.Option.{is_some}
-use Rattle.std.specs.FinMap.{empty, get, contains_key, get-empty}
+use Rattle.entry_map.proofs.Prelude.{◌≡◌, ◌↔◌, inl, inr, refl, sym, ap, subst, ◌∙◌, true, false, ◌||◌, List, [], ◌∷◌}
+use Rattle.entry_map.proofs.Prelude.{◌++◌, Option, Some, None, IfSome, option_to_list, map, All, Contains, append_assoc}
+use Rattle.entry_map.proofs.Prelude.{length, Less, is_some, empty, get, contains_key, get-empty, All-nil, All-cons}
+use Rattle.entry_map.proofs.Prelude.{All-contains, Contains-append_left, Contains-append_right, Contains-append_cases}
+use Rattle.entry_map.proofs.Prelude.{Contains-push, Contains-push_cases, LedgerKey, LedgerEntry, key_of, key_cmp, Batch}
+use Rattle.entry_map.proofs.Prelude.{EntryMap, KeyedMap, AreRising, AreKeysOf, LayerMap, under, under_one, is_changed}
+use Rattle.entry_map.proofs.Prelude.{parts_of, IsNew, IsChanged, IsGone, IsBatch, AreChangedKeys, IsNoted, IsNotedAt}
+use Rattle.entry_map.proofs.Prelude.{Answers, Takes, nil_contains_nothing, nil_from_length}
 use Rattle.std.proofs.lemmas.List.{append-nil}
-use Rattle.std.proofs.lemmas.List.Elements.{All-nil, All-cons, All-contains, Contains-append_left}
-use Rattle.std.proofs.lemmas.List.Elements.{Contains-append_right, Contains-append_cases, Contains-push}
-use Rattle.std.proofs.lemmas.List.Elements.{Contains-push_cases}
-use Rattle.ledger_types.specs.declared.key.LedgerKey.{LedgerKey}
-use Rattle.ledger_types.specs.declared.entry.LedgerEntry.{LedgerEntry}
-use Rattle.ledger_types.specs.Keys.{key_of}
-use Rattle.ledger_types.specs.KeyOrder.{key_cmp}
-use Rattle.entry_map.specs.declared.batch.Batch.{Batch}
-use Rattle.entry_map.specs.EntryMap.{EntryMap}
-use Rattle.entry_map.specs.KeyMaps.{KeyedMap, AreRising, AreKeysOf}
-use Rattle.entry_map.specs.Layers.{LayerMap, under, under_one, is_changed}
-use Rattle.entry_map.specs.Batch.{parts_of, IsNew, IsChanged, IsGone, IsBatch}
-use Rattle.entry_map.specs.Noting.{AreChangedKeys, IsNoted, IsNotedAt, Answers, Takes}
 use Rattle.entry_map.proofs.KnownKeys.{unchanged}
 
 -- ---- one key
@@ -114,13 +103,10 @@ contains_first x y ys e = subst (Contains (x ∷ ys)) e (Contains-append_left (x
 contains_later : {X : Type 0} (x y : X) (ys : List X) → Contains ys y → Contains (x ∷ ys) y
 contains_later x y ys h = Contains-append_right (x ∷ []) ys y h
 
-contains_none : {X : Type 0} (x : X) → Contains [] x → ⊥
-contains_none x h = omega (arith, h.1)
-
 contains_cases : {X : Type 0} (P : Type 0) (x y : X) (ys : List X) → Contains (x ∷ ys) y → (x ≡ y → P) →
     (Contains ys y → P) → P
 contains_cases P x y ys h f g = elim (Contains-append_cases (x ∷ []) ys y h) [
-  | inl one ↦ elim (Contains-push_cases [] x y one) [ inl none ↦ absurd (contains_none y none) | inr same ↦ f same ]
+  | inl one ↦ elim (Contains-push_cases [] x y one) [ inl none ↦ absurd (nil_contains_nothing y none) | inr same ↦ f same ]
   | inr later ↦ g later
 ]
 
@@ -147,7 +133,7 @@ module _ {X : Type 0} (key : X → LedgerKey) (P : X → Type 0) where
   )
 
   picked : (ks : List LedgerKey) (xs : List X) → Picks ks xs → (x : X) → Contains xs x → Contains ks (key x) × P x
-  picked [] xs none x h = absurd (contains_none x (subst (λ ys. Contains ys x) none h))
+  picked [] xs none x h = absurd (nil_contains_nothing x (subst (λ ys. Contains ys x) none h))
   picked (k ∷ ks) xs (None, ys, answers, rest, is) x h =
       let later = picked ks ys rest x (subst (λ zs. Contains zs x) is h) in
       (contains_later k (key x) ks later.0, later.1)
@@ -157,7 +143,7 @@ module _ {X : Type 0} (key : X → LedgerKey) (P : X → Type 0) where
       (λ later. let facts = picked ks ys rest x later in (contains_later k (key x) ks facts.0, facts.1))
 
   picks : (ks : List LedgerKey) (xs : List X) → Picks ks xs → (x : X) → Contains ks (key x) → P x → Contains xs x
-  picks [] xs none x h holds = absurd (contains_none (key x) h)
+  picks [] xs none x h holds = absurd (nil_contains_nothing (key x) h)
   picks (k ∷ ks) xs (o, ys, answers, rest, is) x h holds =
       subst (λ zs. Contains zs x) (sym is) (contains_cases (Contains (option_to_list o ++ ys) x) k (key x) ks h
       (λ same. Contains-append_left (option_to_list o) ys x (subst (λ p. Contains (option_to_list p) x) (sym
@@ -231,9 +217,5 @@ changed_keys_are ls top first second third ks nothing by_top by_all listed = rec
       (λ h. sym is ∙ (listed.all q).0 h, λ h. (listed.all q).1 (is ∙ h));
 }
 
-none_left : {X : Type 0} (xs : List X) → length xs ≡ 0 → xs ≡ []
-none_left [] h = refl
-none_left (x ∷ xs) h = absurd (omega arith)
-
 pub all_yielded : {X : Type 0} (yielded left : List X) → length left ≡ 0 → yielded ++ left ≡ yielded
-all_yielded yielded left h = ap (λ xs. yielded ++ xs) (none_left left h) ∙ append-nil yielded
+all_yielded yielded left h = ap (λ xs. yielded ++ xs) (nil_from_length left h) ∙ append-nil yielded

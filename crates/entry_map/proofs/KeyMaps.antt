@@ -1,30 +1,20 @@
 -- A tree under keys is a finite map in the stated order of keys.
-use Rattle.std.proofs.Common.{rules, ◌≡◌, ◌≢◌, refl, sym, ap, subst, ◌∙◌, Bool, true, false, cond, List, [], ◌∷◌}
-use Rattle.std.proofs.Common.{Option, Some, None, MatchOption, IsSome, Bor, ◌||◌, ◌⊎◌, ◌++◌, inl, inr, All}
-use Rattle.std.specs.declared.cmp.Ordering.{Ordering}
-use Rattle.std.specs.declared.cmp.Ordering.TheVariants.{Less, Greater}
+use Rattle.entry_map.proofs.Prelude as prelude
+use prelude.{rules, ◌≡◌, ◌≢◌, refl, sym, ap, subst, ◌∙◌, Bool, true, false, cond, List, [], ◌∷◌, Option, Some, None}
+use prelude.{MatchOption, IsSome, Bor, ◌||◌, ◌⊎◌, ◌++◌, inl, inr, All, Ordering, Less, Greater, is_gt, eq_by_cmp}
+use prelude.{eq_by_cmp_equiv, AllByRecursion, IsDistinct, list_any, is_some, option_or, get, insert, contains_key, find}
+use prelude.{from_entries, get-from_entries, get-insert, same_map, is_some-find, All-cons, IsDistinct-from_sorted}
+use prelude.{lookup, keys_of, LedgerKey, key_cmp, keys_compared, keys_total, keys_exact, KeyedMap, NoneAbove, IsLeastAt}
+use prelude.{AreRising, AreKeysOf, same_keys}
 use Rattle.std.specs.declared.ops.Bound.TheVariants.{Excluded, Unbounded}
-use Rattle.std.specs.Ordering.{is_gt, eq_by_cmp}
-use Rattle.std.specs.Cmp.{eq_by_cmp_equiv, Equal-is}
-use Rattle.std.specs.List.{AllByRecursion, IsDistinct, list_any}
 use Rattle.std.specs.List.Sorted.{IsStrictlySortedBy}
-use Rattle.std.specs.Option.{is_some, option_or}
-use Rattle.std.specs.FinMap.{get, insert, contains_key, find, from_entries, get-from_entries, get-insert, same_map}
-use Rattle.std.specs.FinMap.Entries.{is_some-find}
-use Rattle.std.proofs.lemmas.List.Elements.{All-cons}
 use Rattle.std.proofs.lemmas.Map.Made.{update_all_distinct}
 use Rattle.std.proofs.lemmas.Map.Views.{list_any-from_Contains, Contains-from_any}
-use Rattle.std.proofs.lemmas.Map.Keys.{IsDistinct-from_sorted}
-use Rattle.std.specs.Map.{lookup, keys_of}
 use Rattle.std.specs.Map.Iter.{TakesFirst, deref_pair}
 use Rattle.std.specs.BTreeMap as tree
 use Rattle.std.specs.BTreeMap.{BTreeMap, is_at}
 use Rattle.std.specs.BTreeMap.Range.{IsRangeOf}
-use Rattle.ledger_types.specs.declared.key.LedgerKey.{LedgerKey}
-use Rattle.ledger_types.specs.KeyOrder.{key_cmp}
 use Rattle.ledger_types.specs.contracts.key.LedgerKeyOrd.TheImpl as keys
-use Rattle.ledger_types.proofs.KeyOrdering.{keys_compared, keys_total, keys_exact}
-use Rattle.entry_map.specs.KeyMaps.{KeyedMap, NoneAbove, IsLeastAt, AreRising, AreKeysOf}
 
 -- the derived order
 abbrev pub derived : LedgerKey → LedgerKey → Ordering
@@ -59,7 +49,7 @@ there_is : {V : Type 0} (o : Option V) → o ≢ None → IsSome o
 there_is None h = absurd (h refl)
 there_is (Some v) h = refl
 
-not_greater : (o : Ordering) → is_gt o ≡ false → o ≢ Greater
+pub not_greater : (o : Ordering) → is_gt o ≡ false → o ≢ Greater
 not_greater o h e = cc (ap is_gt e)
 
 pub next_seen : {V : Type 0} (m : BTreeMap LedgerKey V) (k : LedgerKey) (r t : List (LedgerKey × V)) (o : Option
@@ -125,21 +115,21 @@ lookup-prefix test (e ∷ es) fs v h =
       | false ↦ λ found. lookup-prefix test es fs v found
     ] h
 
-keys_front : {K X : Type 0} (P : K → Type 0) (es fs : List (K × X)) → AllByRecursion P (keys_of (es ++ fs))
+keys_prefix : {K X : Type 0} (P : K → Type 0) (es fs : List (K × X)) → AllByRecursion P (keys_of (es ++ fs))
     → AllByRecursion P (keys_of es)
-keys_front P [] fs h = tt
-keys_front P (e ∷ es) fs h = (h.0, keys_front P es fs h.1)
+keys_prefix P [] fs h = tt
+keys_prefix P (e ∷ es) fs h = (h.0, keys_prefix P es fs h.1)
 
-distinct_front : {K X : Type 0} (e : K → K → Bool) (es fs : List (K × X)) → IsDistinct e (keys_of (es ++ fs))
+distinct_prefix : {K X : Type 0} (e : K → K → Bool) (es fs : List (K × X)) → IsDistinct e (keys_of (es ++ fs))
     → IsDistinct e (keys_of es)
 unfolding IsDistinct
-distinct_front e [] fs h = tt
-distinct_front e (x ∷ es) fs h = (keys_front (λ y. e x.0 y ≡ false) es fs h.0, distinct_front e es fs h.1)
+distinct_prefix e [] fs h = tt
+distinct_prefix e (x ∷ es) fs h = (keys_prefix (λ y. e x.0 y ≡ false) es fs h.0, distinct_prefix e es fs h.1)
 
-from_front : {V : Type 0} (o : Option V) (here there : Option V) (new : Option V) →
+from_prefix : {V : Type 0} (o : Option V) (here there : Option V) (new : Option V) →
     ((v : V) → o ≡ Some v → there ≡ Some v) → new ≡ option_or o here → (new ≡ there) ⊎ (new ≡ here)
-from_front None here there new more e = inr e
-from_front (Some v) here there new more e = inl (e ∙ sym (more v refl))
+from_prefix None here there new more e = inr e
+from_prefix (Some v) here there new more e = inl (e ∙ sym (more v refl))
 
 pub each-absorbed : {V : Type 0} (m other n rest : BTreeMap LedgerKey V) → tree.MovesPrefix derived m other n rest
     → tree.IsOrdered derived other → (q : LedgerKey)
@@ -148,10 +138,10 @@ each-absorbed m other n rest moves sorted q =
     let stated = subst (λ c. tree.MovesPrefix c m other n rest) derived_is moves in
     let apart = subst (λ es. IsDistinct (eq_by_cmp key_cmp) (keys_of es)) stated.1 (IsDistinct-from_sorted key_cmp _
     (subst (λ c. tree.IsOrdered c other) derived_is sorted)) in
-    from_front (lookup (eq_by_cmp key_cmp q) stated.0) _ _ _
+    from_prefix (lookup (eq_by_cmp key_cmp q) stated.0) _ _ _
     (λ v found. get-seen other q ∙ ap (lookup (eq_by_cmp key_cmp q)) stated.1
     ∙ lookup-prefix (eq_by_cmp key_cmp q) stated.0 rest.entries v found)
-    (inserts_distinct m n stated.0 stated.2 (distinct_front _ stated.0 rest.entries apart) q)
+    (inserts_distinct m n stated.0 stated.2 (distinct_prefix _ stated.0 rest.entries apart) q)
 
 -- ---- keys
 
@@ -167,9 +157,6 @@ rising_of : (ks : List LedgerKey) → IsStrictlySortedBy key_cmp ks → AreRisin
 unfolding IsStrictlySortedBy
 rising_of [] h = tt
 rising_of (k ∷ ks) h = (all_of (λ q. key_cmp k q ≡ Less) ks h.0, rising_of ks h.1)
-
-pub same_keys : (a b : LedgerKey) → eq_by_cmp key_cmp a b ≡ true → a ≡ b
-same_keys a b h = keys_exact a b ((Equal-is (key_cmp a b)).0 h)
 
 pub same_itself : (k : LedgerKey) → eq_by_cmp key_cmp k k ≡ true
 same_itself k = (eq_by_cmp_equiv keys_total).refl k

@@ -1,24 +1,14 @@
 -- Going over the known keys in their order.
-use Rattle.std.proofs.Common.{◌≡◌, ◌≢◌, ℕ, ◌+◌, ◌-◌, ◌<◌, ◌≤◌, length, get_or, take, drop, refl, sym, ap, subst, ◌∙◌}
-use Rattle.std.proofs.Common.{arith, Bool, true, false, cond, ◌||◌, List, [], ◌∷◌, Option, Some, None, is_some}
-use Rattle.std.specs.declared.cmp.Ordering.{Ordering}
-use Rattle.std.specs.declared.cmp.Ordering.TheVariants.{Less, Equal, Greater}
-use Rattle.std.specs.Option.{unwrap_or, option_or}
-use Rattle.std.specs.Ordering.{is_lt, is_gt, ordering_reverse, eq_by_cmp}
-use Rattle.std.specs.Cmp.{upto, tied_itself}
-use Rattle.std.specs.List.{list_any}
-use Rattle.std.specs.FinMap.{get, contains_key, keys, contains_key-keys}
-use Rattle.ledger_types.specs.declared.key.LedgerKey.{LedgerKey}
-use Rattle.ledger_types.specs.declared.entry.LedgerEntry.{LedgerEntry}
-use Rattle.ledger_types.specs.Keys.{key_of}
-use Rattle.ledger_types.specs.KeyOrder.{key_cmp}
-use Rattle.ledger_types.proofs.KeyOrdering.{keys_total, keys_exact}
-use Rattle.entry_map.specs.EntryMap.{EntryMap, IsLeastAbove, IsNextAfter}
-use Rattle.entry_map.specs.Layers.{LayerMap, under, under_one, change_of, newest_change, is_changed, is_known}
-use Rattle.entry_map.specs.Layers.{IsLeastKey, IsNextKey, lesser_of}
-use Rattle.entry_map.proofs.KeyMaps.{same_keys}
-use Rattle.std.proofs.lemmas.Grind.{common_steps}
+use Rattle.entry_map.proofs.Prelude as prelude
+use prelude.{◌≡◌, ◌≢◌, ℕ, ◌+◌, ◌-◌, ◌<◌, ◌≤◌, length, get_or, take, drop, refl, sym, ap, subst, ◌∙◌, arith, Bool, true}
+use prelude.{false, cond, ◌||◌, List, [], ◌∷◌, Option, Some, None, Ordering, Less, Equal, Greater, unwrap_or, option_or}
+use prelude.{is_lt, is_gt, ordering_reverse, eq_by_cmp, upto, tied_itself, list_any, get, contains_key, keys}
+use prelude.{contains_key-keys, LedgerKey, LedgerEntry, key_of, key_cmp, keys_total, keys_exact, EntryMap, IsLeastAbove}
+use prelude.{IsNextAfter, LayerMap, under, under_one, change_of, newest_change, is_changed, is_known, IsLeastKey}
+use prelude.{IsNextKey, lesser_of, common_steps, is_lt_true_Less, same_keys, is_some_false, or_left, or_parts, or_right}
+use Rattle.std.proofs.Common.{is_some}
 use Rattle.entry_map.proofs.Under.{get-current}
+use Rattle.entry_map.proofs.KeyMaps.{not_greater}
 
 -- ---- the order
 
@@ -31,21 +21,13 @@ not_gt Less h = refl
 not_gt Equal h = refl
 not_gt Greater h = absurd (h refl)
 
-not_greater : (o : Ordering) → is_gt o ≡ false → o ≢ Greater
-not_greater o h e = cc (ap is_gt e)
-
-turned : (o : Ordering) → o ≢ Less → is_gt (ordering_reverse o) ≡ false
-turned Less h = absurd (h refl)
-turned Equal h = refl
-turned Greater h = refl
+not_less_turned : (o : Ordering) → o ≢ Less → is_gt (ordering_reverse o) ≡ false
+not_less_turned Less h = absurd (h refl)
+not_less_turned Equal h = refl
+not_less_turned Greater h = refl
 
 unless_less : (a b : LedgerKey) → key_cmp a b ≢ Less → UpTo b a
-unless_less a b h = ap is_gt (keys_total.antisymm b a) ∙ turned (key_cmp a b) h
-
-is_less : (o : Ordering) → is_lt o ≡ true → o ≡ Less
-is_less Less h = refl
-is_less Equal h = cc
-is_less Greater h = cc
+unless_less a b h = ap is_gt (keys_total.antisymm b a) ∙ not_less_turned (key_cmp a b) h
 
 less_is : (o : Ordering) → o ≢ Less → is_lt o ≡ false
 less_is Less h = absurd (h refl)
@@ -70,16 +52,9 @@ up_to_less a b c low above =
 or_false : (a b : Bool) → a ≡ false → b ≡ false → (a || b) ≡ false
 or_false a b p q = ap (λ x. x || b) p ∙ q
 
-or_left : (a b : Bool) → a ≡ true → (a || b) ≡ true
-or_left a b p = ap (λ x. x || b) p
-
-or_right : (a b : Bool) → b ≡ true → (a || b) ≡ true
-or_right true b q = refl
-or_right false b q = q
-
-either : (P : Type 0) (a b : Bool) → (a || b) ≡ true → (a ≡ true → P) → (b ≡ true → P) → P
-either P true b h f g = f refl
-either P false b h f g = g h
+or_elim : (P : Type 0) (a b : Bool) → (a || b) ≡ true → (a ≡ true → P) → (b ≡ true → P) → P
+or_elim P true b h f g = f refl
+or_elim P false b h f g = g h
 
 cannot_be : {P : Type 0} (a : Bool) → a ≡ false → a ≡ true → P
 cannot_be a p q = absurd (cc (p, q))
@@ -90,13 +65,13 @@ next_either p r k None None one other = λ q above. or_false (p q) (r q) (one q 
 next_either p r k None (Some y) one other = record {
   there = or_right (p y) (r y) other.there;
   above = other.above;
-  least_of = λ q above passes. either (key_cmp y q ≢ Greater) (p q) (r q) passes (λ h. cannot_be (p q) (one q above) h)
+  least_of = λ q above passes. or_elim (key_cmp y q ≢ Greater) (p q) (r q) passes (λ h. cannot_be (p q) (one q above) h)
       (λ h. other.least_of q above h);
 }
 next_either p r k (Some x) None one other = record {
   there = or_left (p x) (r x) one.there;
   above = one.above;
-  least_of = λ q above passes. either (key_cmp x q ≢ Greater) (p q) (r q) passes (λ h. one.least_of q above h)
+  least_of = λ q above passes. or_elim (key_cmp x q ≢ Greater) (p q) (r q) passes (λ h. one.least_of q above h)
       (λ h. cannot_be (r q) (other q above) h);
 }
 next_either p r k (Some x) (Some y) one other =
@@ -105,14 +80,14 @@ next_either p r k (Some x) (Some y) one other =
       | true ↦ λ e. record {
         there = or_right (p y) (r y) other.there;
         above = other.above;
-        least_of = λ q above passes. either (key_cmp y q ≢ Greater) (p q) (r q) passes
-            (λ h. not_greater _ (upto keys_total y x q (ap is_gt (is_less _ e)) (not_gt _ (one.least_of q above h))))
+        least_of = λ q above passes. or_elim (key_cmp y q ≢ Greater) (p q) (r q) passes
+            (λ h. not_greater _ (upto keys_total y x q (ap is_gt (is_lt_true_Less _ e)) (not_gt _ (one.least_of q above h))))
             (λ h. other.least_of q above h);
       }
       | false ↦ λ e. record {
         there = or_left (p x) (r x) one.there;
         above = one.above;
-        least_of = λ q above passes. either (key_cmp x q ≢ Greater) (p q) (r q) passes
+        least_of = λ q above passes. or_elim (key_cmp x q ≢ Greater) (p q) (r q) passes
             (λ h. one.least_of q above h)
             (λ h. not_greater _ (upto keys_total x y q (unless_less y x (λ less. cannot_be _ e (ap is_lt less)))
             (not_gt _ (other.least_of q above h))));
@@ -132,10 +107,6 @@ is_some-change_of [] q = refl
 is_some-change_of (l ∷ ls) q = is_some-or (change_of ls q) (get l q)
     ∙ ap (λ b. contains_key l q || b) (is_some-change_of ls q)
 
-none_of : {X : Type 0} (o : Option X) → is_some o ≡ false → o ≡ None
-none_of None h = refl
-none_of (Some x) h = cc
-
 turned_or : (a b : Bool) → (a || b) ≡ (b || a)
 turned_or true true = refl
 turned_or true false = refl
@@ -147,24 +118,20 @@ is_some-newest : (ls : List LayerMap) (top : LayerMap) (q : LedgerKey)
 is_some-newest ls top q = is_some-or (get top q) (change_of ls q)
     ∙ ap (λ b. b || contains_key top q) (is_some-change_of ls q) ∙ turned_or (is_changed ls q) (contains_key top q)
 
-both_false : (a b : Bool) → (a || b) ≡ false → (a ≡ false) × (b ≡ false)
-both_false true b h = cc
-both_false false b h = (refl, h)
-
 -- a key that no layer changed is as in the base
 pub unchanged : (m : EntryMap) (ls : List LayerMap) (top : LayerMap) (q : LedgerKey)
     → (contains_key top q || is_changed ls q) ≡ false → get (under_one (under m ls) top) q ≡ get m q
 unchanged m ls top q h = get-current m ls top q
-    ∙ ap (λ o. unwrap_or o (get m q)) (none_of (newest_change ls top q) (is_some-newest ls top q ∙ h))
+    ∙ ap (λ o. unwrap_or o (get m q)) (is_some_false (newest_change ls top q) (is_some-newest ls top q ∙ h))
 
 unknown : (m : EntryMap) (ls : List LayerMap) (top : LayerMap) (q : LedgerKey) → is_known m ls top q ≡ false
     → get (under_one (under m ls) top) q ≡ None
-unknown m ls top q h = let parts = both_false (contains_key m q) (contains_key top q || is_changed ls q) h in
-    unchanged m ls top q parts.1 ∙ none_of (get m q) parts.0
+unknown m ls top q h = let parts = or_parts (contains_key m q) (contains_key top q || is_changed ls q) h in
+    unchanged m ls top q parts.1 ∙ is_some_false (get m q) parts.0
 
 -- ---- the walk
 
--- nothing stands above k and up to at
+-- nothing exists above k and up to at
 pub record IsSeenTo (m : EntryMap) (k at : LedgerKey) : Type 0 where
   pub ahead : is_gt (key_cmp k at) ≡ false
   pub none : (q : LedgerKey) → key_cmp k q ≡ Less → key_cmp at q ≢ Less → get m q ≡ None
@@ -239,7 +206,7 @@ module _ (a b : LedgerKey) (less : key_cmp a b ≡ Less) where
   counts : (q : LedgerKey) → cond (is_lt (key_cmp b q)) 1 0 ≤ cond (is_lt (key_cmp a q)) 1 0
   counts q =
       elim (is_lt (key_cmp b q)) as (λ t. is_lt (key_cmp b q) ≡ t → cond t 1 0 ≤ cond (is_lt (key_cmp a q)) 1 0) [
-        | true ↦ λ e. subst (λ t. 1 ≤ cond t 1 0) (sym (ap is_lt (keys_total.trans a b q less (is_less _ e))))
+        | true ↦ λ e. subst (λ t. 1 ≤ cond t 1 0) (sym (ap is_lt (keys_total.trans a b q less (is_lt_true_Less _ e))))
             (omega arith)
         | false ↦ λ e. omega arith
       ] refl
@@ -257,7 +224,7 @@ module _ (a b : LedgerKey) (less : key_cmp a b ≡ Less) where
 
   falls : (ks : List LedgerKey) → list_any (eq_by_cmp key_cmp b) ks ≡ true → count_above b ks < count_above a ks
   falls [] h = cc
-  falls (k ∷ ks) h = either (count_above b (k ∷ ks) < count_above a (k ∷ ks)) (eq_by_cmp key_cmp b k) (list_any
+  falls (k ∷ ks) h = or_elim (count_above b (k ∷ ks) < count_above a (k ∷ ks)) (eq_by_cmp key_cmp b k) (list_any
       (eq_by_cmp key_cmp b) ks) h
       (λ here. omega (arith, counts_itself k here, fewer ks))
       (λ later. omega (arith, counts k, falls ks later))
@@ -269,7 +236,7 @@ module _ (a b : LedgerKey) (less : key_cmp a b ≡ Less) where
   changed_falls : (ls : List LayerMap) → is_changed ls b ≡ true → changed_above b ls < changed_above a ls
   changed_falls [] h = cc
   changed_falls (l ∷ ls) h =
-      either (changed_above b (l ∷ ls) < changed_above a (l ∷ ls)) (contains_key l b) (is_changed ls b) h
+      or_elim (changed_above b (l ∷ ls) < changed_above a (l ∷ ls)) (contains_key l b) (is_changed ls b) h
       (λ here. omega (arith, falls (keys l) (sym (contains_key-keys l b) ∙ here), fewer_changed ls))
       (λ later. omega (arith, fewer (keys l), changed_falls ls later))
 
@@ -277,7 +244,7 @@ pub known_falls : (m : EntryMap) (ls : List LayerMap) (top : LayerMap) (at least
     → IsLeastKey (is_known m ls top) at least → known_above m ls top least < known_above m ls top at
 known_falls m ls top at least next =
     let less = next.above in
-    either (known_above m ls top least < known_above m ls top at) (contains_key m least)
+    or_elim (known_above m ls top least < known_above m ls top at) (contains_key m least)
     (contains_key top least || is_changed ls least) next.there
     (λ here. omega (
       arith,
@@ -285,7 +252,7 @@ known_falls m ls top at least next =
       fewer at least less (keys top),
       fewer_changed at least less ls,
     ))
-    (λ later. either (known_above m ls top least < known_above m ls top at) (contains_key top least)
+    (λ later. or_elim (known_above m ls top least < known_above m ls top at) (contains_key top least)
     (is_changed ls least) later
     (λ here. omega (
       arith,

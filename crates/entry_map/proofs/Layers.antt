@@ -1,18 +1,9 @@
 -- Layers of changes.
-use Rattle.std.proofs.Common.{◌≡◌, refl, sym, ap, subst, ◌∙◌, true, false, cond, List, [], ◌∷◌, Option, Some, None, ◌⊎◌}
-use Rattle.std.proofs.Common.{inl, inr, Result, Ok, Err, OnOk, OnErr, IfSome, map, Bor}
-use Rattle.std.specs.Option.{option_copied}
-use Rattle.std.specs.Ordering.{eq_by_cmp}
-use Rattle.std.specs.FinMap.{empty, get, insert, from_entries, get-empty, get-insert}
-use Rattle.ledger_types.specs.declared.key.LedgerKey.{LedgerKey}
-use Rattle.ledger_types.specs.declared.entry.LedgerEntry.{LedgerEntry}
-use Rattle.ledger_types.specs.Keys.{key_of}
-use Rattle.ledger_types.specs.KeyOrder.{key_cmp}
-use Rattle.ledger_types.proofs.KeyOrdering.{keys_total}
-use Rattle.entry_map.specs.EntryMap.{EntryMap, IsKeyed, put}
-use Rattle.entry_map.specs.KeyMaps.{KeyedMap}
-use Rattle.entry_map.specs.Layers.{LayerMap, IsKeyedLayer}
-use Rattle.entry_map.proofs.KeyMaps.{same_keys}
+use Rattle.entry_map.proofs.Prelude.{◌≡◌, refl, sym, ap, subst, ◌∙◌, true, false, cond, List, [], ◌∷◌, Option, Some}
+use Rattle.entry_map.proofs.Prelude.{None, ◌⊎◌, inl, inr, Result, Ok, Err, OnOk, OnErr, IfSome, map, Bor, option_copied}
+use Rattle.entry_map.proofs.Prelude.{eq_by_cmp, empty, get, insert, from_entries, get-empty, get-insert, LedgerKey}
+use Rattle.entry_map.proofs.Prelude.{LedgerEntry, key_of, key_cmp, keys_total, EntryMap, IsKeyed, put, KeyedMap}
+use Rattle.entry_map.proofs.Prelude.{LayerMap, IsKeyedLayer, same_keys, if_some_at, if_some_from}
 
 pub either_way : {T E A B P : Type 0} (r : Result T E) → OnOk r A → OnErr r B → (A → P) → (B → P) → P
 either_way (Ok t) a b f g = f a
@@ -42,17 +33,10 @@ pub keyed_absorbed : (old newer new : LayerMap) → IsKeyedLayer old → IsKeyed
 keyed_absorbed old newer new was late each k e h =
     elim (each k) [ inl same ↦ late k e (sym same ∙ h) | inr same ↦ was k e (sym same ∙ h) ]
 
-pub some_is : {X : Type 0} (P : X → Type 0) (o : Option X) → ((x : X) → o ≡ Some x → P x) → IfSome o P
-some_is P None h = tt
-some_is P (Some x) h = h x refl
-
-pub is_some_of : {X : Type 0} (P : X → Type 0) (o : Option X) (x : X) → IfSome o P → o ≡ Some x → P x
-is_some_of P o x h e = subst (λ p. IfSome p P) e h
-
 pub keyed_put : (m : EntryMap) (e : LedgerEntry) → IsKeyed m → IsKeyed (put m e)
 keyed_put m e keyed k =
-    some_is (λ x. key_of x ≡ k) _ (λ x is. after_insert (λ q y. key_of y
-    ≡ q) m (key_of e) e refl (λ q y h. is_some_of (λ z. key_of z ≡ q) (get m q) y (keyed q) h) k x is)
+    if_some_from (λ x. key_of x ≡ k) _ (λ x is. after_insert (λ q y. key_of y
+    ≡ q) m (key_of e) e refl (λ q y h. if_some_at (λ z. key_of z ≡ q) (get m q) y (keyed q) h) k x is)
 
 abbrev pub with_key : LedgerEntry → LedgerKey × LedgerEntry
 with_key e = (key_of e, e)
@@ -70,4 +54,4 @@ pub keyed_found : (l : LayerMap) (k : LedgerKey) (o : Option (Bor (Option Ledger
     → option_copied o ≡ get l k → IfSome o (λ change. IfSome change.now (λ e. key_of e ≡ k))
 keyed_found l k None keyed found = tt
 keyed_found l k (Some change) keyed found =
-    some_is (λ e. key_of e ≡ k) change.now (λ e is. keyed k e (sym found ∙ ap Some is))
+    if_some_from (λ e. key_of e ≡ k) change.now (λ e is. keyed k e (sym found ∙ ap Some is))

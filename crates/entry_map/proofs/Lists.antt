@@ -1,9 +1,6 @@
 -- Lists of entries, and of pairs with their keys.
-use Rattle.std.proofs.Common.{◌≡◌, refl, sym, ap, ◌∙◌, append-nil, List, [], ◌∷◌, ◌++◌, map}
-use Rattle.std.specs.Map.{keys_of}
-use Rattle.ledger_types.specs.declared.key.LedgerKey.{LedgerKey}
-use Rattle.ledger_types.specs.declared.entry.LedgerEntry.{LedgerEntry}
-use Rattle.ledger_types.specs.Keys.{key_of}
+use Rattle.entry_map.proofs.Prelude.{◌≡◌, refl, sym, ap, ◌∙◌, append-nil, List, [], ◌∷◌, ◌++◌, map, keys_of, LedgerKey}
+use Rattle.entry_map.proofs.Prelude.{LedgerEntry, key_of}
 use Rattle.entry_map.proofs.Layers.{with_key}
 
 pub map_push : {X Y : Type 0} (f : X → Y) (xs : List X) (x : X) → map f (xs ++ x ∷ []) ≡ map f xs ++ f x ∷ []

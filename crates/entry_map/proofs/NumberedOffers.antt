@@ -1,17 +1,9 @@
 -- Offers of one seller, numbered from 0 on, have distinct keys.
-use Rattle.std.proofs.Common.{◌≡◌, ℕ, zero, suc, ◌≤◌, refl, ap, ◌∙◌, arith, Bool, true, false, ◌||◌, List, [], ◌∷◌}
-use Rattle.std.proofs.Common.{◌++◌, pos}
-use Rattle.std.specs.List.{IsDistinct, list_any}
-use Rattle.std.specs.Ordering.{eq_by_cmp}
-use Rattle.std.specs.Cmp.{eq_by_cmp_equiv}
-use Rattle.std.proofs.lemmas.List.Folds.{list_any-append}
-use Rattle.std.proofs.lemmas.Map.Keys.{IsDistinct-push}
+use Rattle.entry_map.proofs.Prelude.{◌≡◌, ℕ, zero, suc, ◌≤◌, refl, ap, ◌∙◌, arith, Bool, true, false, ◌||◌, List, []}
+use Rattle.entry_map.proofs.Prelude.{◌∷◌, ◌++◌, pos, IsDistinct, list_any, eq_by_cmp, eq_by_cmp_equiv, list_any-append}
+use Rattle.entry_map.proofs.Prelude.{IsDistinct-push, LedgerKey, key_cmp, keys_total, same_keys}
 use Rattle.ledger_types.specs.declared.ids.AccountId.{AccountId}
-use Rattle.ledger_types.specs.declared.key.LedgerKey.{LedgerKey}
 use Rattle.ledger_types.specs.declared.key.LedgerKey.TheVariants.{Offer}
-use Rattle.ledger_types.specs.KeyOrder.{key_cmp}
-use Rattle.ledger_types.proofs.KeyOrdering.{keys_total}
-use Rattle.entry_map.proofs.KeyMaps.{same_keys}
 
 -- the keys of a seller's first n offers
 abbrev pub numbered : AccountId → ℕ → List LedgerKey

@@ -1,16 +1,8 @@
--- Where the next place is of another pair, the book of the pair has ended.
-use Rattle.std.proofs.Common.{◌≡◌, ◌≢◌, refl, sym, ap, subst, ◌∙◌, true, false}
-use Rattle.std.specs.declared.cmp.Ordering.{Ordering}
-use Rattle.std.specs.declared.cmp.Ordering.TheVariants.{Less, Equal, Greater}
-use Rattle.std.specs.Ordering.{ordering_then, ordering_reverse, is_eq}
-use Rattle.std.specs.Cmp.{tied_itself, Equal-is}
-use Rattle.ledger_types.specs.declared.asset.Asset.{Asset}
-use Rattle.ledger_types.specs.KeyOrder.{asset_cmp}
-use Rattle.ledger_types.proofs.KeyOrdering.{assets_compared, assets_total, assets_exact}
-use Rattle.entry_map.specs.declared.place.Place.{Place}
-use Rattle.entry_map.specs.Indexes.{PlaceMap, has, IsLeastPlace, IsLastOfPair}
-use Rattle.entry_map.specs.declared.place.OfferTerms.{OfferTerms}
-use Rattle.entry_map.specs.Order.{order}
+-- Where the next position is of another pair, the book of the pair has ended.
+use Rattle.entry_map.proofs.Prelude.{◌≡◌, ◌≢◌, refl, sym, ap, subst, ◌∙◌, true, false, Ordering, Less, Equal, Greater}
+use Rattle.entry_map.proofs.Prelude.{ordering_then, ordering_reverse, is_eq, tied_itself, Asset, asset_cmp}
+use Rattle.entry_map.proofs.Prelude.{assets_compared, assets_total, assets_exact, BookPosition, PositionMap, has}
+use Rattle.entry_map.proofs.Prelude.{IsLeastPosition, IsLastOfPair, OfferTerms, order, then_of_Equal}
 
 not_greater_first : (x y : Ordering) → ordering_then x y ≢ Greater → x ≢ Greater
 not_greater_first Less y h = λ e. absurd (cc)
@@ -31,10 +23,7 @@ tied_of_both a b up down =
 pub tied : (a b : Asset) → a ≡ b → asset_cmp a b ≡ Equal
 tied a b e = subst (λ x. asset_cmp a x ≡ Equal) e (tied_itself assets_total a)
 
-second : (x y : Ordering) → x ≡ Equal → ordering_then x y ≡ y
-second x y e = ap (λ o. ordering_then o y) e
-
-module _ (k next q : Place) (selling : q.selling ≡ k.selling) (buying : q.buying ≡ k.buying)
+module _ (k next q : BookPosition) (selling : q.selling ≡ k.selling) (buying : q.buying ≡ k.buying)
     (ahead : order k next ≡ Less) (upto : order next q ≢ Greater) where
   first_up : asset_cmp k.selling next.selling ≢ Greater
   unfolding order
@@ -51,33 +40,30 @@ module _ (k next q : Place) (selling : q.selling ≡ k.selling) (buying : q.buyi
   second_up : asset_cmp k.buying next.buying ≢ Greater
   unfolding order
   second_up = subst (λ o. o ≢ Greater) (assets_compared k.buying next.buying)
-      (less_first _ _ (sym (second _ _ (assets_compared k.selling next.selling ∙ tied _ _ same_selling)) ∙ ahead))
+      (less_first _ _ (sym (then_of_Equal _ _ (assets_compared k.selling next.selling ∙ tied _ _ same_selling)) ∙ ahead))
 
   second_down : asset_cmp next.buying k.buying ≢ Greater
   unfolding order
   second_down = subst (λ x. asset_cmp next.buying x ≢ Greater) buying
       (subst (λ o. o ≢ Greater) (assets_compared next.buying q.buying)
-      (not_greater_first _ _ (λ g. upto (second _ _ (assets_compared next.selling q.selling
+      (not_greater_first _ _ (λ g. upto (then_of_Equal _ _ (assets_compared next.selling q.selling
       ∙ tied _ _ (sym same_selling ∙ sym selling)) ∙ g))))
 
-  -- so a next place that is of another pair ends the book of k's pair
+  -- so a next position that is of another pair ends the book of k's pair
   pub same_buying : k.buying ≡ next.buying
   same_buying = tied_of_both k.buying next.buying second_up second_down
 
-pub tie : (a b : Asset) → a ≡ b → is_eq (asset_cmp a b) ≡ true
-tie a b e = ap is_eq (tied a b e)
+pub same_assets_tied : (a b : Asset) → a ≡ b → is_eq (asset_cmp a b) ≡ true
+same_assets_tied a b e = ap is_eq (tied a b e)
 
--- no place of the pair is above, where the least one above is of another pair
-pub other_pair : (places : PlaceMap) (start next : Place) (terms : OfferTerms) → IsLeastPlace places start next terms
+-- no position of the pair is above, where the least one above is of another pair
+pub other_pair : (positions : PositionMap) (start next : BookPosition) (terms : OfferTerms) → IsLeastPosition positions start next terms
     → (is_eq (asset_cmp next.selling start.selling) ≡ true → is_eq (asset_cmp next.buying start.buying) ≡ true → ⊥)
-    → IsLastOfPair places start
-other_pair places start next terms least other q selling buying lt =
-    elim (has places q) as (λ b. has places q ≡ b → b ≡ false) [
+    → IsLastOfPair positions start
+other_pair positions start next terms least other q selling buying lt =
+    elim (has positions q) as (λ b. has positions q ≡ b → b ≡ false) [
       | true ↦ λ here. let upto = least.least q lt here in absurd (other
-          (tie next.selling start.selling (sym (same_selling start next q selling buying least.above upto)))
-          (tie next.buying start.buying (sym (same_buying start next q selling buying least.above upto))))
+          (same_assets_tied next.selling start.selling (sym (same_selling start next q selling buying least.above upto)))
+          (same_assets_tied next.buying start.buying (sym (same_buying start next q selling buying least.above upto))))
       | false ↦ λ apart. refl
     ] refl
-
-pub same_asset : (a b : Asset) → is_eq (asset_cmp a b) ≡ true → a ≡ b
-same_asset a b h = assets_exact a b ((Equal-is (asset_cmp a b)).0 h)

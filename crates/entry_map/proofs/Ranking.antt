@@ -1,25 +1,13 @@
--- The order of a book is that of places.
-use Rattle.std.proofs.Common.{◌≡◌, ◌≢◌, refl, sym, ap, ◌∙◌, arith, ℕ, ℤ, ◌*◌, ◌<◌, ◌≤◌, ◌≤ℤ◌, pos}
-use Rattle.std.proofs.Common.{Bool, true, false, cond, ◌+◌, ◌/◌, Option, Some, None}
-use Rattle.std.specs.Prelude.{unsigned_abs, nat_eq}
-use Rattle.std.specs.declared.cmp.Ordering.{Ordering}
-use Rattle.std.specs.declared.cmp.Ordering.TheVariants.{Less, Equal, Greater}
-use Rattle.std.specs.Ordering.{ordering_then, nat_cmp, int_cmp, bool_cmp, is_lt, MatchOrdering}
-use Rattle.std.specs.Cmp.{ranked, nat_cmp_is}
-use Rattle.std.specs.FinMap.{int_cmp-IsAntisymmetric}
-use Rattle.std.proofs.Math.Nat.{mul-le-mul}
-use Rattle.ledger_types.specs.declared.asset.Asset.{Asset}
-use Rattle.ledger_types.specs.declared.price.Price.{Price}
-use Rattle.ledger_types.specs.declared.offer.OfferEntry.{OfferEntry}
-use Rattle.ledger_types.specs.KeyOrder.{account_cmp}
-use Rattle.ledger_types.proofs.KeyOrdering.{assets_compared}
-use Rattle.entry_map.specs.declared.place.Place.{Place}
-use Rattle.ledger_types.specs.Prices.{IsPriced}
-use Rattle.entry_map.specs.Book.{IsPlacePriced, price_cmp, is_behind, goes_before}
-use Rattle.entry_map.specs.Places.{IsNarrow, IsPlaceNarrow, rank, place_of, start_of, no_seller}
-use Rattle.entry_map.specs.Order.{order}
+-- The order of a book is that of positions.
+use Rattle.entry_map.proofs.Prelude as prelude
+use prelude.{◌≡◌, ◌≢◌, refl, sym, ap, ◌∙◌, arith, ℕ, ℤ, ◌*◌, ◌<◌, ◌≤◌, pos, Bool, true, false, cond, ◌+◌, ◌/◌, Option}
+use prelude.{Some, None, unsigned_abs, nat_eq, Ordering, Less, Equal, Greater, ordering_then, nat_cmp, int_cmp}
+use prelude.{bool_cmp, is_lt, MatchOrdering, ranked, nat_cmp_is, int_cmp-IsAntisymmetric, mul-le-mul, Asset, Price}
+use prelude.{OfferEntry, account_cmp, assets_compared, BookPosition, IsPriced, IsPositionPriced, price_cmp, is_after}
+use prelude.{goes_before, IsNarrow, IsPositionNarrow, rank, position_of, start_of, no_seller, order, then_not_Equal}
 use Rattle.entry_map.proofs.Pairs.{tied}
 use Rattle.entry_map.proofs.Ranks.{cheaper_is_below, same_is_same}
+use Rattle.ledger_types.proofs.Arithmetic.{unsigned_abs_positive}
 
 -- prices whose denominators are at least 1 and fit 32 bits
 pub record IsRanked (p : Price) : Type 0 where
@@ -29,11 +17,8 @@ pub record IsRanked (p : Price) : Type 0 where
 fits : (a b : ℕ) → a ≤ 2147483648 → b ≤ 2147483648 → a * b ≤ 4611686018427387904
 fits a b h k = mul-le-mul h k
 
-one_up : (d : ℤ) → pos 1 ≤ℤ d → 1 ≤ unsigned_abs d
-one_up d h = grind (arith, h)
-
 pub ranked_price : (p : Price) → IsPriced p → IsNarrow p → IsRanked p
-ranked_price p h n = record { d = one_up p.d h.d; narrow = n }
+ranked_price p h n = record { d = unsigned_abs_positive p.d h.d; narrow = n }
 
 -- ranks are in the order of prices
 pub rank_cmp : (p q : Price) → IsRanked p → IsRanked q → price_cmp p q ≡ nat_cmp (rank p) (rank q)
@@ -44,13 +29,13 @@ rank_cmp p q a b = nat_cmp_is (rank p) (rank q) (price_cmp p q) (elim (price_cmp
       | Greater ↦ λ e. cheaper_is_below q p b.d a.d (fits _ _ b.narrow a.narrow) (ranked _ _ Greater e)
     ] refl)
 
--- ---- places of one pair
+-- ---- positions of one pair
 
-abbrev within : Place → Place → Ordering
+abbrev within : BookPosition → BookPosition → Ordering
 within a b = ordering_then (nat_cmp a.rank b.rank) (ordering_then (int_cmp a.id b.id)
     (ordering_then (bool_cmp a.is_end b.is_end) (account_cmp a.seller b.seller)))
 
-in_pair : (a b : Place) → a.selling ≡ b.selling → a.buying ≡ b.buying → order a b ≡ within a b
+in_pair : (a b : BookPosition) → a.selling ≡ b.selling → a.buying ≡ b.buying → order a b ≡ within a b
 unfolding order
 in_pair a b selling buying = λ i. ordering_then ((assets_compared a.selling b.selling ∙ tied _ _ selling) i)
     (ordering_then ((assets_compared a.buying b.buying ∙ tied _ _ buying) i) (within a b))
@@ -70,23 +55,18 @@ apart_ids Equal Equal z h = absurd (h refl)
 apart_ids Equal Greater z h = refl
 apart_ids Greater y z h = refl
 
-not_tied : (x y : Ordering) → y ≢ Equal → ordering_then x y ≢ Equal
-not_tied Less y h e = absurd (cc)
-not_tied Equal y h e = h e
-not_tied Greater y h e = absurd (cc)
+-- an offer is after a price and an id, or after nothing
+abbrev pub comes_after : Option (Price × ℤ) → OfferEntry → Bool
+comes_after None o = true
+comes_after (Some (price, id)) o = is_after price id o
 
--- an offer stands behind a price and an id, or behind nothing
-abbrev pub behind : Option (Price × ℤ) → OfferEntry → Bool
-behind None o = true
-behind (Some (price, id)) o = is_behind price id o
+abbrev pub IsPositionRanked : Option (Price × ℤ) → Type 0
+IsPositionRanked None = Unit {0}
+IsPositionRanked (Some (price, id)) = IsRanked price
 
-abbrev pub IsPlaceRanked : Option (Price × ℤ) → Type 0
-IsPlaceRanked None = Unit {0}
-IsPlaceRanked (Some (price, id)) = IsRanked price
-
-pub ranked_place : (after : Option (Price × ℤ)) → IsPlacePriced after → IsPlaceNarrow after → IsPlaceRanked after
-ranked_place None h n = tt
-ranked_place (Some (price, id)) h n = ranked_price price h n
+pub ranked_position : (after : Option (Price × ℤ)) → IsPositionPriced after → IsPositionNarrow after → IsPositionRanked after
+ranked_position None h n = tt
+ranked_position (Some (price, id)) h n = ranked_price price h n
 
 one_more : (b : Bool) (n : ℕ) → 0 < cond b 1 (n + 1)
 one_more true n = omega arith
@@ -106,34 +86,34 @@ pub start_buying : (selling buying : Asset) (after : Option (Price × ℤ))
 start_buying selling buying None = refl
 start_buying selling buying (Some (price, id)) = refl
 
-pub behind_start : (selling buying : Asset) (after : Option (Price × ℤ)) (o : OfferEntry) → o.selling ≡ selling
-    → o.buying ≡ buying → IsPlaceRanked after → IsRanked o.price
-    → is_lt (order (start_of selling buying after) (place_of o)) ≡ behind after o
-behind_start selling buying None o s b h r =
-    ap is_lt (in_pair (start_of selling buying None) (place_of o) (sym s) (sym b)
+pub after_start : (selling buying : Asset) (after : Option (Price × ℤ)) (o : OfferEntry) → o.selling ≡ selling
+    → o.buying ≡ buying → IsPositionRanked after → IsRanked o.price
+    → is_lt (order (start_of selling buying after) (position_of o)) ≡ comes_after after o
+after_start selling buying None o s b h r =
+    ap is_lt (in_pair (start_of selling buying None) (position_of o) (sym s) (sym b)
     ∙ ap (λ (x : Ordering). ordering_then x (ordering_then (int_cmp (pos 0) o.offer_id)
     (ordering_then (bool_cmp false false) (account_cmp no_seller o.seller_id)))) (lowest o.price))
-behind_start selling buying (Some (price, id)) o s b h r =
-    ap is_lt (in_pair (start_of selling buying (Some (price, id))) (place_of o) (sym s) (sym b))
+after_start selling buying (Some (price, id)) o s b h r =
+    ap is_lt (in_pair (start_of selling buying (Some (price, id))) (position_of o) (sym s) (sym b))
     ∙ below_end (nat_cmp (rank price) (rank o.price)) (int_cmp id o.offer_id)
     (account_cmp no_seller o.seller_id)
     ∙ ap (λ x. is_lt (ordering_then x (int_cmp id o.offer_id))) (sym (rank_cmp price o.price h r))
 
 -- what a book's order says of two offers of one pair with distinct ids
-pub record IsTold (a b : OfferEntry) : Type 0 where
-  pub same : goes_before a b ≡ is_lt (order (place_of a) (place_of b))
-  pub untied : order (place_of a) (place_of b) ≢ Equal
+pub record IsDistinguished (a b : OfferEntry) : Type 0 where
+  pub same : goes_before a b ≡ is_lt (order (position_of a) (position_of b))
+  pub untied : order (position_of a) (position_of b) ≢ Equal
 
-pub told : (a b : OfferEntry) → a.selling ≡ b.selling → a.buying ≡ b.buying → IsRanked a.price → IsRanked b.price
-    → a.offer_id ≢ b.offer_id → IsTold a b
-told a b s y p q apart =
+pub distinguished : (a b : OfferEntry) → a.selling ≡ b.selling → a.buying ≡ b.buying → IsRanked a.price → IsRanked b.price
+    → a.offer_id ≢ b.offer_id → IsDistinguished a b
+distinguished a b s y p q apart =
     let untied : int_cmp a.offer_id b.offer_id ≢ Equal = λ e. apart (int_cmp-IsAntisymmetric a.offer_id b.offer_id e) in
-    let is : order (place_of a) (place_of b)
+    let is : order (position_of a) (position_of b)
     ≡ ordering_then (price_cmp a.price b.price) (int_cmp a.offer_id b.offer_id) =
-    in_pair (place_of a) (place_of b) s y
+    in_pair (position_of a) (position_of b) s y
     ∙ apart_ids (nat_cmp (rank a.price) (rank b.price)) (int_cmp a.offer_id b.offer_id) _ untied
     ∙ ap (λ x. ordering_then x (int_cmp a.offer_id b.offer_id)) (sym (rank_cmp a.price b.price p q)) in
     record {
       same = ap is_lt (sym is);
-      untied = λ e. not_tied (price_cmp a.price b.price) (int_cmp a.offer_id b.offer_id) untied (sym is ∙ e);
+      untied = λ e. then_not_Equal (price_cmp a.price b.price) (int_cmp a.offer_id b.offer_id) untied (sym is ∙ e);
     }

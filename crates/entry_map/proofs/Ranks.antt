@@ -1,10 +1,7 @@
 -- Ranks are in the exact order of prices.
-use Rattle.std.proofs.Common.{◌≡◌, ℕ, ◌+◌, ◌*◌, ◌/◌, ◌<◌, ◌≤◌, cond, true, false, arith}
-use Rattle.std.specs.Prelude.{unsigned_abs, nat_eq}
-use Rattle.std.proofs.Math.Nat.{div-mul-le_self, mul-le-mul_right, le_of_mul-le-mul_right}
+use Rattle.entry_map.proofs.Prelude.{◌≡◌, ℕ, ◌+◌, ◌*◌, ◌/◌, ◌<◌, ◌≤◌, cond, true, false, arith, unsigned_abs, nat_eq}
+use Rattle.entry_map.proofs.Prelude.{div-mul-le_self, mul-le-mul_right, le_of_mul-le-mul_right, Price, rank}
 use Rattle.std.proofs.lemmas.Nat.{le-div}
-use Rattle.ledger_types.specs.declared.price.Price.{Price}
-use Rattle.entry_map.specs.Places.{rank}
 
 -- a / b and c / d, each times m and rounded down
 module _ (a b c d m : ℕ) (over : 1 ≤ b) (under : 1 ≤ d) where

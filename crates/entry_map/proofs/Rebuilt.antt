@@ -1,24 +1,16 @@
--- The index behind a batch is that of the offers behind it.
-use Rattle.std.proofs.Common.{◌≡◌, refl, sym, ap, subst, ◌∙◌, Bool, true, false, cond, not, ◌&&◌, List, [], ◌∷◌}
-use Rattle.std.proofs.Common.{◌++◌, Option, Some, None}
-use Rattle.std.specs.Option.{is_some, option_or}
-use Rattle.std.specs.List.{filter}
-use Rattle.ledger_types.specs.declared.offer.OfferEntry.{OfferEntry}
-use Rattle.entry_map.specs.declared.place.Place.{Place}
-use Rattle.entry_map.specs.declared.place.OfferTerms.{OfferTerms}
-use Rattle.entry_map.specs.declared.batch.Batch.{Batch}
-use Rattle.entry_map.specs.Book.{offers_in}
-use Rattle.entry_map.specs.Places.{key_at, terms_of}
-use Rattle.entry_map.specs.Indexes.{PlaceMap, is_at, is_taken, is_among, is_old, old_keys, index_of, terms_at}
-use Rattle.entry_map.specs.Indexes.{AreReplaced, AreChangedTo, IndexStaysRight, offers_behind}
-use Rattle.entry_map.specs.Indexes.{with_offers, without_offers}
+-- The index after a batch is that of the offers after it.
+use Rattle.entry_map.proofs.Prelude.{◌≡◌, refl, sym, ap, subst, ◌∙◌, Bool, true, false, cond, not, ◌&&◌, List, [], ◌∷◌}
+use Rattle.entry_map.proofs.Prelude.{◌++◌, Option, Some, None, is_some, option_or, filter, OfferEntry, BookPosition}
+use Rattle.entry_map.proofs.Prelude.{OfferTerms, Batch, offers_in, key_at, terms_of, PositionMap, is_at, is_taken}
+use Rattle.entry_map.proofs.Prelude.{is_among, is_old, old_keys, index_of, terms_at, AreReplaced, AreChangedTo}
+use Rattle.entry_map.proofs.Prelude.{IndexStaysRight, offers_after, with_offers, without_offers}
 use Rattle.entry_map.proofs.KeyMaps.{or_none}
-use Rattle.entry_map.proofs.PlaceMaps.{terms_in, some_terms, get-index_of, get-without_offers, with_more}
-use Rattle.entry_map.proofs.PlaceMaps.{same_places}
-use Rattle.entry_map.proofs.Places.{same_place}
+use Rattle.entry_map.proofs.PositionMaps.{terms_in, some_terms, get-index_of, get-without_offers, with_more}
+use Rattle.entry_map.proofs.PositionMaps.{same_positions}
+use Rattle.entry_map.proofs.Positions.{same_position}
 
--- what a filter leaves of a place, where it treats all offers there alike
-module _ (p : Place) (q : OfferEntry → Bool) (b : Bool) (alike : (o : OfferEntry) → is_at p o ≡ true → q o ≡ b) where
+-- what a filter leaves of a position, where it treats all offers there alike
+module _ (p : BookPosition) (q : OfferEntry → Bool) (b : Bool) (alike : (o : OfferEntry) → is_at p o ≡ true → q o ≡ b) where
   terms_by : (t : Bool) (o : OfferEntry) (kept : List OfferEntry) (rest : Option OfferTerms) → q o ≡ t
       → terms_in kept p ≡ cond b rest None
       → terms_in (cond t (o ∷ kept) kept) p ≡ cond b (option_or rest (terms_at p (Some o))) None
@@ -53,19 +45,19 @@ some_where : (b : Bool) (t : Option OfferTerms) → is_some (cond b t None) ≡ 
 some_where true t = refl
 some_where false t = refl
 
--- what is left without the old offers of a place is nothing, or what was there
+-- what is left without the old offers of a position is nothing, or what was there
 left_over : (old : Bool) (t : Option OfferTerms) → cond (old && is_some t) None t ≡ cond (not old) t None
 left_over true None = refl
 left_over true (Some x) = refl
 left_over false t = refl
 
-old_alike : (batch : Batch) (p : Place) (o : OfferEntry) → is_at p o ≡ true
+old_alike : (batch : Batch) (p : BookPosition) (o : OfferEntry) → is_at p o ≡ true
     → is_old batch o ≡ is_among (old_keys batch) (key_at p)
-old_alike batch p o h = ap (λ x. is_among (old_keys batch) (key_at x)) (sym (same_place p _ h))
+old_alike batch p o h = ap (λ x. is_among (old_keys batch) (key_at x)) (sym (same_position p _ h))
 
 pub taken_out : (offers before : List OfferEntry) (batch : Batch) → AreReplaced offers before batch
     → without_offers (index_of offers) before ≡ index_of (filter (λ o. not (is_old batch o)) offers)
-taken_out offers before batch replaced = same_places _ _ (λ p.
+taken_out offers before batch replaced = same_positions _ _ (λ p.
     let old = is_among (old_keys batch) (key_at p) in
     get-without_offers (index_of offers) before p ∙ ap (cond (is_taken before p) None) (get-index_of offers p)
     ∙ ap (λ b. cond b None (terms_in offers p))
@@ -75,10 +67,10 @@ taken_out offers before batch replaced = same_places _ _ (λ p.
     ∙ sym (terms_filter p (λ o. not (is_old batch o)) (not old) (λ o h. ap not (old_alike batch p o h)) offers)
     ∙ sym (get-index_of (filter (λ o. not (is_old batch o)) offers) p))
 
-pub rebuilt : (offers before : List OfferEntry) (batch : Batch) (first left made index : PlaceMap)
+pub rebuilt : (offers before : List OfferEntry) (batch : Batch) (first left made index : PositionMap)
     → first ≡ index_of offers → AreReplaced offers before batch → left ≡ without_offers first before
     → made ≡ with_offers left (offers_in batch.init) → index ≡ with_offers made (offers_in batch.live)
-    → index ≡ index_of (offers_behind offers batch)
+    → index ≡ index_of (offers_after offers batch)
 rebuilt offers before batch first left made index is replaced l m i =
     i ∙ ap (λ x. with_offers x (offers_in batch.live)) (m
     ∙ ap (λ x. with_offers x (offers_in batch.init)) (l ∙ ap (λ x. without_offers x before) is
@@ -88,5 +80,5 @@ rebuilt offers before batch first left made index is replaced l m i =
 
 pub stays_right : IndexStaysRight
 stays_right offers [] last replaced made = made
-stays_right offers (step ∷ steps) last replaced made = stays_right (offers_behind offers step.1) steps last replaced.1
+stays_right offers (step ∷ steps) last replaced made = stays_right (offers_after offers step.1) steps last replaced.1
     (subst (λ index. AreChangedTo index steps last) (made.1.0 offers refl replaced.0) made.1.1)

@@ -1,19 +1,10 @@
 -- A map under layers, key by key, and what each change of the layers is to the map with undo.
-use Rattle.std.proofs.Common.{◌≡◌, refl, sym, ap, subst, ◌∙◌, Bool, true, false, cond, List, [], ◌∷◌, ◌++◌}
-use Rattle.std.proofs.Common.{Option, Some, None, MatchOption, Bor}
-use Rattle.std.specs.Option.{unwrap_or, option_or, option_copied}
-use Rattle.std.specs.Ordering.{eq_by_cmp}
-use Rattle.std.specs.FinMap.{empty, get, insert, entries, find, get-empty, get-entries, get-insert, get-remove}
-use Rattle.std.specs.FinMap.{same_map}
-use Rattle.ledger_types.specs.declared.key.LedgerKey.{LedgerKey}
-use Rattle.ledger_types.specs.declared.entry.LedgerEntry.{LedgerEntry}
-use Rattle.ledger_types.specs.Keys.{key_of}
-use Rattle.ledger_types.specs.KeyOrder.{key_cmp}
-use Rattle.ledger_types.proofs.KeyOrdering.{keys_total, keys_exact}
-use Rattle.entry_map.specs.EntryMap.{EntryMap, put, erase}
-use Rattle.entry_map.specs.Undo.{Undo, started, with_current, opened, undone, kept}
-use Rattle.entry_map.specs.Layers.{LayerMap, with_changes, under_one, under, each_under, undo_of, change_of}
-use Rattle.entry_map.specs.Layers.{newest_change}
+use Rattle.entry_map.proofs.Prelude as prelude
+use prelude.{◌≡◌, refl, sym, ap, subst, ◌∙◌, Bool, true, false, cond, List, [], ◌∷◌, ◌++◌, Option, Some, None}
+use prelude.{MatchOption, Bor, unwrap_or, option_or, option_copied, eq_by_cmp, empty, get, insert, entries, find}
+use prelude.{get-empty, get-entries, get-insert, get-remove, same_map, LedgerKey, LedgerEntry, key_of, key_cmp}
+use prelude.{keys_total, keys_exact, EntryMap, put, erase, Undo, started, with_current, opened, undone, kept, LayerMap}
+use prelude.{with_changes, under_one, under, each_under, undo_of, change_of, newest_change}
 
 -- ---- options
 

@@ -40,22 +40,22 @@ offers_of m = offers_in (values m)
 abbrev pub price_cmp : Price → Price → Ordering
 price_cmp a b = nat_cmp (unsigned_abs a.n * unsigned_abs b.d) (unsigned_abs b.n * unsigned_abs a.d)
 
--- an offer stands behind a price and an id
-abbrev pub is_behind : Price → ℤ → OfferEntry → Bool
-is_behind price id offer = is_lt (ordering_then (price_cmp price offer.price) (int_cmp id offer.offer_id))
+-- an offer is after a price and an id
+abbrev pub is_after : Price → ℤ → OfferEntry → Bool
+is_after price id offer = is_lt (ordering_then (price_cmp price offer.price) (int_cmp id offer.offer_id))
 
 -- an offer goes before another
 abbrev pub goes_before : OfferEntry → OfferEntry → Bool
-goes_before a b = is_behind a.price a.offer_id b
+goes_before a b = is_after a.price a.offer_id b
 
--- an offer in its place among ranked ones
-abbrev pub placed : OfferEntry → List OfferEntry → List OfferEntry
-placed offer [] = offer ∷ []
-placed offer (first ∷ others) = if goes_before offer first then offer ∷ first ∷ others else first ∷ placed offer others
+-- an offer at its position among ranked ones
+abbrev pub inserted : OfferEntry → List OfferEntry → List OfferEntry
+inserted offer [] = offer ∷ []
+inserted offer (first ∷ others) = if goes_before offer first then offer ∷ first ∷ others else first ∷ inserted offer others
 
 abbrev pub ranked : List OfferEntry → List OfferEntry
 ranked [] = []
-ranked (offer ∷ others) = placed offer (ranked others)
+ranked (offer ∷ others) = inserted offer (ranked others)
 
 -- ---- the book
 
@@ -71,23 +71,23 @@ abbrev pub head : List OfferEntry → Option OfferEntry
 head [] = None
 head (first ∷ others) = Some first
 
--- what of a book stands behind a price and an id; all of it, where none are given
-abbrev pub left_behind : Option (Price × ℤ) → List OfferEntry → List OfferEntry
-left_behind None offers = offers
-left_behind (Some (price, id)) offers = filter (is_behind price id) offers
+-- what of a book is after a price and an id; all of it, where none are given
+abbrev pub left_after : Option (Price × ℤ) → List OfferEntry → List OfferEntry
+left_after None offers = offers
+left_after (Some (price, id)) offers = filter (is_after price id) offers
 
--- the first offer of a book behind a price and an id, or at its head
+-- the first offer of a book after a price and an id, or at its head
 unfoldable pub next_in : (selling buying : Asset) → Option (Price × ℤ) → List OfferEntry → Option OfferEntry
-next_in selling buying after offers = head (left_behind after (book_in selling buying offers))
+next_in selling buying after offers = head (left_after after (book_in selling buying offers))
 
 abbrev pub next_offer : EntryMap → (selling buying : Asset) → Option (Price × ℤ) → Option OfferEntry
 next_offer m selling buying after = next_in selling buying after (offers_of m)
 
 -- ---- what a book needs
 
-abbrev pub IsPlacePriced : Option (Price × ℤ) → Type 0
-IsPlacePriced None = Unit {0}
-IsPlacePriced (Some (price, id)) = IsPriced price
+abbrev pub IsPositionPriced : Option (Price × ℤ) → Type 0
+IsPositionPriced None = Unit {0}
+IsPositionPriced (Some (price, id)) = IsPriced price
 
 -- no two offers have the same id
 abbrev pub AreApart : List OfferEntry → Type 0

@@ -10,7 +10,7 @@ use Rattle.ledger_types.specs.Keys.{key_of}
 abbrev pub EntryMap : Type 0
 EntryMap = FinMap key_cmp LedgerEntry
 
--- each entry stands under its own key
+-- each entry is under its own key
 abbrev pub IsKeyed : EntryMap → Type 0
 IsKeyed m = (k : LedgerKey) → IfSome (get m k) (λ e. key_of e ≡ k)
 
@@ -18,7 +18,7 @@ IsKeyed m = (k : LedgerKey) → IfSome (get m k) (λ e. key_of e ≡ k)
 abbrev pub put : EntryMap → LedgerEntry → EntryMap
 put m e = insert m (key_of e) e
 
--- the map without what stands under a key
+-- the map without what is under a key
 abbrev pub erase : EntryMap → LedgerKey → EntryMap
 erase m k = remove m k
 
@@ -28,7 +28,7 @@ pub record IsLeastAbove (m : EntryMap) (k : LedgerKey) (e : LedgerEntry) : Type 
   pub above : key_cmp k (key_of e) ≡ Less
   pub least : (q : LedgerKey) → key_cmp k q ≡ Less → get m q ≢ None → key_cmp (key_of e) q ≢ Greater
 
--- what stands next in the order of keys: none where no key above k has an entry
+-- what comes next in the order of keys: none where no key above k has an entry
 abbrev pub IsNextAfter : EntryMap → LedgerKey → Option LedgerEntry → Type 0
 IsNextAfter m k None = (q : LedgerKey) → key_cmp k q ≡ Less → get m q ≡ None
 IsNextAfter m k (Some e) = IsLeastAbove m k e

@@ -15,7 +15,7 @@ use Rattle.entry_map.specs.Undo.{Undo}
 abbrev pub LayerMap : Type 0
 LayerMap = FinMap key_cmp (Option LedgerEntry)
 
--- each entry stands under its own key
+-- each entry is under its own key
 abbrev pub IsKeyedLayer : LayerMap → Type 0
 IsKeyedLayer l = (k : LedgerKey) (e : LedgerEntry) → get l k ≡ Some (Some e) → key_of e ≡ k
 

@@ -6,6 +6,6 @@ pub mod Noting
 pub mod Undo
 pub mod Book
 pub mod Order
-pub mod Places
+pub mod Positions
 pub mod Indexes
 pub use Rattle.ledger_types.specs as ledger_types

@@ -3,7 +3,7 @@
 ghost use Rattle.std.specs.Prelude.{◌≡◌, IfOk};
 ghost use Rattle.std.specs.FinMap.{get};
 ghost use Rattle.entry_map.specs.EntryMap.{EntryMap, IsKeyed, IsNextAfter};
-ghost use Rattle.entry_map.specs.Book.{IsPlacePriced, AreOffersSound, next_offer};
+ghost use Rattle.entry_map.specs.Book.{IsPositionPriced, AreOffersSound, next_offer};
 ghost use Rattle.entry_map.specs.Indexes.{IsIndexOf};
 
 use crate::index::OfferIndex;
@@ -30,14 +30,14 @@ pub trait Base {
     fn offers(&self) -> Result<OfferIndex, AllocError>
         ensures { IfOk result (IsIndexOf (entries self.now)) };
 
-    /// The first offer of a pair's book behind a price and an id, or at its head. None exactly where there is none.
+    /// The first offer of a pair's book after a price and an id, or at its head. None exactly where there is none.
     final fn offer_after(
         &self,
         selling: &Asset,
         buying: &Asset,
         after: Option<(Price, i64)>,
     ) -> Result<Option<OfferEntry>, AllocError>
-        ensures { AreOffersSound (entries self.now) → IsPlacePriced after
+        ensures { AreOffersSound (entries self.now) → IsPositionPriced after
             → IfOk result (λ offer. offer ≡ next_offer (entries self.now) selling.now buying.now after) }
     {
         Ok(self.offers()?.offer_after(selling, buying, after))

@@ -6,7 +6,7 @@ ghost use Rattle.std.specs.FinMap.{get};
 ghost use Rattle.ledger_types.specs.Keys.{key_of};
 ghost use Rattle.entry_map.specs.EntryMap.{IsNextAfter, put, erase};
 ghost use Rattle.entry_map.specs.Batch.{IsBatch};
-ghost use Rattle.entry_map.specs.Book.{IsPlacePriced, AreOffersSound, next_offer};
+ghost use Rattle.entry_map.specs.Book.{IsPositionPriced, AreOffersSound, next_offer};
 ghost use Rattle.entry_map.specs.Indexes.{IsIndexOf};
 ghost use Rattle.entry_map.specs.Undo.{started, with_current, IsOpen, opened, undone, kept};
 
@@ -18,7 +18,7 @@ use ledger_types::{Asset, LedgerEntry, LedgerKey, OfferEntry, Price};
 use std::alloc::{AllocError, Global};
 use std::marker::Model;
 
-/// A map of entries with undo: layers of changes over a base, which stays as it is, and the index of the offers behind
+/// A map of entries with undo: layers of changes over a base, which stays as it is, and the index of the offers after
 /// them. Contracts see the map, the maps that are kept for undoing, and the base's map. After a call that memory was
 /// refused to it may only be dropped.
 #[derive(Drop)]
@@ -26,7 +26,7 @@ pub struct Entries<'a, B: Base> {
     alloc: Global,
     layered: Layered<'a, B>,
     offers: OfferIndex,
-    // The indexes behind each opened child, the newest at the end.
+    // The indexes that were saved as each child was opened, the newest at the end.
     saved: Vec<OfferIndex>,
     // Whether memory was refused in the middle of a change.
     is_broken: bool,
@@ -46,7 +46,7 @@ impl<'a, B: Base> Model for Entries<'a, B> {
     ghost invariant = { λ e. e.is_broken ≡ false → IsIndexed e.layered e.offers e.saved.items };
 }
 
-/// The index behind an entry that is put.
+/// The index after an entry is put.
 fn index_with<B: Base>(
     alloc: Global,
     layered: &Layered<'_, B>,
@@ -64,7 +64,7 @@ fn index_with<B: Base>(
     left.with_offer(alloc, offer)
 }
 
-/// The index behind a key that is erased.
+/// The index after a key is erased.
 fn index_without<B: Base>(
     alloc: Global,
     layered: &Layered<'_, B>,
@@ -125,14 +125,14 @@ impl<'a, B: Base> Entries<'a, B> {
         self.layered.next_after(key)
     }
 
-    /// The first offer of a pair's book behind a price and an id, or at its head. None exactly where there is none.
+    /// The first offer of a pair's book after a price and an id, or at its head. None exactly where there is none.
     pub fn offer_after(
         &self,
         selling: &Asset,
         buying: &Asset,
         after: Option<(Price, i64)>,
     ) -> Result<Option<OfferEntry>, AllocError>
-        ensures { AreOffersSound self.now.current → IsPlacePriced after
+        ensures { AreOffersSound self.now.current → IsPositionPriced after
             → IfOk result (λ offer. offer ≡ next_offer self.now.current selling.now buying.now after) }
     {
         if self.is_broken {
@@ -151,7 +151,7 @@ impl<'a, B: Base> Entries<'a, B> {
         self.offers.share()
     }
 
-    /// Puts an entry under its key, in place of what stood there.
+    /// Puts an entry under its key, in place of what was there.
     pub fn put(&mut self, entry: LedgerEntry) -> Result<(), AllocError>
         ensures { OnOk result (self.new ≡ with_current self.old (put self.old.current entry)) }
     {
@@ -165,7 +165,7 @@ impl<'a, B: Base> Entries<'a, B> {
         Ok(())
     }
 
-    /// Removes what stands under a key, if anything does.
+    /// Removes what is under a key, if anything is.
     pub fn erase(&mut self, key: &LedgerKey) -> Result<(), AllocError>
         ensures { OnOk result (self.new ≡ with_current self.old (erase self.old.current key.now)) }
     {

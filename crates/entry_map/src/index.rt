@@ -1,4 +1,4 @@
-//! Offers by their places, kept in their order.
+//! Offers by their positions, kept in their order.
 
 ghost use Rattle.std.specs.Prelude.{◌≡◌, None, List, [], ◌∷◌, IfOk, MatchOption, option_map, map};
 ghost use Rattle.std.specs.Option.{option_copied};
@@ -9,36 +9,36 @@ ghost use Rattle.ledger_types.specs.KeyOrder.{key_cmp};
 ghost use Rattle.ledger_types.specs.Keys.{key_of};
 ghost use Rattle.ledger_types.specs.declared.offer.OfferEntry.{OfferEntry as AnOffer};
 ghost use Rattle.entry_map.specs.EntryMap.{EntryMap, put};
-ghost use Rattle.entry_map.specs.Book.{IsPlacePriced, AreSound, AreOffersSound, next_in, next_offer, offer_in};
+ghost use Rattle.entry_map.specs.Book.{IsPositionPriced, AreSound, AreOffersSound, next_in, next_offer, offer_in};
 ghost use Rattle.entry_map.specs.Book.{offer_of, offers_in};
-ghost use Rattle.entry_map.specs.Places.{IsNarrow, place_of, terms_of};
-ghost use Rattle.entry_map.specs.Indexes.{IsIndexOf, IsNextOfPair, IsLastOfPair, IsLeastPlace, IsLastPlace, AreNarrow};
+ghost use Rattle.entry_map.specs.Positions.{IsNarrow, position_of, terms_of};
+ghost use Rattle.entry_map.specs.Indexes.{IsIndexOf, IsNextOfPair, IsLastOfPair, IsLeastPosition, IsLastPosition, AreNarrow};
 ghost use Rattle.entry_map.specs.Indexes.{IsChangedTo, index_of, is_of_offer, name_of, with_offers, without};
 ghost use Rattle.entry_map.specs.Indexes.{without_offers};
 
 use crate::batch::Batch;
-use crate::place::{OfferTerms, Place, place_of, start_of, terms_of};
+use crate::position::{BookPosition, OfferTerms, position_of, start_of, terms_of};
 use ledger_types::{AccountId, Asset, LedgerEntry, LedgerEntryBody, LedgerKey, OfferEntry, Price};
 use shared_tree::{Kept, Tree};
 use std::alloc::{AllocError, Global};
 use std::marker::Model;
 
-/// Offers by their places, in the order of their books. What changes is made anew, and the rest is shared. Contracts
-/// see under each place what of its offer it doesn't tell.
+/// Offers by their positions, in the order of their books. What changes is made anew, and the rest is shared. Contracts
+/// see under each position what of its offer it doesn't determine.
 #[derive(Drop)]
 pub struct OfferIndex {
-    tree: Tree<Place, OfferTerms>,
+    tree: Tree<BookPosition, OfferTerms>,
 }
 
 impl Model for OfferIndex {
     ghost use Rattle.std.specs.FinMap.{from_sorted};
     ghost use Rattle.shared_tree.specs.Rows.{IsRising};
     ghost use Rattle.entry_map.specs.Order.{order};
-    ghost use Rattle.entry_map.specs.Indexes.{PlaceMap, place_map_code};
+    ghost use Rattle.entry_map.specs.Indexes.{PositionMap, position_map_code};
 
-    ghost Value = { PlaceMap };
+    ghost Value = { PositionMap };
 
-    ghost coded = { place_map_code };
+    ghost coded = { position_map_code };
 
     ghost view = { λ index. from_sorted index.tree };
 
@@ -65,7 +65,7 @@ pub fn offer_of(entry: &Option<LedgerEntry>) -> Option<OfferEntry>
     }
 }
 
-/// Whether an offer stands under a key, where anything does.
+/// Whether nothing but an offer can be under a key.
 pub fn is_of_offer(key: &LedgerKey) -> bool
     ensures { result ≡ is_of_offer key.now }
 {
@@ -98,25 +98,25 @@ impl OfferIndex {
         offer: &OfferEntry,
     ) -> Result<OfferIndex, AllocError>
         ensures value { IfOk result (λ index.
-            index ≡ insert self.now (place_of offer.now) (terms_of offer.now)) }
+            index ≡ insert self.now (position_of offer.now) (terms_of offer.now)) }
         ensures narrow { IsNarrow offer.now.price }
     {
-        let kept = Kept::new(alloc, place_of(offer), terms_of(offer))?;
+        let kept = Kept::new(alloc, position_of(offer), terms_of(offer))?;
         Ok(OfferIndex {
             tree: self.tree.put(alloc, &kept)?,
         })
     }
 
-    /// The index without the place of an offer.
+    /// The index without the position of an offer.
     fn without_offer(&self, alloc: Global, offer: &OfferEntry) -> Result<OfferIndex, AllocError>
-        ensures { IfOk result (λ index. index ≡ remove self.now (place_of offer.now)) }
+        ensures { IfOk result (λ index. index ≡ remove self.now (position_of offer.now)) }
     {
         Ok(OfferIndex {
-            tree: self.tree.take(alloc, &place_of(offer))?,
+            tree: self.tree.take(alloc, &position_of(offer))?,
         })
     }
 
-    /// The index without the place of an entry, if there is one and it is an offer.
+    /// The index without the position of an entry, if there is one and it is an offer.
     pub(crate) fn without_entry(
         &self,
         alloc: Global,
@@ -153,7 +153,7 @@ impl OfferIndex {
         Ok(index)
     }
 
-    /// The index without the places of offers.
+    /// The index without the positions of offers.
     fn without_offers(&self, alloc: Global, offers: &[OfferEntry]) -> Result<OfferIndex, AllocError>
         ensures { IfOk result (λ index. index ≡ without_offers self.now offers.now) }
     {
@@ -189,7 +189,7 @@ impl OfferIndex {
         Ok(index)
     }
 
-    /// The index behind a batch, made anew where something changed, and shared elsewhere. `before` has those of the
+    /// The index after a batch, made anew where something changed, and shared elsewhere. `before` has those of the
     /// index's offers that the batch changed or says to be gone.
     pub fn with_changes(
         &self,
@@ -204,60 +204,60 @@ impl OfferIndex {
         made.with_entries(alloc, batch.live.as_slice())
     }
 
-    /// The least place above another one, with its terms.
-    fn first_above(&self, start: &Place) -> Option<&Kept<Place, OfferTerms>>
-        ensures { MatchOption (option_copied result) (IsLastPlace self.now start.now)
-            (λ next. IsLeastPlace self.now start.now next.0 next.1) }
+    /// The least position above another one, with its terms.
+    fn first_above(&self, start: &BookPosition) -> Option<&Kept<BookPosition, OfferTerms>>
+        ensures { MatchOption (option_copied result) (IsLastPosition self.now start.now)
+            (λ next. IsLeastPosition self.now start.now next.0 next.1) }
     {
         self.tree.above(start)
     }
 
-    /// The least place above another one with its terms, if it is of the same pair.
-    fn next_place(&self, start: &Place) -> Option<&Kept<Place, OfferTerms>>
+    /// The least position above another one with its terms, if it is of the same pair.
+    fn next_position(&self, start: &BookPosition) -> Option<&Kept<BookPosition, OfferTerms>>
         ensures { MatchOption (option_copied result) (IsLastOfPair self.now start.now)
             (λ next. IsNextOfPair self.now start.now next.0 next.1) }
     {
         let next = self.first_above(start)?;
-        let place = next.key();
-        if place.selling.is_same(&start.selling) && place.buying.is_same(&start.buying) {
+        let position = next.key();
+        if position.selling.is_same(&start.selling) && position.buying.is_same(&start.buying) {
             Some(next)
         } else {
             None
         }
     }
 
-    /// The seller and the id of the first offer of a pair's book behind a price and an id, or at its head. None
-    /// exactly where there is none.
+    /// The seller and the id of the first offer of a pair's book after a price and an id, or at its head. None exactly
+    /// where there is none.
     pub fn after(
         &self,
         selling: &Asset,
         buying: &Asset,
-        place: Option<(Price, i64)>,
+        position: Option<(Price, i64)>,
     ) -> Option<(AccountId, i64)>
-        ensures map { (m : EntryMap) → IsIndexOf m self.now → AreOffersSound m → IsPlacePriced place
-            → result ≡ option_map name_of (next_offer m selling.now buying.now place) }
+        ensures map { (m : EntryMap) → IsIndexOf m self.now → AreOffersSound m → IsPositionPriced position
+            → result ≡ option_map name_of (next_offer m selling.now buying.now position) }
         ensures list { (offers : List AnOffer) → self.now ≡ index_of offers → AreSound offers
-            → AreNarrow offers → IsPlacePriced place
-            → result ≡ option_map name_of (next_in selling.now buying.now place offers) }
+            → AreNarrow offers → IsPositionPriced position
+            → result ≡ option_map name_of (next_in selling.now buying.now position offers) }
     {
-        let next = self.offer_after(selling, buying, place)?;
+        let next = self.offer_after(selling, buying, position)?;
         Some((next.seller_id, next.offer_id))
     }
 
-    /// The first offer of a pair's book behind a price and an id, or at its head. None exactly where there is none.
+    /// The first offer of a pair's book after a price and an id, or at its head. None exactly where there is none.
     pub fn offer_after(
         &self,
         selling: &Asset,
         buying: &Asset,
-        place: Option<(Price, i64)>,
+        position: Option<(Price, i64)>,
     ) -> Option<OfferEntry>
-        ensures map { (m : EntryMap) → IsIndexOf m self.now → AreOffersSound m → IsPlacePriced place
-            → result ≡ next_offer m selling.now buying.now place }
+        ensures map { (m : EntryMap) → IsIndexOf m self.now → AreOffersSound m → IsPositionPriced position
+            → result ≡ next_offer m selling.now buying.now position }
         ensures list { (offers : List AnOffer) → self.now ≡ index_of offers → AreSound offers
-            → AreNarrow offers → IsPlacePriced place
-            → result ≡ next_in selling.now buying.now place offers }
+            → AreNarrow offers → IsPositionPriced position
+            → result ≡ next_in selling.now buying.now position offers }
     {
-        let next = self.next_place(&start_of(selling, buying, place))?;
+        let next = self.next_position(&start_of(selling, buying, position))?;
         Some(next.value().offer_at(next.key()))
     }
 }

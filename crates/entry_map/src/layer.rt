@@ -16,7 +16,7 @@ use std::marker::Model;
 /// Changes by key: the entry that is put there, or none where it is erased.
 #[derive(Drop)]
 pub struct Layer {
-    // Boxed, so that a node of the tree has room for the entries' places alone.
+    // Boxed, so that a node of the tree has room for pointers to the entries alone.
     changes: KeyMap<Option<Boxed<LedgerEntry>>>,
 }
 
@@ -63,7 +63,7 @@ impl Layer {
         self.changes.insert(key, Some(entry))
     }
 
-    /// Erases what stands under a key.
+    /// Erases what is under a key.
     pub fn erase(&mut self, key: &LedgerKey) -> Result<(), AllocError>
         ensures { OnOk result (self.new ≡ insert self.old key.now None) }
     {

@@ -84,14 +84,14 @@ impl<'a, B: Base> Layered<'a, B> {
         entry_after(self.base, self.lower.as_slice(), &self.top, key)
     }
 
-    /// Puts an entry under its key, in place of what stood there.
+    /// Puts an entry under its key, in place of what was there.
     pub fn put(&mut self, entry: LedgerEntry) -> Result<(), AllocError>
         ensures { OnOk result (self.new ≡ with_current self.old (put self.old.current entry)) }
     {
         self.top.put(self.alloc, entry)
     }
 
-    /// Removes what stands under a key, if anything does.
+    /// Removes what is under a key, if anything is.
     pub fn erase(&mut self, key: &LedgerKey) -> Result<(), AllocError>
         ensures { OnOk result (self.new ≡ with_current self.old (erase self.old.current key.now)) }
     {

@@ -12,7 +12,7 @@ mod layer;
 mod layered;
 mod lookup;
 mod map_base;
-mod place;
+mod position;
 mod walk;
 
 pub use base::Base;

@@ -1,4 +1,4 @@
-//! What stands under a key in a base under layers.
+//! What is under a key in a base under layers.
 
 ghost use Rattle.std.specs.Prelude.{◌≡◌, IfOk, IfSome, MatchOption, None, Some};
 ghost use Rattle.std.specs.Option.{option_copied};
@@ -12,8 +12,8 @@ use ledger_types::item_list::Boxed;
 use ledger_types::{LedgerEntry, LedgerKey};
 use std::alloc::AllocError;
 
-/// What the newest of the layers that changed a key changed it to. The layers stand in the order of their age, the
-/// oldest first.
+/// What the newest of the layers that changed a key changed it to. The layers are in the order of their age, the oldest
+/// first.
 fn change_in<'a>(layers: &'a [Layer], key: &LedgerKey) -> Option<&'a Option<Boxed<LedgerEntry>>>
     ensures found { option_copied result ≡ change_of layers.now key.now }
     ensures keyed { IfSome result (λ change. IfSome change.now (λ e. key_of e ≡ key.now)) }

@@ -18,7 +18,7 @@ use std::marker::Model;
 /// An ordered map of entries in memory. Contracts see the map.
 #[derive(Drop)]
 pub struct MapBase {
-    // Boxed, so that a node of the tree has room for the entries' places alone.
+    // Boxed, so that a node of the tree has room for pointers to the entries alone.
     entries: KeyMap<Boxed<LedgerEntry>>,
     offers: OfferIndex,
 }

@@ -1,6 +1,5 @@
 -- What an entry says of its sponsor once one is recorded.
-use Rattle.std.proofs.Common.{◌≡◌, refl, Option, Some, None}
-use Rattle.entry_map.specs.ledger_types.declared.ids.AccountId.{AccountId}
+use Rattle.entry_slots.proofs.Prelude.{◌≡◌, refl, Option, Some, None, AccountId}
 use Rattle.entry_map.specs.ledger_types.declared.entry.LedgerEntryExtensionV1.{LedgerEntryExtensionV1}
 use Rattle.entry_slots.specs.EntrySponsor.{sponsor_in, with_sponsor_in}
 

@@ -57,10 +57,10 @@ num_sponsoring account = sponsoring_in (second_in account.ext)
 abbrev pub num_sponsored : AccountEntry → ℕ
 num_sponsored account = sponsored_in (second_in account.ext)
 
--- who pays the reserve of the signer at a place, if somebody does
+-- who pays the reserve of the signer at an index, if somebody does
 abbrev pub signer_sponsor : AccountEntry → ℕ → Option AccountId
-signer_sponsor account place =
-    option_and_then (λ ext. option_and_then (λ sponsor. sponsor) (slice_get ext.signer_sponsoring_ids place))
+signer_sponsor account index =
+    option_and_then (λ ext. option_and_then (λ sponsor. sponsor) (slice_get ext.signer_sponsoring_ids index))
     (second_in account.ext)
 
 -- zeros, and no sponsor of any signer, where there is no extension

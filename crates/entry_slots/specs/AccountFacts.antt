@@ -24,6 +24,6 @@ abbrev pub facts_in : Option AccountEntry → Option AccountFacts
 facts_in None = None
 facts_in (Some account) = Some (facts_of account)
 
--- the facts of the account with this id, if it stands
+-- the facts of the account with this id, if it exists
 abbrev pub facts_at : EntryMap → AccountId → Option AccountFacts
 facts_at m account_id = facts_in (account_at m account_id)

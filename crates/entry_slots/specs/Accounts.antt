@@ -19,11 +19,11 @@ abbrev pub account_of : Option LedgerEntry → Option AccountEntry
 account_of None = None
 account_of (Some entry) = account_in entry.body
 
--- the account with this id, if it stands
+-- the account with this id, if it exists
 unfoldable pub account_at : EntryMap → AccountId → Option AccountEntry
 account_at m account_id = account_of (get m (key.Account account_id))
 
--- an account stands
+-- an account exists
 abbrev pub HasAccount : EntryMap → AccountId → Type 0
 HasAccount m account_id = (account : AccountEntry) × (account_at m account_id ≡ Some account)
 

@@ -19,7 +19,7 @@ abbrev pub balance_of : Option LedgerEntry → Option ClaimableBalanceEntry
 balance_of None = None
 balance_of (Some entry) = balance_in entry.body
 
--- the claimable balance with this id, if it stands
+-- the claimable balance with this id, if it exists
 unfoldable pub balance_at : EntryMap → ClaimableBalanceId → Option ClaimableBalanceEntry
 balance_at m balance_id = balance_of (get m (key.ClaimableBalance balance_id))
 

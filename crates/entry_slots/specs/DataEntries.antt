@@ -19,7 +19,7 @@ abbrev pub data_of : Option LedgerEntry → Option DataEntry
 data_of None = None
 data_of (Some entry) = data_in entry.body
 
--- the account's data with this name, if it stands
+-- the account's data with this name, if it exists
 unfoldable pub data_at : EntryMap → AccountId → List ℕ → Option DataEntry
 data_at m account_id data_name = data_of (get m (key.Data account_id data_name))
 

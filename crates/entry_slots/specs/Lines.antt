@@ -20,7 +20,7 @@ abbrev pub line_of : Option LedgerEntry → Option TrustLineEntry
 line_of None = None
 line_of (Some entry) = line_in entry.body
 
--- the account's trust line in this asset, if it stands
+-- the account's trust line in this asset, if it exists
 unfoldable pub line_at : EntryMap → AccountId → TrustLineAsset → Option TrustLineEntry
 line_at m account_id asset = line_of (get m (key.TrustLine account_id asset))
 

@@ -11,7 +11,7 @@ use Rattle.entry_map.specs.EntryMap.{EntryMap, put}
 pub use Rattle.entry_map.specs.Book.{offer_in, offer_of}
 use Rattle.entry_slots.specs.declared.offers.OfferSlot.{OfferSlot}
 
--- the seller's offer with this id, if it stands
+-- the seller's offer with this id, if it exists
 unfoldable pub offer_at : EntryMap → AccountId → ℤ → Option OfferEntry
 offer_at m seller_id offer_id = offer_of (get m (key.Offer seller_id offer_id))
 

@@ -19,7 +19,7 @@ abbrev pub pool_of : Option LedgerEntry → Option LiquidityPoolEntry
 pool_of None = None
 pool_of (Some entry) = pool_in entry.body
 
--- the pool with this id, if it stands
+-- the pool with this id, if it exists
 unfoldable pub pool_at : EntryMap → Hash → Option LiquidityPoolEntry
 pool_at m pool_id = pool_of (get m (key.LiquidityPool pool_id))
 

@@ -78,12 +78,12 @@ pub fn num_sponsoring(account: &AccountEntry) -> u32
     }
 }
 
-/// Who pays the reserve of the signer at a place, if somebody does.
-pub fn signer_sponsor(account: &AccountEntry, place: usize) -> Option<AccountId>
-    ensures { result ≡ spec.signer_sponsor account.now place }
+/// Who pays the reserve of the signer at an index, if somebody does.
+pub fn signer_sponsor(account: &AccountEntry, index: usize) -> Option<AccountId>
+    ensures { result ≡ spec.signer_sponsor account.now index }
 {
     let sponsorship = account.ext.as_ref()?.ext.as_ref()?;
-    match sponsorship.signer_sponsoring_ids.as_slice().get(place) {
+    match sponsorship.signer_sponsoring_ids.as_slice().get(index) {
         Some(sponsor) => *sponsor,
         None => None,
     }

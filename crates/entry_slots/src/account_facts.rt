@@ -47,7 +47,7 @@ fn facts_in(entry: Option<&LedgerEntry>) -> Option<AccountFacts>
     Some(facts_of(account_in(entry)?))
 }
 
-/// The facts of the account with this id, if it stands. An account that has changed is looked at where it is.
+/// The facts of the account with this id, if it exists. An account that has changed is looked at where it is.
 #[tactic(auto, unfolding(crate::specs::Accounts::account_at))]
 pub fn load_facts<B: Base>(
     entries: &Entries<'_, B>,

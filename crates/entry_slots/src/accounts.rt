@@ -47,7 +47,7 @@ pub fn account_in(entry: Option<&LedgerEntry>) -> Option<&AccountEntry>
     }
 }
 
-/// The account with this id, if it stands.
+/// The account with this id, if it exists.
 #[tactic(auto, unfolding(crate::specs::Accounts::account_at))]
 pub fn load_account<B: Base>(
     entries: &Entries<'_, B>,
@@ -67,7 +67,7 @@ pub fn load_account<B: Base>(
     }
 }
 
-/// Puts the entry of an account under its key, in place of what stood there.
+/// Puts the entry of an account under its key, in place of what was there.
 pub fn store_account<B: Base>(
     entries: &mut Entries<'_, B>,
     slot: AccountSlot,
@@ -87,7 +87,7 @@ pub fn store_account<B: Base>(
     })
 }
 
-/// Removes the account with this id, if it stands.
+/// Removes the account with this id, if it exists.
 pub fn erase_account<B: Base>(
     entries: &mut Entries<'_, B>,
     account_id: &AccountId,
@@ -100,7 +100,7 @@ pub fn erase_account<B: Base>(
     })
 }
 
-/// Gives the account with this id, if it stands, another sequence number.
+/// Gives the account with this id, if it exists, another sequence number.
 #[tactic(auto, unfolding(crate::specs::Accounts::with_account))]
 pub fn set_seq_num<B: Base>(
     entries: &mut Entries<'_, B>,

@@ -37,7 +37,7 @@ pub fn balance_slot_in(entry: LedgerEntry) -> Option<BalanceSlot>
     }
 }
 
-/// The claimable balance with this id, if it stands.
+/// The claimable balance with this id, if it exists.
 #[tactic(auto, unfolding(crate::specs::Balances::balance_at))]
 pub fn load_balance<B: Base>(
     entries: &Entries<'_, B>,
@@ -57,7 +57,7 @@ pub fn load_balance<B: Base>(
     }
 }
 
-/// Puts the entry of a claimable balance under its key, in place of what stood there.
+/// Puts the entry of a claimable balance under its key, in place of what was there.
 pub fn store_balance<B: Base>(
     entries: &mut Entries<'_, B>,
     slot: BalanceSlot,
@@ -77,7 +77,7 @@ pub fn store_balance<B: Base>(
     })
 }
 
-/// Removes the claimable balance with this id, if it stands.
+/// Removes the claimable balance with this id, if it exists.
 pub fn erase_balance<B: Base>(
     entries: &mut Entries<'_, B>,
     balance_id: &ClaimableBalanceId,

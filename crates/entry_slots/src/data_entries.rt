@@ -37,7 +37,7 @@ pub fn data_slot_in(entry: LedgerEntry) -> Option<DataSlot>
     }
 }
 
-/// The account's data with this name, if it stands.
+/// The account's data with this name, if it exists.
 #[tactic(auto, unfolding(crate::specs::DataEntries::data_at))]
 pub fn load_data<B: Base>(
     entries: &Entries<'_, B>,
@@ -60,7 +60,7 @@ pub fn load_data<B: Base>(
     }
 }
 
-/// Puts an entry of data under its key, in place of what stood there.
+/// Puts an entry of data under its key, in place of what was there.
 pub fn store_data<B: Base>(entries: &mut Entries<'_, B>, slot: DataSlot) -> Result<(), AllocError>
     ensures { OnOk result (entries.new ≡ with_current entries.old (put entries.old.current (spec.entry_of_data slot))) }
 {
@@ -76,7 +76,7 @@ pub fn store_data<B: Base>(entries: &mut Entries<'_, B>, slot: DataSlot) -> Resu
     })
 }
 
-/// Removes the account's data with this name, if it stands.
+/// Removes the account's data with this name, if it exists.
 pub fn erase_data<B: Base>(
     entries: &mut Entries<'_, B>,
     account_id: &AccountId,

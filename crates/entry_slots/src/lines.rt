@@ -37,7 +37,7 @@ pub fn line_slot_in(entry: LedgerEntry) -> Option<LineSlot>
     }
 }
 
-/// The account's trust line in this asset, if it stands.
+/// The account's trust line in this asset, if it exists.
 #[tactic(auto, unfolding(crate::specs::Lines::line_at))]
 pub fn load_line<B: Base>(
     entries: &Entries<'_, B>,
@@ -60,7 +60,7 @@ pub fn load_line<B: Base>(
     }
 }
 
-/// Puts the entry of a trust line under its key, in place of what stood there.
+/// Puts the entry of a trust line under its key, in place of what was there.
 pub fn store_line<B: Base>(entries: &mut Entries<'_, B>, slot: LineSlot) -> Result<(), AllocError>
     ensures { OnOk result (entries.new ≡ with_current entries.old (put entries.old.current (spec.entry_of_line slot))) }
 {
@@ -76,7 +76,7 @@ pub fn store_line<B: Base>(entries: &mut Entries<'_, B>, slot: LineSlot) -> Resu
     })
 }
 
-/// Removes the account's trust line in this asset, if it stands.
+/// Removes the account's trust line in this asset, if it exists.
 pub fn erase_line<B: Base>(
     entries: &mut Entries<'_, B>,
     account_id: &AccountId,

@@ -36,7 +36,7 @@ pub fn offer_slot_in(entry: LedgerEntry) -> Option<OfferSlot>
     }
 }
 
-/// The seller's offer with this id, if it stands.
+/// The seller's offer with this id, if it exists.
 #[tactic(auto, unfolding(crate::specs::Offers::offer_at))]
 pub fn load_offer<B: Base>(
     entries: &Entries<'_, B>,
@@ -59,7 +59,7 @@ pub fn load_offer<B: Base>(
     }
 }
 
-/// Puts the entry of an offer under its key, in place of what stood there.
+/// Puts the entry of an offer under its key, in place of what was there.
 pub fn store_offer<B: Base>(entries: &mut Entries<'_, B>, slot: OfferSlot) -> Result<(), AllocError>
     ensures { OnOk result (
         entries.new ≡ with_current entries.old (put entries.old.current (spec.entry_of_offer slot))) }
@@ -76,7 +76,7 @@ pub fn store_offer<B: Base>(entries: &mut Entries<'_, B>, slot: OfferSlot) -> Re
     })
 }
 
-/// Removes the seller's offer with this id, if it stands.
+/// Removes the seller's offer with this id, if it exists.
 pub fn erase_offer<B: Base>(
     entries: &mut Entries<'_, B>,
     seller_id: &AccountId,

@@ -36,7 +36,7 @@ pub fn pool_slot_in(entry: LedgerEntry) -> Option<PoolSlot>
     }
 }
 
-/// The pool with this id, if it stands.
+/// The pool with this id, if it exists.
 #[tactic(auto, unfolding(crate::specs::Pools::pool_at))]
 pub fn load_pool<B: Base>(
     entries: &Entries<'_, B>,
@@ -53,7 +53,7 @@ pub fn load_pool<B: Base>(
     }
 }
 
-/// Puts the entry of a pool under its key, in place of what stood there.
+/// Puts the entry of a pool under its key, in place of what was there.
 pub fn store_pool<B: Base>(entries: &mut Entries<'_, B>, slot: PoolSlot) -> Result<(), AllocError>
     ensures { OnOk result (entries.new ≡ with_current entries.old (put entries.old.current (spec.entry_of_pool slot))) }
 {
@@ -69,7 +69,7 @@ pub fn store_pool<B: Base>(entries: &mut Entries<'_, B>, slot: PoolSlot) -> Resu
     })
 }
 
-/// Removes the pool with this id, if it stands.
+/// Removes the pool with this id, if it exists.
 pub fn erase_pool<B: Base>(entries: &mut Entries<'_, B>, pool_id: &Hash) -> Result<(), AllocError>
     ensures { OnOk result (
         entries.new ≡ with_current entries.old (erase entries.old.current (key.LiquidityPool pool_id.now))) }

@@ -1,36 +1,24 @@
 -- Sums over the entries of a map.
-use Rattle.std.proofs.Common.{◌≡◌, refl, sym, ap, subst, ◌∙◌, Bool, true, false, cond, Option, Some, None, arith}
-use Rattle.std.proofs.lemmas.Int.{ints}
-use Rattle.std.specs.Prelude.{ℤ, pos, ◌+ℤ◌, ◌≤ℤ◌}
-use Rattle.std.specs.Ordering.{eq_by_cmp}
-use Rattle.std.specs.FinMap.{get, insert, entries, entries_sorted, entries-insert, get-entries, get-insert}
-use Rattle.std.specs.FinMap.{same_map}
-use Rattle.std.specs.FinMap.Entries.{put as put_in}
-use Rattle.entry_map.specs.ledger_types.declared.entry.LedgerEntry.{LedgerEntry}
-use Rattle.entry_map.specs.ledger_types.declared.key.LedgerKey.{LedgerKey}
-use Rattle.entry_map.specs.ledger_types.Keys.{key_of}
-use Rattle.entry_map.specs.ledger_types.KeyOrder.{key_cmp}
-use Rattle.entry_map.proofs.ledger_types_proofs.KeyOrdering.{keys_total, keys_exact}
-use Rattle.entry_map.specs.EntryMap.{EntryMap, erase}
-use Rattle.entry_map.proofs.KeyMaps.{same_keys}
-use Rattle.entry_sums.specs.Sums.{Weight, sum_over, total, part, EachEntry}
+use Rattle.entry_sums.proofs.Prelude.{◌≡◌, refl, sym, ap, subst, ◌∙◌, Bool, true, false, cond, Option, Some, None}
+use Rattle.entry_sums.proofs.Prelude.{arith, ints, ℤ, pos, ◌+ℤ◌, ◌≤ℤ◌, eq_by_cmp, get, insert, entries, entries_sorted}
+use Rattle.entry_sums.proofs.Prelude.{entries-insert, get-entries, get-insert, same_map, put_in, LedgerEntry, LedgerKey}
+use Rattle.entry_sums.proofs.Prelude.{key_of, key_cmp, keys_total, keys_exact, EntryMap, erase, Weight, sum_over, total}
+use Rattle.entry_sums.proofs.Prelude.{part, EachEntry, erase_get, erase_there, left_over, same_keys}
 use Rattle.entry_sums.specs.Laws.{PutAdds, EraseTakes, OnlyAtCounts, PartIsAtMost}
-use Rattle.entry_sums.proofs.Lookups.{erase_get, erase_there, erase_each, left_over}
+use Rattle.entry_sums.proofs.Lookups.{erase_each}
 use Rattle.entry_sums.proofs.Lists.{sum_over-put, sum_over-at_most, sum_over-plus}
+use Rattle.entry_map.proofs.ledger_types_proofs.Arithmetic.{add_zero, zero_from_own_double}
 
 -- ---- whole numbers
-
-plus_nothing : (a : ℤ) → (a +ℤ pos 0) ≡ a
-plus_nothing a = omega (arith, ints)
 
 both_ways : (a b : ℤ) → a ≤ℤ b → b ≤ℤ a → a ≡ b
 both_ways a b low high = omega (arith, ints)
 
-at_most : (a : ℤ) → a ≡ pos 0 → a ≤ℤ pos 0
-at_most a is = omega (arith, ints)
+nonpositive_from_zero : (a : ℤ) → a ≡ pos 0 → a ≤ℤ pos 0
+nonpositive_from_zero a is = omega (arith, ints)
 
-at_least : (a : ℤ) → a ≡ pos 0 → pos 0 ≤ℤ a
-at_least a is = omega (arith, ints)
+nonnegative_from_zero : (a : ℤ) → a ≡ pos 0 → pos 0 ≤ℤ a
+nonnegative_from_zero a is = omega (arith, ints)
 
 only_part : (rest here all : ℤ) → (rest +ℤ here) ≡ all → rest ≡ pos 0 → all ≡ here
 only_part rest here all is none = omega (arith, ints)
@@ -74,7 +62,7 @@ erase_sums erased here all none is nothing = omega (arith, ints)
 
 erase_part : (f : Weight) (m : EntryMap) (k : LedgerKey) (o : Option LedgerEntry) → get m k ≡ o
     → (total f (erase m k) +ℤ part f o) ≡ total f m
-erase_part f m k None none = ap (λ n. total f n +ℤ pos 0) (same_without m k none) ∙ plus_nothing (total f m)
+erase_part f m k None none = ap (λ n. total f n +ℤ pos 0) (same_without m k none) ∙ add_zero (total f m)
 erase_part f m k (Some e) there = erase_sums (total f (erase m k)) (f e) (total f m) (part f (get (erase m k) k))
     (ap (λ n. total f n +ℤ part f (get (erase m k) k)) (sym (put_back m k e there)) ∙ total_insert f (erase m k) k e)
     (ap (part f) (erase_there m k))
@@ -96,15 +84,12 @@ total_plus f g h m is = sum_over-plus f g h (entries m) is
 abbrev nothing : Weight
 nothing e = pos 0
 
-twice_itself : (a : ℤ) → a ≡ (a +ℤ a) → a ≡ pos 0
-twice_itself a is = omega (arith, ints)
-
 total_nothing : (m : EntryMap) → total nothing m ≡ pos 0
-total_nothing m = twice_itself _ (total_plus nothing nothing nothing m (λ e. omega (arith, ints)))
+total_nothing m = zero_from_own_double _ (total_plus nothing nothing nothing m (λ e. omega (arith, ints)))
 
 pub total_none : (f : Weight) (m : EntryMap) → EachEntry (λ k e. f e ≡ pos 0) m → total f m ≡ pos 0
-total_none f m none = both_ways _ _ (total_at_most f nothing m (λ k e there. at_most (f e) (none k e there)))
-    (total_at_most nothing f m (λ k e there. at_least (f e) (none k e there))) ∙ total_nothing m
+total_none f m none = both_ways _ _ (total_at_most f nothing m (λ k e there. nonpositive_from_zero (f e) (none k e there)))
+    (total_at_most nothing f m (λ k e there. nonnegative_from_zero (f e) (none k e there))) ∙ total_nothing m
 
 pub total_not_below : (f : Weight) (m : EntryMap) → EachEntry (λ k e. pos 0 ≤ℤ f e) m → pos 0 ≤ℤ total f m
 total_not_below f m le = subst (λ s. s ≤ℤ total f m) (total_nothing m) (total_at_most nothing f m le)

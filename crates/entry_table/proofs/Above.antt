@@ -1,14 +1,7 @@
 -- The first entry of a row above a key is the next one of its map.
-use Rattle.std.proofs.Common.{◌≡◌, List, Option, Some, None, option_map, sym, ap, subst, ◌∙◌}
-use Rattle.std.specs.FinMap.{get, get-from_sorted}
-use Rattle.ledger_types.specs.declared.key.LedgerKey.{LedgerKey}
-use Rattle.ledger_types.specs.declared.entry.LedgerEntry.{LedgerEntry}
-use Rattle.ledger_types.specs.KeyOrder.{key_cmp}
-use Rattle.ledger_types.proofs.KeyOrdering.{keys_total}
-use Rattle.entry_map.specs.EntryMap.{EntryMap, IsNextAfter}
-use Rattle.shared_tree.specs.Rows.{first_above}
-use Rattle.shared_tree.proofs.Changed.{IsFirstAbove, first_is}
-use Rattle.entry_table.specs.Rows.{IsTableRow, map_of}
+use Rattle.entry_table.proofs.Prelude.{◌≡◌, List, Option, Some, None, option_map, sym, ap, subst, ◌∙◌, get}
+use Rattle.entry_table.proofs.Prelude.{get-from_sorted, LedgerKey, LedgerEntry, key_cmp, keys_total, EntryMap}
+use Rattle.entry_table.proofs.Prelude.{IsNextAfter, first_above, IsFirstAbove, first_is, IsTableRow, map_of}
 use Rattle.entry_table.proofs.Tables.{own_found}
 
 next_in : (k : LedgerKey) (row : List (LedgerKey × LedgerEntry)) (o : Option (LedgerKey × LedgerEntry))

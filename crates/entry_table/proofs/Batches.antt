@@ -1,34 +1,21 @@
--- The row behind a batch is that of the next entries, and the stamped batch tells all that changed.
-use Rattle.std.proofs.Common.{◌≡◌, ◌≢◌, ◌↔◌, ◌⊎◌, ◌==◌, inl, inr, ℕ, ◌<◌, Bool, true, false}
-use Rattle.std.proofs.Common.{cond, List, [], ◌∷◌, Option, Some}
-use Rattle.std.proofs.Common.{None, map, refl, sym, ap, subst, ◌∙◌, arith, length, suc, get_or, IfSome, Contains}
+-- The row after a batch is that of the next entries, and the stamped batch lists all that changed.
+use Rattle.entry_table.proofs.Prelude.{◌≡◌, ◌≢◌, ◌↔◌, ◌⊎◌, ◌==◌, inl, inr, ℕ, Bool, true, false, cond, List, [], ◌∷◌}
+use Rattle.entry_table.proofs.Prelude.{Option, Some, None, map, refl, sym, ap, subst, ◌∙◌, IfSome, Contains, option_or}
+use Rattle.entry_table.proofs.Prelude.{eq_by_cmp_equiv, get, get-from_sorted, find, LedgerKey, LedgerEntry, key_cmp}
+use Rattle.entry_table.proofs.Prelude.{key_of, keys_total, Batch, EntryMap, IsKeyed, parts_of, IsNew, IsChanged, IsGone}
+use Rattle.entry_table.proofs.Prelude.{IsBatch, AreRising, stamped, IsNextAt, AreNextEntries, IsExactBatch, value_at}
+use Rattle.entry_table.proofs.Prelude.{is_among, with_key, map_of, later, IsRowAfter, IsTableRow, same_keys}
 use Rattle.std.specs.Coded.{Coded}
-use Rattle.std.specs.Option.{option_or}
-use Rattle.std.specs.Cmp.{eq_by_cmp_equiv}
-use Rattle.std.specs.FinMap.{get, get-from_sorted}
-use Rattle.std.specs.FinMap.Entries.{find}
-use Rattle.std.proofs.lemmas.List.{get_or-map}
 use Rattle.std.proofs.lemmas.Map.Views.{list_any-from_Contains, Contains-from_any}
-use Rattle.std.proofs.lemmas.List.Elements.{Contains-get_or}
 use Rattle.std.proofs.lemmas.Bool.Decides.{Decides-eqb}
 use base.Stored.{Gv, gnil, gnum, gcons}
-use Rattle.ledger_types.specs.declared.key.LedgerKey.{LedgerKey}
-use Rattle.ledger_types.specs.declared.entry.LedgerEntry.{LedgerEntry}
 use Rattle.ledger_types.specs.contracts.entry.LedgerEntry as entry
-use Rattle.ledger_types.specs.KeyOrder.{key_cmp}
-use Rattle.ledger_types.specs.Keys.{key_of}
-use Rattle.ledger_types.proofs.KeyOrdering.{keys_total}
-use Rattle.entry_map.specs.declared.batch.Batch.{Batch}
-use Rattle.entry_map.specs.EntryMap.{EntryMap, IsKeyed}
-use Rattle.entry_map.specs.Batch.{parts_of, IsNew, IsChanged, IsGone, IsBatch}
-use Rattle.entry_map.specs.KeyMaps.{AreRising}
-use Rattle.entry_changes.specs.Next.{stamped, IsNextAt, AreNextEntries, IsExactBatch}
-use Rattle.entry_table.specs.Rows.{value_at, is_among, with_key, map_of, behind, IsRowBehind, IsTableRow}
-use Rattle.entry_table.proofs.Walks.{same_key, Sorted}
-use Rattle.entry_table.proofs.Places.{found_at, at_of}
+use Rattle.entry_table.proofs.Walks.{Sorted}
+use Rattle.entry_table.proofs.Positions.{found_at, at_of}
 use Rattle.entry_table.proofs.Tables.{sorted_keys, own_found, own_from, own_keys}
+use Rattle.ledger_types.proofs.Lists.{contained_in_map, map_contains}
 
--- ---- telling entries apart
+-- ---- distinguishing entries
 
 same_numbers : (m n : ℕ) → (m ≡ n) ⊎ (m ≢ n)
 same_numbers m n =
@@ -78,19 +65,6 @@ pub stamped_keys : (seq : ℕ) (es : List LedgerEntry) → map key_of (map (stam
 stamped_keys seq [] = refl
 stamped_keys seq (e ∷ es) = ap (λ ks. key_of e ∷ ks) (stamped_keys seq es)
 
-same_length : {X Y : Type 0} (f : X → Y) (xs : List X) → length (map f xs) ≡ length xs
-same_length f [] = refl
-same_length f (x ∷ xs) = ap suc (same_length f xs)
-
-in_map : {X Y : Type 0} (f : X → Y) (xs : List X) (x : X) → Contains xs x → Contains (map f xs) (f x)
-in_map f xs x h = (h.0, omega (arith, same_length f xs, h.1), get_or-map f xs h.0 x (f x) h.1 ∙ ap f h.2)
-
-of_map : {X Y : Type 0} (f : X → Y) (xs : List X) (y : Y) → Contains (map f xs) y → (x : X) × Contains xs x × (y ≡ f x)
-of_map f [] y h = absurd (omega (arith, h.1))
-of_map f (x ∷ xs) y h =
-    let within : h.0 < length (x ∷ xs) = omega (arith, h.1, same_length f (x ∷ xs)) in
-    (get_or (x ∷ xs) h.0 x, Contains-get_or (x ∷ xs) h.0 x within, sym h.2 ∙ get_or-map f (x ∷ xs) h.0 x y within)
-
 -- a list of exactly the entries of which P holds, each then stamped
 module _ (seq : ℕ) (P : LedgerEntry → Type 0) (es : List LedgerEntry) (rises : AreRising (map key_of es))
     (all : (e : LedgerEntry) → Contains es e ↔ P e) where
@@ -99,15 +73,15 @@ module _ (seq : ℕ) (P : LedgerEntry → Type 0) (es : List LedgerEntry) (rises
 
   pub there : (e : LedgerEntry) → P e → value_at (key_of e) (stamped_row seq es) ≡ Some (stamped seq e)
   there e p =
-      let h = in_map with_key (map (stamped seq) es) (stamped seq e) (in_map (stamped seq) es e ((all e).1 p)) in
+      let h = map_contains with_key (map (stamped seq) es) (stamped seq e) (map_contains (stamped seq) es e ((all e).1 p)) in
       subst (λ (y : LedgerKey × LedgerEntry). find key_cmp y.0 (stamped_row seq es) ≡ Some y.1) h.2
       (found_at (stamped_row seq es) h.0 (with_key (stamped seq e)) sorted h.1)
 
   source : (k : LedgerKey) (v : LedgerEntry) → value_at k (stamped_row seq es) ≡ Some v
       → (e : LedgerEntry) × P e × (key_of e ≡ k)
   source k v f =
-      let x = of_map with_key (map (stamped seq) es) (k, v) (at_of (stamped_row seq es) k v (k, v) f) in
-      let e = of_map (stamped seq) es x.0 x.1 in
+      let x = contained_in_map with_key (map (stamped seq) es) (k, v) (at_of (stamped_row seq es) k v (k, v) f) in
+      let e = contained_in_map (stamped seq) es x.0 x.1 in
       (e.0, (all e.0).0 e.1, sym (ap key_of e.2) ∙ sym (ap (λ (y : LedgerKey × LedgerEntry). y.0) x.2))
 
   pub nowhere : (k : LedgerKey) → ((e : LedgerEntry) → key_of e ≡ k → P e → ⊥) → value_at k (stamped_row seq es) ≡ None
@@ -126,7 +100,7 @@ none_either false = refl
 module _ (seq : ℕ) (row next : List (LedgerKey × LedgerEntry)) (before worked after : EntryMap) (old new : Batch)
     (rises : Sorted row) (is_before : map_of row ≡ before) (keyed : IsKeyed worked) (b : IsBatch before worked old)
     (init : new.init ≡ map (stamped seq) old.init) (live : new.live ≡ map (stamped seq) old.live)
-    (dead : new.dead ≡ old.dead) (n : IsRowBehind row new.init new.live new.dead next)
+    (dead : new.dead ≡ old.dead) (n : IsRowAfter row new.init new.live new.dead next)
     (is_after : map_of next ≡ after) where
   get_before : (k : LedgerKey) → value_at k row ≡ get before k
   get_before k = sym (get-from_sorted key_cmp row k rises) ∙ ap (λ m. get m k) is_before
@@ -138,10 +112,10 @@ module _ (seq : ℕ) (row next : List (LedgerKey × LedgerEntry)) (before worked
       ∙ (λ i. option_or (option_or (value_at k (map with_key (live i))) (value_at k (map with_key (init i))))
       (cond (is_among k (dead i)) None (get_before k i)))
 
-  behind_is : (k : LedgerKey) (l i o : Option LedgerEntry) (d : Bool) → value_at k (stamped_row seq old.live) ≡ l
+  after_is : (k : LedgerKey) (l i o : Option LedgerEntry) (d : Bool) → value_at k (stamped_row seq old.live) ≡ l
       → value_at k (stamped_row seq old.init) ≡ i → is_among k old.dead ≡ d → get before k ≡ o
       → get after k ≡ option_or (option_or l i) (cond d None o)
-  behind_is k l i o d el ei ed eo = get_after k ∙ (λ j. option_or (option_or (el j) (ei j)) (cond (ed j) None (eo j)))
+  after_is k l i o d el ei ed eo = get_after k ∙ (λ j. option_or (option_or (el j) (ei j)) (cond (ed j) None (eo j)))
 
   gone_true : (k : LedgerKey) → get before k ≢ None → get worked k ≡ None → is_among k old.dead ≡ true
   gone_true k p q = list_any-from_Contains (eq_by_cmp_equiv keys_total) k old.dead ((b.dead k).1 (p, q))
@@ -149,7 +123,7 @@ module _ (seq : ℕ) (row next : List (LedgerKey × LedgerEntry)) (before worked
   gone_false : (k : LedgerKey) (e : LedgerEntry) → get worked k ≡ Some e → is_among k old.dead ≡ false
   gone_false k e q =
       elim (is_among k old.dead) as (λ d. is_among k old.dead ≡ d → d ≡ false) [
-        | true ↦ λ h. let gone = (b.dead k).0 (Contains-from_any same_key k old.dead h) in absurd (cc (gone.1, q))
+        | true ↦ λ h. let gone = (b.dead k).0 (Contains-from_any same_keys k old.dead h) in absurd (cc (gone.1, q))
         | false ↦ λ h. refl
       ] refl
 
@@ -171,16 +145,16 @@ module _ (seq : ℕ) (row next : List (LedgerKey × LedgerEntry)) (before worked
   by_cases : (k : LedgerKey) (was now : Option LedgerEntry) → get before k ≡ was → get worked k ≡ now
       → IsNextAt seq was now (get after k)
   by_cases k None None p q =
-      behind_is k None None None (is_among k old.dead)
+      after_is k None None None (is_among k old.dead)
       (no_live k (λ e at c. none_worked k q e at c.0)) (no_init k (λ e at c. none_worked k q e at c.0)) refl p
       ∙ none_either (is_among k old.dead)
   by_cases k (Some was) None p q =
-      behind_is k None None (Some was) true
+      after_is k None None (Some was) true
       (no_live k (λ e at c. none_worked k q e at c.0)) (no_init k (λ e at c. none_worked k q e at c.0))
       (gone_true k (λ h. cc (sym h ∙ p)) q) p
   by_cases k None (Some e) p q =
       let at = own k e q in
-      behind_is k None (Some (stamped seq e)) None false
+      after_is k None (Some (stamped seq e)) None false
       (no_live k (λ x same c. cc (sym c.1.1 ∙ ap (get before) same ∙ p)))
       (ap (λ m. value_at m (stamped_row seq old.init)) (sym at)
       ∙ there seq (IsNew before worked) old.init b.init_rises b.init e (ap (get worked) at ∙ q, ap (get before) at ∙ p))
@@ -190,7 +164,7 @@ module _ (seq : ℕ) (row next : List (LedgerKey × LedgerEntry)) (before worked
       elim (same_parts was e) [
         | inl same ↦ inl (
           same,
-          behind_is k None None (Some was) false
+          after_is k None None (Some was) false
               (no_live k (λ x own_key c. c.1.2 (
               let before_is : c.1.0 ≡ was = cc (sym c.1.1 ∙ ap (get before) own_key ∙ p) in
               let worked_is : x ≡ e = cc (sym c.0 ∙ ap (get worked) own_key ∙ q) in
@@ -200,7 +174,7 @@ module _ (seq : ℕ) (row next : List (LedgerKey × LedgerEntry)) (before worked
         )
         | inr differ ↦ inr (
           differ,
-          behind_is k (Some (stamped seq e)) _ (Some was) false
+          after_is k (Some (stamped seq e)) _ (Some was) false
               (ap (λ m. value_at m (stamped_row seq old.live)) (sym at)
               ∙ there seq (IsChanged before worked) old.live b.live_rises b.live e
               (ap (get worked) at ∙ q, (was, ap (get before) at ∙ p, differ)))
@@ -216,7 +190,7 @@ module _ (seq : ℕ) (row next : List (LedgerKey × LedgerEntry)) (before worked
   new_init : (e : LedgerEntry) → Contains new.init e ↔ IsNew before after e
   new_init e = (
     λ h.
-        let x = of_map (stamped seq) old.init e (subst (λ (es : List LedgerEntry). Contains es e) init h) in
+        let x = contained_in_map (stamped seq) old.init e (subst (λ (es : List LedgerEntry). Contains es e) init h) in
         let c = (b.init x.0).0 x.1 in
         subst (λ (y : LedgerEntry). IsNew before after y) (sym x.2) (
           by_cases (key_of x.0) None
@@ -230,7 +204,7 @@ module _ (seq : ℕ) (row next : List (LedgerKey × LedgerEntry)) (before worked
           let same : e ≡ stamped seq x = cc (sym h.0 ∙ by_cases (key_of e) None (Some x) h.1 q) in
           subst (λ (es : List LedgerEntry). Contains es e) (sym init)
           (subst (λ (y : LedgerEntry). Contains (map (stamped seq) old.init) y) (sym same)
-          (in_map (stamped seq) old.init x ((b.init x).1 (ap (get worked) at ∙ q, ap (get before) at ∙ h.1))))
+          (map_contains (stamped seq) old.init x ((b.init x).1 (ap (get worked) at ∙ q, ap (get before) at ∙ h.1))))
     ] refl,
   )
 
@@ -244,7 +218,7 @@ module _ (seq : ℕ) (row next : List (LedgerKey × LedgerEntry)) (before worked
   new_live : (e : LedgerEntry) → Contains new.live e ↔ IsChanged before after e
   new_live e = (
     λ h.
-        let x = of_map (stamped seq) old.live e (subst (λ (es : List LedgerEntry). Contains es e) live h) in
+        let x = contained_in_map (stamped seq) old.live e (subst (λ (es : List LedgerEntry). Contains es e) live h) in
         let c = (b.live x.0).0 x.1 in
         subst (λ (y : LedgerEntry). IsChanged before after y) (sym x.2)
         (changed_after (key_of x.0) c.1.0 x.0 c.1.1 c.0 c.1.2, (c.1.0, c.1.1, c.1.2)),
@@ -259,7 +233,7 @@ module _ (seq : ℕ) (row next : List (LedgerKey × LedgerEntry)) (before worked
                 let same : e ≡ stamped seq x = cc (sym h.0 ∙ changed.1) in
                 subst (λ (es : List LedgerEntry). Contains es e) (sym live)
                 (subst (λ (y : LedgerEntry). Contains (map (stamped seq) old.live) y) (sym same)
-                (in_map (stamped seq) old.live x ((b.live x).1
+                (map_contains (stamped seq) old.live x ((b.live x).1
                 (ap (get worked) at ∙ q, (h.1.0, ap (get before) at ∙ h.1.1, changed.0)))))
           ]
     ] refl,
@@ -308,15 +282,15 @@ module _ (seq : ℕ) (row next : List (LedgerKey × LedgerEntry)) (before worked
     others = same_else;
   }
 
--- ---- each entry of the new row stands under its own key
+-- ---- each entry of the new row is under its own key
 
 own_in : (es : List LedgerEntry) (k : LedgerKey) (v : LedgerEntry) → value_at k (map with_key es) ≡ Some v
     → key_of v ≡ k
 own_in es = own_found (map with_key es) (own_keys es)
 
-pub own_behind : (row : List (LedgerKey × LedgerEntry)) (init live : List LedgerEntry) (dead : List LedgerKey)
-    → IsTableRow row → (k : LedgerKey) (v : LedgerEntry) → behind row init live dead k ≡ Some v → key_of v ≡ k
-own_behind row init live dead t k v =
+pub own_after : (row : List (LedgerKey × LedgerEntry)) (init live : List LedgerEntry) (dead : List LedgerKey)
+    → IsTableRow row → (k : LedgerKey) (v : LedgerEntry) → later row init live dead k ≡ Some v → key_of v ≡ k
+own_after row init live dead t k v =
     elim (value_at k (map with_key live)) as (λ l. value_at k (map with_key live) ≡ l
     → option_or (option_or l (value_at k (map with_key init))) (cond (is_among k dead) None (value_at k row)) ≡ Some v
     → key_of v ≡ k) [
@@ -332,8 +306,8 @@ own_behind row init live dead t k v =
     ] refl
 
 pub next_row_is : (row next : List (LedgerKey × LedgerEntry)) (init live : List LedgerEntry) (dead : List LedgerKey)
-    → IsTableRow row → IsRowBehind row init live dead next → IsTableRow next
+    → IsTableRow row → IsRowAfter row init live dead next → IsTableRow next
 next_row_is row next init live dead t n = record {
   rises = n.rises;
-  own = own_from next n.rises (λ k e f. own_behind row init live dead t k e (sym (n.each k) ∙ f));
+  own = own_from next n.rises (λ k e f. own_after row init live dead t k e (sym (n.each k) ∙ f));
 }

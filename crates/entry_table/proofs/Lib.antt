@@ -2,9 +2,10 @@ pub mod Rowed
 pub mod Walks
 pub mod Turns
 pub mod Passes
-pub mod Places
+pub mod Positions
 pub mod Tables
 pub mod Above
 pub mod Batches
 pub mod Stamped
 pub use Rattle.shared_tree.proofs as shared_tree_proofs
+pub mod Prelude

@@ -1,23 +1,14 @@
 -- One pass over two rows, which puts the newer one over the older.
-use Rattle.std.proofs.Common.{◌≡◌, List, [], ◌∷◌, ◌++◌, Some}
-use Rattle.std.proofs.Common.{sym, ap, subst, ◌∙◌, append_assoc, arith}
-use Rattle.std.specs.declared.cmp.Ordering.{Ordering}
-use Rattle.std.specs.declared.cmp.Ordering.TheVariants.{Less, Equal, Greater}
-use Rattle.std.specs.Ordering.{is_lt}
-use Rattle.std.specs.FinMap.Entries.{below_all, by_order}
-use Rattle.ledger_types.specs.declared.key.LedgerKey.{LedgerKey}
-use Rattle.ledger_types.specs.KeyOrder.{key_cmp}
-use Rattle.ledger_types.proofs.KeyOrdering.{keys_total}
-use Rattle.shared_tree.specs.Rows.{changed, all_changed}
-use Rattle.shared_tree.proofs.Parts.{turned}
-use Rattle.shared_tree.proofs.Changed.{below_less, below_tied}
+use Rattle.entry_table.proofs.Prelude.{◌≡◌, List, [], ◌∷◌, ◌++◌, Some, sym, ap, subst, ◌∙◌, append_assoc, arith}
+use Rattle.entry_table.proofs.Prelude.{Ordering, Less, Equal, Greater, is_lt, below_all, by_order, LedgerKey, key_cmp}
+use Rattle.entry_table.proofs.Prelude.{keys_total, changed, all_changed, turned, below_less, below_tied, putting}
+use Rattle.entry_table.proofs.Prelude.{IsOverlaid, IsPassed}
 use Rattle.shared_tree.proofs.Divided.{above_changed, all_new, all_past, put_first}
-use Rattle.entry_table.specs.Rows.{putting, IsOverlaid, IsPassed}
 use Rattle.entry_table.proofs.Walks.{both, first, second, is_less, Sorted, Above}
 use Rattle.entry_table.proofs.Turns.{putting_above, putting_sorted, all_putting, overlaid}
 
 module _ {V : Type 0} where
-  -- what stands first in both rows, and is written
+  -- what is first in both rows, and is written
   module _ (before : List (LedgerKey × V)) (x : LedgerKey × V) (xs : List (LedgerKey × V)) (s : Sorted (x ∷ xs)) where
     module _ (y : LedgerKey × V) (ys : List (LedgerKey × V)) (t : Sorted (y ∷ ys)) where
       older_first : key_cmp x.0 y.0 ≡ Less → IsPassed (x ∷ xs) (y ∷ ys) xs (y ∷ ys) before (before ++ x ∷ [])

@@ -1,12 +1,8 @@
 -- The entries of a map, read one after the other.
-use Rattle.std.proofs.Common.{◌≡◌, sym, ap, ◌∙◌, ℕ, ◌+◌, ◌≤◌, List, [], ◌∷◌, ◌++◌, map, length, take}
-use Rattle.std.proofs.Common.{Some, arith}
-use Rattle.std.specs.List.{slice_get}
-use Rattle.std.specs.FinMap.{entries, values}
-use Rattle.std.proofs.lemmas.List.{length-map, map_push, take_all, take_more}
-use Rattle.std.proofs.lemmas.Option.{slice_get_within, get_or_from_slice_get}
-use Rattle.ledger_types.specs.declared.entry.LedgerEntry.{LedgerEntry}
-use Rattle.entry_map.specs.EntryMap.{EntryMap}
+use Rattle.entry_table.proofs.Prelude.{◌≡◌, sym, ap, ◌∙◌, ℕ, ◌+◌, ◌≤◌, List, [], ◌∷◌, ◌++◌, map, length, take, Some}
+use Rattle.entry_table.proofs.Prelude.{arith, slice_get, entries, values, take_all, take_more, slice_get_within}
+use Rattle.entry_table.proofs.Prelude.{get_or_from_slice_get, LedgerEntry, EntryMap}
+use Rattle.std.proofs.lemmas.List.{length-map, map_push}
 
 pub one_read : {X Y : Type 0} (f : X → Y) (read : List X) (all : List Y) (i : ℕ) (x : X) → map f read ≡ take i all
     → slice_get all i ≡ Some (f x) → map f (read ++ x ∷ []) ≡ take (i + 1) all

@@ -1,38 +1,22 @@
 -- The rows of tables.
-use Rattle.std.proofs.Common.{◌≡◌, ℕ, Bool, true, false, cond, List, [], ◌∷◌, Option, Some, None, IfSome, map}
-use Rattle.std.proofs.Common.{refl, sym, ap, subst, ◌∙◌, ◌++◌, length, take, drop, All, option_map}
-use Rattle.std.specs.declared.cmp.Ordering.{Ordering}
-use Rattle.std.specs.declared.cmp.Ordering.TheVariants.{Less}
-use Rattle.std.specs.Ordering.{is_lt, is_eq, eq_by_cmp}
-use Rattle.std.specs.Cmp.{tied_itself}
-use Rattle.std.specs.List.{slice_get}
-use Rattle.std.specs.Option.{option_or}
-use Rattle.std.specs.FinMap.{get, entries, values, from_entries, entries-from_sorted, get-from_sorted, get-from_entries}
-use Rattle.std.specs.FinMap.{same_map}
-use Rattle.std.specs.FinMap.Entries.{find, below_all}
-use Rattle.std.proofs.lemmas.List.Elements.{All-head, All-tail}
-use Rattle.std.proofs.lemmas.Option.{slice_get-map}
-use Rattle.ledger_types.specs.declared.key.LedgerKey.{LedgerKey}
-use Rattle.ledger_types.specs.declared.entry.LedgerEntry.{LedgerEntry}
-use Rattle.ledger_types.specs.KeyOrder.{key_cmp}
-use Rattle.ledger_types.specs.Keys.{key_of}
-use Rattle.ledger_types.proofs.KeyOrdering.{keys_total, keys_exact}
-use Rattle.entry_map.specs.EntryMap.{EntryMap, IsKeyed}
-use Rattle.entry_map.specs.KeyMaps.{AreRising}
-use Rattle.entry_map.proofs.KeyMaps.{or_or}
-use Rattle.entry_table.specs.Rows.{map_of, with_key, value_at, is_among, AreOwn, IsTableRow, IsOverlaid}
-use Rattle.entry_table.specs.Rows.{IsWithout, IsRowBehind}
-use Rattle.entry_table.proofs.Walks.{both, first, second, is_less, same_key, none_found, Sorted, Above}
+use Rattle.entry_table.proofs.Prelude as prelude
+use prelude.{◌≡◌, ℕ, Bool, true, false, cond, List, [], ◌∷◌, Option, Some, None, IfSome, map, refl, sym, ap, subst, ◌∙◌}
+use prelude.{◌++◌, length, take, drop, All, option_map, Ordering, Less, is_lt, is_eq, eq_by_cmp, tied_itself, slice_get}
+use prelude.{option_or, get, entries, values, from_entries, entries-from_sorted, get-from_sorted, get-from_entries}
+use prelude.{same_map, find, below_all, All-head, All-tail, slice_get-map, LedgerKey, LedgerEntry, key_cmp, key_of}
+use prelude.{keys_total, keys_exact, EntryMap, IsKeyed, AreRising, or_or, map_of, with_key, value_at, is_among, AreOwn}
+use prelude.{IsTableRow, IsOverlaid, IsWithout, IsRowAfter, same_keys}
+use Rattle.entry_table.proofs.Walks.{both, first, second, is_less, none_found, Sorted, Above}
 
-take_front : {X Y : Type 0} (f : X → Y) (xs : List X) (zs : List Y) → take (length xs) (map f xs ++ zs) ≡ map f xs
-take_front f [] zs = refl
-take_front f (x ∷ xs) zs = ap (λ r. f x ∷ r) (take_front f xs zs)
+take_prefix : {X Y : Type 0} (f : X → Y) (xs : List X) (zs : List Y) → take (length xs) (map f xs ++ zs) ≡ map f xs
+take_prefix f [] zs = refl
+take_prefix f (x ∷ xs) zs = ap (λ r. f x ∷ r) (take_prefix f xs zs)
 
--- what is written back to a whole list is the whole
-pub front_is : {X : Type 0} (f : X → X) (old new : List X) → new ≡ map f old
+-- what is written back to an entire list is all of it
+pub prefix_is : {X : Type 0} (f : X → X) (old new : List X) → new ≡ map f old
     → take (length old) (new ++ drop (length new) old) ≡ map f old
-front_is f old new is =
-    ap (λ r. take (length old) (r ++ drop (length new) old)) is ∙ take_front f old (drop (length new) old)
+prefix_is f old new is =
+    ap (λ r. take (length old) (r ++ drop (length new) old)) is ∙ take_prefix f old (drop (length new) old)
 
 above_keys : (k : LedgerKey) (es : List LedgerEntry) → All (λ q. key_cmp k q ≡ Less) (map key_of es)
     → Above k (map with_key es)
@@ -63,10 +47,10 @@ entries_of row m s is = ap (λ n. entries n) (sym is) ∙ entries-from_sorted ke
 pub values_made : (row : List (LedgerKey × LedgerEntry)) → Sorted row → values (map_of row) ≡ map (λ x. x.1) row
 values_made row s = ap (λ r. map (λ x. x.1) r) (entries_of row _ s refl)
 
-pub value_in : (row : List (LedgerKey × LedgerEntry)) (m : EntryMap) (place : ℕ) → Sorted row → map_of row ≡ m
-    → slice_get (values m) place ≡ option_map (λ x. x.1) (slice_get row place)
-value_in row m place s is = ap (λ r. slice_get (map (λ x. x.1) r) place) (entries_of row m s is)
-    ∙ slice_get-map (λ (x : LedgerKey × LedgerEntry). x.1) row place
+pub value_in : (row : List (LedgerKey × LedgerEntry)) (m : EntryMap) (index : ℕ) → Sorted row → map_of row ≡ m
+    → slice_get (values m) index ≡ option_map (λ x. x.1) (slice_get row index)
+value_in row m index s is = ap (λ r. slice_get (map (λ x. x.1) r) index) (entries_of row m s is)
+    ∙ slice_get-map (λ (x : LedgerKey × LedgerEntry). x.1) row index
 
 -- ---- each under its own key
 
@@ -75,7 +59,7 @@ own_at : (x : LedgerKey × LedgerEntry) (k : LedgerKey) (e : LedgerEntry) (other
     → (others ≡ Some e → key_of e ≡ k) → (b : Bool) → eq_by_cmp key_cmp k x.0 ≡ b → cond b (Some x.1) others ≡ Some e
     → key_of e ≡ k
 own_at x k e others own later true tied is =
-    let same : x.1 ≡ e = cc in ap key_of (sym same) ∙ own ∙ sym (same_key k x.0 tied)
+    let same : x.1 ≡ e = cc in ap key_of (sym same) ∙ own ∙ sym (same_keys k x.0 tied)
 own_at x k e others own later false tied is = later is
 
 pub own_found : (row : List (LedgerKey × LedgerEntry)) → AreOwn row → (k : LedgerKey) (e : LedgerEntry)
@@ -110,12 +94,12 @@ own_from (x ∷ xs) s h = (
   own_from xs (second _ _ s) (λ k e f. h k e (found_later x k e xs (first _ _ s) f (eq_by_cmp key_cmp k x.0) refl)),
 )
 
--- ---- the row behind a batch
+-- ---- the row after a batch
 
-pub row_behind : (row left made all : List (LedgerKey × LedgerEntry)) (init live : List LedgerEntry)
+pub row_after : (row left made all : List (LedgerKey × LedgerEntry)) (init live : List LedgerEntry)
     (dead : List LedgerKey) → IsWithout row dead left → IsOverlaid left (map with_key init) made
-    → IsOverlaid made (map with_key live) all → IsRowBehind row init live dead all
-row_behind row left made all init live dead w i l = record {
+    → IsOverlaid made (map with_key live) all → IsRowAfter row init live dead all
+row_after row left made all init live dead w i l = record {
   rises = l.rises;
   each = λ k. l.each k
       ∙ ap (option_or (value_at k (map with_key live)))

@@ -1,18 +1,9 @@
 -- Changes that put each value of a row, and changes that take some keys away.
-use Rattle.std.proofs.Common.{◌≡◌, true, false, ◌||◌, cond, List, [], ◌∷◌, Option, Some, None}
-use Rattle.std.proofs.Common.{refl, sym, ap, subst, ◌∙◌, All, length, ◌≤◌, arith}
-use Rattle.std.specs.declared.cmp.Ordering.TheVariants.{Less}
-use Rattle.std.specs.Option.{unwrap_or, option_or}
-use Rattle.std.specs.Ordering.{is_lt, eq_by_cmp}
-use Rattle.std.specs.FinMap.Entries.{find, is_sorted, below_all}
-use Rattle.std.proofs.lemmas.List.Elements.{All-head, All-tail}
-use Rattle.ledger_types.specs.declared.key.LedgerKey.{LedgerKey}
-use Rattle.ledger_types.specs.KeyOrder.{key_cmp}
-use Rattle.ledger_types.proofs.KeyOrdering.{keys_total}
-use Rattle.entry_map.specs.KeyMaps.{AreRising}
-use Rattle.shared_tree.specs.Rows.{all_put, all_changed}
-use Rattle.shared_tree.proofs.Changed.{rising_all, find_all}
-use Rattle.entry_table.specs.Rows.{putting, taking, IsOverlaid, IsWithout, is_among}
+use Rattle.entry_table.proofs.Prelude.{◌≡◌, true, false, ◌||◌, cond, List, [], ◌∷◌, Option, Some, None, refl, sym, ap}
+use Rattle.entry_table.proofs.Prelude.{subst, ◌∙◌, All, length, ◌≤◌, arith, Less, unwrap_or, option_or, is_lt}
+use Rattle.entry_table.proofs.Prelude.{eq_by_cmp, find, is_sorted, below_all, All-head, All-tail, LedgerKey, key_cmp}
+use Rattle.entry_table.proofs.Prelude.{keys_total, AreRising, all_put, all_changed, rising_all, find_all, putting}
+use Rattle.entry_table.proofs.Prelude.{taking, IsOverlaid, IsWithout, is_among}
 use Rattle.entry_table.proofs.Walks.{both, first, second, is_less, Sorted, Above}
 
 pub nothing_left : {X : Type 0} (xs : List X) → length xs ≤ 0 → xs ≡ []

@@ -11,18 +11,18 @@ use Rattle.ledger_types.specs.declared.entry.LedgerEntry.{LedgerEntry}
 use Rattle.ledger_types.specs.KeyOrder.{key_cmp}
 use Rattle.ledger_types.specs.Keys.{key_of}
 use Rattle.entry_map.specs.EntryMap.{EntryMap}
-use Rattle.entry_map.specs.Indexes.{PlaceMap, IsIndexOf}
+use Rattle.entry_map.specs.Indexes.{PositionMap, IsIndexOf}
 use Rattle.shared_tree.specs.Rows.{all_changed}
 
 -- each key is above those before it
 abbrev pub IsRising : {V : Type 0} → List (LedgerKey × V) → Type 0
 IsRising row = T (is_sorted key_cmp row)
 
--- what stands under a key
+-- what is under a key
 abbrev pub value_at : {V : Type 0} → LedgerKey → List (LedgerKey × V) → Option V
 value_at k row = find key_cmp k row
 
--- a row with another put over it: under a key of both stands what the newer one has
+-- a row with another put over it: a key of both has what the newer one has
 pub record IsOverlaid {V : Type 0} (older newer all : List (LedgerKey × V)) : Type 0 where
   pub rises : IsRising all
   pub each : (k : LedgerKey) → value_at k all ≡ option_or (value_at k newer) (value_at k older)
@@ -30,7 +30,7 @@ pub record IsOverlaid {V : Type 0} (older newer all : List (LedgerKey × V)) : T
 abbrev pub is_among : LedgerKey → List LedgerKey → Bool
 is_among k keys = list_any (eq_by_cmp key_cmp k) keys
 
--- a row without what stands under some keys
+-- a row without what is under some keys
 pub record IsWithout {V : Type 0} (row : List (LedgerKey × V)) (gone : List LedgerKey) (left : List (LedgerKey × V))
     : Type 0 where
   pub rises : IsRising left
@@ -41,7 +41,7 @@ pub record IsWithout {V : Type 0} (row : List (LedgerKey × V)) (gone : List Led
 abbrev pub with_key : LedgerEntry → LedgerKey × LedgerEntry
 with_key e = (key_of e, e)
 
--- each entry stands under its own key
+-- each entry is under its own key
 abbrev pub AreOwn : List (LedgerKey × LedgerEntry) → Type 0
 AreOwn [] = Unit {0}
 AreOwn (x ∷ xs) = (key_of x.1 ≡ x.0) × AreOwn xs
@@ -55,7 +55,7 @@ abbrev pub map_of : List (LedgerKey × LedgerEntry) → EntryMap
 map_of row = from_sorted row
 
 -- the row of a table, and the index of its offers
-pub record IsTable (row : List (LedgerKey × LedgerEntry)) (offers : PlaceMap) : Type 0 where
+pub record IsTable (row : List (LedgerKey × LedgerEntry)) (offers : PositionMap) : Type 0 where
   pub rows : IsTableRow row
   pub index : IsIndexOf (map_of row) offers
 
@@ -76,16 +76,16 @@ pub record IsPassed {V : Type 0} (older newer older_left newer_left before after
   pub older_rises : IsRising older_left
   pub newer_rises : IsRising newer_left
 
--- ---- the row behind a batch
+-- ---- the row after a batch
 
--- what stands under a key in a row that changed entries were put over and some keys were taken from
-abbrev pub behind : (row : List (LedgerKey × LedgerEntry)) → (init live : List LedgerEntry) → (dead : List LedgerKey)
+-- what is under a key in a row that changed entries were put over and some keys were taken from
+abbrev pub later : (row : List (LedgerKey × LedgerEntry)) → (init live : List LedgerEntry) → (dead : List LedgerKey)
     → LedgerKey → Option LedgerEntry
-behind row init live dead k = option_or
+later row init live dead k = option_or
     (option_or (value_at k (map with_key live)) (value_at k (map with_key init)))
     (if is_among k dead then None else value_at k row)
 
-pub record IsRowBehind (row : List (LedgerKey × LedgerEntry)) (init live : List LedgerEntry) (dead : List LedgerKey)
+pub record IsRowAfter (row : List (LedgerKey × LedgerEntry)) (init live : List LedgerEntry) (dead : List LedgerKey)
     (next : List (LedgerKey × LedgerEntry)) : Type 0 where
   pub rises : IsRising next
-  pub each : (k : LedgerKey) → value_at k next ≡ behind row init live dead k
+  pub each : (k : LedgerKey) → value_at k next ≡ later row init live dead k

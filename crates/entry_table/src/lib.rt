@@ -1,5 +1,5 @@
-//! The entries behind a closed ledger: a tree in the order of their keys, which shares what doesn't change with the
-//! tree behind the next ledger.
+//! The entries after a closed ledger: a tree in the order of their keys, which shares what doesn't change with the tree
+//! after the next ledger.
 #![tactic(auto)]
 
 mod kept;

@@ -1,4 +1,4 @@
-//! The table behind the next ledger.
+//! The table after the next ledger.
 
 ghost use Rattle.std.specs.Prelude.{◌≡◌, IfOk, map};
 ghost use Rattle.ledger_types.specs.Keys.{key_of};
@@ -7,7 +7,7 @@ ghost use Rattle.entry_map.specs.KeyMaps.{AreRising};
 ghost use Rattle.entry_map.specs.Batch.{IsBatch};
 ghost use Rattle.entry_map.specs.Indexes.{IsIndexOf};
 ghost use Rattle.entry_changes.specs.Next.{stamped, AreNextEntries, IsExactBatch};
-ghost use Rattle.entry_table.specs.Rows.{IsRising, IsOverlaid, IsWithout, IsRowBehind, with_key, putting, taking};
+ghost use Rattle.entry_table.specs.Rows.{IsRising, IsOverlaid, IsWithout, IsRowAfter, with_key, putting, taking};
 
 use crate::kept::{Kept, kept_entry};
 use crate::table::EntryTable;
@@ -58,7 +58,7 @@ fn puts_of<'a>(
     Ok(changes)
 }
 
-/// The changes that take what stands under some keys.
+/// The changes that take what is under some keys.
 fn takes_of<'a>(
     alloc: Global,
     keys: &'a [LedgerKey],
@@ -87,7 +87,7 @@ fn with_entries(
     tree.with_changes(alloc, changes.as_slice())
 }
 
-/// A tree without what stands under some keys.
+/// A tree without what is under some keys.
 fn without_keys(
     alloc: Global,
     tree: &Tree<LedgerKey, LedgerEntry>,
@@ -101,7 +101,7 @@ fn without_keys(
     tree.with_changes(alloc, changes.as_slice())
 }
 
-/// The tree behind a batch: without what is gone, and with what is new or changed.
+/// The tree after a batch: without what is gone, and with what is new or changed.
 fn next_tree(
     tree: &Tree<LedgerKey, LedgerEntry>,
     batch: &Batch,
@@ -110,7 +110,7 @@ fn next_tree(
     requires init { AreRising (map key_of batch.now.init) }
     requires live { AreRising (map key_of batch.now.live) }
     requires dead { AreRising batch.now.dead }
-    ensures { IfOk result (λ next. IsRowBehind tree.now batch.now.init batch.now.live batch.now.dead next) }
+    ensures { IfOk result (λ next. IsRowAfter tree.now batch.now.init batch.now.live batch.now.dead next) }
 {
     let alloc = batch.init.allocator();
     let left = without_keys(alloc, tree, batch.dead.as_slice())?;
@@ -119,7 +119,7 @@ fn next_tree(
 }
 
 impl EntryTable {
-    /// The table behind ledger `seq`, by the batch of what its transactions changed and the index of the offers that
+    /// The table after ledger `seq`, by the batch of what its transactions changed and the index of the offers that
     /// they left: gives the batch's entries the number, and shares all others. It costs what the batch costs, and not
     /// what the table has.
     pub fn next(

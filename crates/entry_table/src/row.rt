@@ -1,4 +1,4 @@
-//! The entries of a table, one behind the other.
+//! The entries of a table, one after the other.
 
 ghost use Rattle.std.specs.Prelude.{◌≡◌, ◌<◌, length, slice_get, Some, IfOk};
 ghost use Rattle.std.specs.FinMap.{entries, values};
@@ -10,7 +10,7 @@ use ledger_types::{LedgerEntry, LedgerKey};
 use std::alloc::{AllocError, Global};
 use std::marker::Model;
 
-/// A table with its entries one behind the other, so that to go through all of them no way down the tree is taken for
+/// A table with its entries one after the other, so that to go through all of them no way down the tree is taken for
 /// each. Contracts see the table's map.
 #[derive(Drop)]
 pub struct EntryRow<'a> {
@@ -36,13 +36,13 @@ impl<'a> Model for EntryRow<'a> {
 }
 
 impl<'a> EntryRow<'a> {
-    /// The entries of a table, one behind the other.
+    /// The entries of a table, one after the other.
     pub fn new(alloc: Global, table: &'a EntryTable) -> Result<EntryRow<'a>, AllocError>
         ensures { IfOk result (λ row. row ≡ table.now) }
     {
         let mut entries = Vec::with_capacity(alloc, table.len())?;
-        for place in 0..table.len() {
-            entries.push(table.entry(place))?;
+        for index in 0..table.len() {
+            entries.push(table.entry(index))?;
         }
         Ok(EntryRow { table, entries })
     }
@@ -55,13 +55,13 @@ impl<'a> EntryRow<'a> {
         self.table.len()
     }
 
-    /// The entry at a place in the order of keys.
-    pub fn entry(&self, place: usize) -> &LedgerEntry
-        requires { place < length (entries self.now) }
-        ensures entry { slice_get (values self.now) place ≡ Some result.now }
+    /// The entry at an index in the order of keys.
+    pub fn entry(&self, index: usize) -> &LedgerEntry
+        requires { index < length (entries self.now) }
+        ensures entry { slice_get (values self.now) index ≡ Some result.now }
         ensures keyed { IsKeyed self.now }
     {
-        self.entries[place]
+        self.entries[index]
     }
 }
 

@@ -65,7 +65,7 @@ fn push_first<'a, V: Drop>(
     }
 }
 
-/// A row with a newer one put over it, in one pass: under a key of both stands what the newer one has.
+/// A row with a newer one put over it, in one pass: a key of both has what the newer one has.
 pub fn overlay<V: Drop>(
     alloc: Global,
     older: &[Kept<V>],

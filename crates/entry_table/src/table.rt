@@ -1,4 +1,4 @@
-//! The table of entries behind a closed ledger.
+//! The table of entries after a closed ledger.
 
 ghost use Rattle.std.specs.Prelude.{◌≡◌, ◌<◌, length, map, slice_get, option_map, Some, IfOk};
 ghost use Rattle.std.specs.Option.{option_copied};
@@ -16,8 +16,8 @@ use shared_tree::Tree;
 use std::alloc::{AllocError, Global};
 use std::marker::Model;
 
-/// The entries behind a closed ledger, in the rising order of their keys, and the index of the offers among them. It
-/// never changes, and the table behind the next ledger shares what stays. Contracts see the map.
+/// The entries after a closed ledger, in the rising order of their keys, and the index of the offers among them. It
+/// never changes, and the table after the next ledger shares what stays. Contracts see the map.
 #[derive(Drop)]
 pub struct EntryTable {
     pub(crate) tree: Tree<LedgerKey, LedgerEntry>,
@@ -60,13 +60,13 @@ impl EntryTable {
         self.tree.len()
     }
 
-    /// The entry at a place in the order of keys.
-    pub fn entry(&self, place: usize) -> &LedgerEntry
-        requires { place < length (entries self.now) }
-        ensures entry { slice_get (values self.now) place ≡ Some result.now }
+    /// The entry at an index in the order of keys.
+    pub fn entry(&self, index: usize) -> &LedgerEntry
+        requires { index < length (entries self.now) }
+        ensures entry { slice_get (values self.now) index ≡ Some result.now }
         ensures keyed { IsKeyed self.now }
     {
-        self.tree.entry(place)
+        self.tree.entry(index)
     }
 }
 

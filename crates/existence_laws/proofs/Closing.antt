@@ -1,22 +1,10 @@
 -- Bytes do something to a state.
-use Rattle.std.proofs.Common.{◌≡◌, ℕ, ◌+◌, ◌≤◌, List, length, Option, Some, None, Result, Ok, Err, inl, inr, refl}
-use Rattle.std.proofs.lemmas.Bool.{cases_lt}
-use Rattle.replay.specs.xdr_core.declared.fault.XdrFault.{XdrFault}
-use Rattle.replay.specs.xdr_core.Format.{IsBytes}
-use Rattle.close_laws.specs.xdr_header.declared.record.CloseRecord.{CloseRecord}
-use Rattle.close_laws.specs.bucket_levels.Hash.{list_hash}
-use Rattle.close_laws.specs.bucket_levels.Size.{file_total}
-use Rattle.close_laws.specs.header_chain.SkipList.{finished}
-use Rattle.close_laws.specs.close_rules.declared.close_fault.CloseFault.{CloseFault}
+use Rattle.existence_laws.proofs.Prelude as prelude
+use prelude.{◌≡◌, ℕ, ◌+◌, ◌≤◌, List, length, Option, Some, None, Result, Ok, Err, inl, inr, refl, cases_lt, XdrFault}
+use prelude.{IsBytes, CloseRecord, list_hash, file_total, finished, CloseFault, ClosingState, IsClosingState}
+use prelude.{max_file_total, record_in, record_fault, PreparedClose, applied_in, upgraded_header, IsClosed, IsTaken}
+use prelude.{ClosesWith, IsClose, IsClosable, NextIsLegal, TakenIsClosable, max_record_len, EachClose}
 use Rattle.close_laws.specs.close_rules.declared.close_fault.CloseFault.TheVariants as fault
-use Rattle.close_laws.specs.close_rules.State.{ClosingState, IsClosingState, max_file_total}
-use Rattle.close_laws.specs.close_rules.Refusals.{record_in, record_fault}
-use Rattle.close_laws.specs.close_rules.Close.{PreparedClose, applied_in, upgraded_header, IsClosed, IsTaken}
-use Rattle.close_laws.specs.close_rules.Close.{ClosesWith, IsClose}
-use Rattle.close_laws.specs.Legal.{IsClosable, NextIsLegal}
-use Rattle.close_laws.specs.Closes.{TakenIsClosable}
-use Rattle.replay.specs.run_outcome.Outcome.{max_record_len}
-use Rattle.existence_laws.specs.Existence.{EachClose}
 use Rattle.existence_laws.proofs.Steps.{some_step}
 use Rattle.existence_laws.proofs.Changes.{some_next, some_fresh}
 use Rattle.existence_laws.proofs.Refusing.{refusal}
@@ -47,7 +35,7 @@ some_closed next_legal s closing can =
         network = refl;
         entries = next.1;
         fresh = fresh.0;
-        told = record { meta = fresh.1; changes = fresh.2 };
+        shown = record { meta = fresh.1; changes = fresh.2 };
         levels = step.1;
         header = refl;
       },
@@ -58,7 +46,7 @@ some_closed next_legal s closing can =
 abbrev Answered : ClosingState → List ℕ → Type 0
 Answered s bytes = (answer : Result PreparedClose CloseFault) × IsClose s bytes answer
 
--- a close is told where its files aren't too long
+-- a close is answered where its files aren't too long
 by_length : (s : ClosingState) (bytes : List ℕ) (taken : IsTaken s bytes) (closed : PreparedClose)
     → IsClosed s taken.closing closed → Answered s bytes
 by_length s bytes taken closed closes =

@@ -1,22 +1,12 @@
 -- A content of files that are bytes opens to a ledger, has a fault, or has no store.
-use Rattle.std.proofs.Common.{◌≡◌, ℕ, ◌+◌, ◌%◌, ◌≤◌, List, [], ◌∷◌, ◌++◌, length, Result, Ok, Err, refl, ap, subst}
-use Rattle.std.proofs.Common.{append_assoc, inl, inr, ◌⊎◌}
+use Rattle.existence_laws.proofs.Prelude as prelude
+use prelude.{◌≡◌, ℕ, ◌+◌, ◌%◌, ◌≤◌, List, [], ◌∷◌, ◌++◌, length, Result, Ok, Err, refl, ap, subst, append_assoc, inl}
+use prelude.{inr, ◌⊎◌, All-head, All-tail, IsBytes, start_of, start_image_laws, CloseFault, ImageFault, ClosingState}
+use prelude.{IsClosingState, PreparedClose, IsClose, IsJudged, TakenIsClosable, NextIsClosing, installed_state}
+use prelude.{max_record_len, lines_of, AreClosed, EachClose, EachImage, Opened, EachContent}
 use Rattle.std.specs.Prelude.{All}
-use Rattle.std.proofs.Math.Seq.{take-append_seam}
-use Rattle.std.proofs.lemmas.List.Elements.{All-head, All-tail}
 use Rattle.byteorder.specs.Endian.{big_bytes}
-use Rattle.replay.specs.xdr_core.Format.{IsBytes}
-use Rattle.replay.specs.xdr_core.Place.{start_of}
-use Rattle.replay.proofs.xdr_core_proofs.Steps.{IsBytes-take, IsBytes-drop}
-use Rattle.close_laws.proofs.xdr_header_proofs.ImageLaws.{start_image_laws}
-use Rattle.close_laws.specs.close_rules.declared.close_fault.CloseFault.{CloseFault}
-use Rattle.close_laws.specs.close_rules.declared.image_fault.ImageFault.{ImageFault}
-use Rattle.close_laws.specs.close_rules.State.{ClosingState, IsClosingState}
-use Rattle.close_laws.specs.close_rules.Close.{PreparedClose, IsClose}
-use Rattle.close_laws.specs.close_rules.Images.{IsJudged}
-use Rattle.close_laws.specs.Closes.{TakenIsClosable, NextIsClosing}
-use Rattle.replay.proofs.ledger_close_proofs.Installs.{installed_state}
-use Rattle.replay.specs.run_outcome.Outcome.{max_record_len, lines_of, AreClosed}
+use Rattle.replay.proofs.xdr_core_proofs.Steps.{IsBytes-drop}
 use Rattle.image_store.specs.outside.Disk.{Image}
 use Rattle.image_store.specs.gate_journal.Records.{block, blocks}
 use Rattle.image_store.specs.gate_journal.declared.fault.StoreFault.{StoreFault}
@@ -26,31 +16,28 @@ use Rattle.image_store.proofs.Pieces.{last_bytes}
 use Rattle.image_store.specs.Laws.{EachOpens}
 use Rattle.image_store.specs.Opening.{Kept, Holds, IsOpening}
 use Rattle.replay.specs.stored_outcome.Opening.{BreaksRule}
-use Rattle.existence_laws.specs.Existence.{EachClose, EachImage, Opened, EachContent}
 use Rattle.existence_laws.proofs.Starting.{judged_state, header_bytes, files_bytes}
+use Rattle.image_store.proofs.Pieces.{first_bytes}
 
 -- ---- bytes
-
-first_bytes : (a b : List ℕ) → IsBytes (a ++ b) → IsBytes a
-first_bytes a b are = subst IsBytes (take-append_seam a b) (IsBytes-take (length a) (a ++ b) are)
 
 -- each of these records is bytes, as many as it may have
 abbrev AreRecords : List (List ℕ) → Type 0
 AreRecords [] = Unit {0}
 AreRecords (bytes ∷ records) = IsBytes bytes × (length bytes ≤ max_record_len) × AreRecords records
 
-records_are : (records : List (List ℕ)) (behind : List ℕ) → IsBytes (blocks records ++ behind)
+records_are : (records : List (List ℕ)) (after : List ℕ) → IsBytes (blocks records ++ after)
     → All (λ bytes. length bytes ≤ max_record_len) records → AreRecords records
-records_are [] behind are short = tt
-records_are (w ∷ ws) behind are short =
-    let text = subst IsBytes (append_assoc (block w) (blocks ws) behind) are in (
-      last_bytes (1 ∷ big_bytes 4 (length w)) w (first_bytes (block w) (blocks ws ++ behind) text),
+records_are [] after are short = tt
+records_are (w ∷ ws) after are short =
+    let text = subst IsBytes (append_assoc (block w) (blocks ws) after) are in (
+      last_bytes (1 ∷ big_bytes 4 (length w)) w (first_bytes (block w) (blocks ws ++ after) text),
       All-head (λ bytes. length bytes ≤ max_record_len) w ws short,
-      records_are ws behind (last_bytes (block w) (blocks ws ++ behind) text)
+      records_are ws after (last_bytes (block w) (blocks ws ++ after) text)
           (All-tail (λ bytes. length bytes ≤ max_record_len) w ws short),
     )
 
--- ---- records, one behind another
+-- ---- records, one after another
 
 -- all close ledgers
 record Closed (s : ClosingState) (records : List (List ℕ)) : Type 0 where
@@ -59,15 +46,15 @@ record Closed (s : ClosingState) (records : List (List ℕ)) : Type 0 where
   pub closed : AreClosed s records lines now
   pub closing : IsClosingState now
 
--- one is refused behind those before it
+-- one is refused after those before it
 record Refused (s : ClosingState) (records : List (List ℕ)) : Type 0 where
-  pub front : List (List ℕ)
+  pub prefix : List (List ℕ)
   pub bytes : List ℕ
   pub others : List (List ℕ)
-  pub cut : records ≡ front ++ bytes ∷ others
+  pub cut : records ≡ prefix ++ bytes ∷ others
   pub lines : List ℕ
   pub state : ClosingState
-  pub closed : AreClosed s front lines state
+  pub closed : AreClosed s prefix lines state
   pub wrong : CloseFault
   pub refused : IsClose state bytes (Err wrong)
 
@@ -78,16 +65,16 @@ module _ (each : EachClose) (closable : TakenIsClosable) (next : NextIsClosing) 
   close_all (w ∷ ws) s closing are =
       by (λ c closes. close_all ws c.state closes are.2) (each s w closing are.0 are.1)
     where
-      behind : (c : PreparedClose) → IsClose s w (Ok c) → Closed c.state ws ⊎ Refused c.state ws
+      after : (c : PreparedClose) → IsClose s w (Ok c) → Closed c.state ws ⊎ Refused c.state ws
           → Closed s (w ∷ ws) ⊎ Refused s (w ∷ ws)
-      behind c close (inl all) = inl (record {
+      after c close (inl all) = inl (record {
         lines = lines_of c ++ all.lines;
         now = all.now;
         closed = (c, all.lines, close, all.closed, refl);
         closing = all.closing;
       })
-      behind c close (inr one) = inr (record {
-        front = w ∷ one.front;
+      after c close (inr one) = inr (record {
+        prefix = w ∷ one.prefix;
         bytes = one.bytes;
         others = one.others;
         cut = ap (λ (rest : List (List ℕ)). w ∷ rest) one.cut;
@@ -102,9 +89,9 @@ module _ (each : EachClose) (closable : TakenIsClosable) (next : NextIsClosing) 
           → (answer : Result PreparedClose CloseFault) × IsClose s w answer
           → Closed s (w ∷ ws) ⊎ Refused s (w ∷ ws)
       by later (Ok c, close) =
-          behind c close (later c (installed_state closable next s c closing (w, close, are.1)))
+          after c close (later c (installed_state closable next s c closing (w, close, are.1)))
       by later (Err wrong, close) = inr (record {
-        front = [];
+        prefix = [];
         bytes = w;
         others = ws;
         cut = refl;
@@ -126,14 +113,14 @@ module _ (each : EachClose) (closable : TakenIsClosable) (next : NextIsClosing) 
   )
   opened_records c k start holds judged (inr one) = inr (inr (
     2 + k.epoch % 2,
-    length (blocks one.front),
+    length (blocks one.prefix),
     inr (
       k,
       holds,
       inr (record {
         start = start;
         judged = judged;
-        front = one.front;
+        prefix = one.prefix;
         bytes = one.bytes;
         others = one.others;
         records = one.cut;
@@ -156,22 +143,22 @@ module _ (each : EachClose) (closable : TakenIsClosable) (next : NextIsClosing) 
       inr (inr (k.epoch % 2, head_len, inr (k, h, inl broken)))
   opened_kept c k are h (Ok start) judged =
       let text : IsBytes (image_in (c h.number)) = IsBytes-drop head_len (c h.number) (are h.number) in
-      let spelled = start_image_laws.lawful.takes (start_of (image_in (c h.number))) h.image.0 k.image text h.image.1 in
-      let stand = h.journal.1 in
-      let bytes = subst IsBytes stand.cut (are (2 + h.number)) in
+      let encoded = start_image_laws.lawful.takes (start_of (image_in (c h.number))) h.image.0 k.image text h.image.1 in
+      let exist = h.journal.1 in
+      let bytes = subst IsBytes exist.cut (are (2 + h.number)) in
       opened_records c k start h judged
-      (close_all k.records start (judged_state k.network k.image start (header_bytes k.image spelled.sized) judged)
-      (records_are k.records h.journal.0 bytes stand.short))
+      (close_all k.records start (judged_state k.network k.image start (header_bytes k.image encoded.sized) judged)
+      (records_are k.records h.journal.0 bytes exist.short))
 
   opened : EachImage → (c : Image) → ((file : ℕ) → IsBytes (c file)) → (opening : Result Kept StoreFault)
       → IsOpening c opening → Opened c
   opened images c are (Ok k) h =
       let text : IsBytes (image_in (c h.number)) = IsBytes-drop head_len (c h.number) (are h.number) in
-      let spelled = start_image_laws.lawful.takes (start_of (image_in (c h.number))) h.image.0 k.image text h.image.1 in
-      let found = images k.network k.image (files_bytes k.image spelled.within spelled.sized) in
+      let encoded = start_image_laws.lawful.takes (start_of (image_in (c h.number))) h.image.0 k.image text h.image.1 in
+      let found = images k.network k.image (files_bytes k.image encoded.within encoded.sized) in
       opened_kept c k are h found.0 found.1
   opened images c are (Err store.Missing) h = inr (inl h)
-  opened images c are (Err (store.BadStore file place)) h = inr (inr (file, place, inl h))
+  opened images c are (Err (store.BadStore file index)) h = inr (inr (file, index, inl h))
   opened images c are (Err store.DiskFault) h = absurd h
   opened images c are (Err store.Failed) h = absurd h
   opened images c are (Err store.AlreadyThere) h = absurd h

@@ -1,18 +1,13 @@
 -- Claims that hold or don't.
-use Rattle.std.proofs.Common.{◌≡◌, ◌⊎◌, inl, inr, ℕ, suc, ◌≤◌, ℤ, pos, negsuc, Bool, true, false, ◌||◌, List, [], ◌∷◌}
-use Rattle.std.proofs.Common.{All, refl, sym, ap, subst, arith}
-use Rattle.std.specs.Prelude.{◌≤ℤ◌, ◌<ℤ◌}
-use Rattle.std.specs.Coded.{Coded}
-use Rattle.std.specs.List.{list_any, AllPairs}
-use Rattle.std.specs.Ordering.{eq_by_cmp}
-use Rattle.std.proofs.lemmas.Bool.{cases_lt, cases_eq}
+use Rattle.existence_laws.proofs.Prelude.{◌≡◌, ◌⊎◌, inl, inr, ℕ, suc, ◌≤◌, pos, negsuc, Bool, true, false, ◌||◌, List}
+use Rattle.existence_laws.proofs.Prelude.{[], ◌∷◌, All, refl, sym, ap, subst, arith, ◌≤ℤ◌, ◌<ℤ◌, Coded, list_any}
+use Rattle.existence_laws.proofs.Prelude.{AllPairs, eq_by_cmp, cases_lt, cases_eq, All-nil, All-cons, All-head}
+use Rattle.existence_laws.proofs.Prelude.{All-tail, LedgerKey, key_cmp, same_keys}
+use Rattle.std.proofs.Common.{ℤ}
 use Rattle.std.proofs.lemmas.Int.{ints}
-use Rattle.std.proofs.lemmas.List.Elements.{All-nil, All-cons, All-head, All-tail}
 use Rattle.std.proofs.lemmas.List.Kept.{AllPairs-cons}
 use base.Stored.{Gv, gnil, gnum, gcons}
-use Rattle.close_laws.specs.ledger_types.declared.key.LedgerKey.{LedgerKey}
-use Rattle.close_laws.specs.ledger_types.KeyOrder.{key_cmp}
-use Rattle.close_laws.proofs.entry_map_proofs.KeyMaps.{same_keys, same_itself}
+use Rattle.close_laws.proofs.entry_map_proofs.KeyMaps.{same_itself}
 
 abbrev pub Decided : Type 0 → Type 0
 Decided A = A ⊎ (A → ⊥)
@@ -95,7 +90,7 @@ same_tree (gcons a b) (gcons c d) =
       | inr other ↦ inr (λ g. other (cc))
     ]
 
--- values that have a code are told apart
+-- values that have a code are distinguished
 pub same_value : {A : Type 0} → Coded A → (a b : A) → Decided (a ≡ b)
 same_value coded a b =
     decided_as (λ e. coded.inj a b e) (λ e. ap coded.code e) (same_tree (coded.code a) (coded.code b))
@@ -134,11 +129,11 @@ at_keys Q x xs here others k found = by_test (eq_by_cmp key_cmp k x) refl found
     by_test true tied found = subst Q (sym (same_keys k x tied)) here
     by_test false tied found = others k found
 
-in_front : (x : LedgerKey) (xs : List LedgerKey) → is_in (x ∷ xs) x ≡ true
-in_front x xs = ap (λ (b : Bool). b || is_in xs x) (same_itself x)
+prepended : (x : LedgerKey) (xs : List LedgerKey) → is_in (x ∷ xs) x ≡ true
+prepended x xs = ap (λ (b : Bool). b || is_in xs x) (same_itself x)
 
-behind : (x : LedgerKey) (xs : List LedgerKey) (k : LedgerKey) → is_in xs k ≡ true → is_in (x ∷ xs) k ≡ true
-behind x xs k found = by_test (eq_by_cmp key_cmp k x)
+after : (x : LedgerKey) (xs : List LedgerKey) (k : LedgerKey) → is_in xs k ≡ true → is_in (x ∷ xs) k ≡ true
+after x xs k found = by_test (eq_by_cmp key_cmp k x)
   where
     by_test : (b : Bool) → (b || is_in xs k) ≡ true
     by_test true = refl
@@ -148,7 +143,7 @@ each_key : (Q : LedgerKey → Type 0) (ks : List LedgerKey) → ((k : LedgerKey)
     → Decided ((k : LedgerKey) → is_in ks k ≡ true → Q k)
 each_key Q [] one = inl (λ k found. absurd (cc (found)))
 each_key Q (x ∷ xs) one =
-    decided_as (λ h. at_keys Q x xs h.0 h.1) (λ all. (all x (in_front x xs), λ k found. all k (behind x xs k found)))
+    decided_as (λ h. at_keys Q x xs h.0 h.1) (λ all. (all x (prepended x xs), λ k found. all k (after x xs k found)))
     (both (one x) (each_key Q xs one))
 
 -- what holds of each key that isn't in a list is decided by those in it

@@ -1,22 +1,12 @@
 -- Whether files are those of levels.
-use Rattle.std.proofs.Common.{◌≡◌, inl, inr, ℕ, ◌*◌, ◌≤◌, List, [], ◌∷◌, length, Option, Some, None, All, refl, sym}
-use Rattle.std.proofs.Common.{ap, subst, ◌∙◌, arith}
-use Rattle.std.specs.List.{flat_map}
-use Rattle.std.proofs.lemmas.List.Elements.{All-nil, All-cons, All-head, All-tail}
-use Rattle.replay.specs.xdr_core.Format.{IsBytes}
-use Rattle.close_laws.specs.xdr_header.declared.image.StartImage.{StartImage}
+use Rattle.existence_laws.proofs.Prelude as prelude
+use prelude.{◌≡◌, inl, inr, ℕ, ◌*◌, ◌≤◌, List, [], ◌∷◌, length, Option, Some, None, All, refl, sym, ap, subst, ◌∙◌}
+use prelude.{arith, flat_map, All-nil, All-cons, All-head, All-tail, IsBytes, StartImage, Contents, file_of, HasFile}
+use prelude.{Pair, file_total, level_count, max_file_total, AreFilesOf, HasFiles, HasBoth, files_in, levels_are_one}
 use Rattle.replay.specs.bucket_core.declared.fault.BucketFault.{BucketFault}
-use Rattle.replay.specs.bucket_core.Bucket.{Contents}
 use Rattle.replay.specs.bucket_core.Faults.{first_fault}
-use Rattle.replay.specs.bucket_core.File.{file_of, HasFile}
 use Rattle.replay.specs.bucket_core.Reading.{contents_of}
-use Rattle.replay.proofs.bucket_core_proofs.Files.{no_fault_is_file, file_has_no_fault, files_tell_apart}
-use Rattle.close_laws.specs.bucket_levels.Pairs.{Pair}
-use Rattle.close_laws.specs.bucket_levels.Size.{file_total}
-use Rattle.close_laws.specs.bucket_levels.Spills.{level_count}
-use Rattle.close_laws.specs.close_rules.State.{max_file_total}
-use Rattle.close_laws.specs.close_rules.Images.{AreFilesOf, HasFiles}
-use Rattle.replay.proofs.ledger_close_proofs.Files.{HasBoth, files_in, levels_are_one}
+use Rattle.replay.proofs.bucket_core_proofs.Files.{no_fault_is_file, file_has_no_fault, files_distinguish}
 use Rattle.existence_laws.proofs.Decided.{Decided, decided_as, both, below, same_number}
 
 -- ---- one file
@@ -46,9 +36,9 @@ no_pair : (a : List ℕ) → HaveLevels (a ∷ []) → ⊥
 no_pair a ([], have, is) = cc (is)
 no_pair a (pair ∷ levels, have, is) = cc (is)
 
-in_front : (a b : List ℕ) (rest : List (List ℕ)) → HasContents a × (HasContents b × HaveLevels rest)
+prepended : (a b : List ℕ) (rest : List (List ℕ)) → HasContents a × (HasContents b × HaveLevels rest)
     → HaveLevels (a ∷ b ∷ rest)
-in_front a b rest (curr, (snap, others)) =
+prepended a b rest (curr, (snap, others)) =
     let pair : Pair = record { curr = curr.0; snap = snap.0 } in (
       pair ∷ others.0,
       All-cons HasBoth pair others.0 (curr.1, snap.1) others.1,
@@ -70,7 +60,7 @@ levels_of [] text = inl ([], All-nil HasBoth, refl)
 levels_of (a ∷ []) text = inr (no_pair a)
 levels_of (a ∷ b ∷ rest) text =
     let later = All-tail IsBytes a (b ∷ rest) text in
-    decided_as (in_front a b rest) (taken_apart a b rest)
+    decided_as (prepended a b rest) (taken_apart a b rest)
     (both (a_file a (All-head IsBytes a (b ∷ rest) text))
     (both (a_file b (All-head IsBytes b rest later)) (levels_of rest (All-tail IsBytes b rest later))))
 
@@ -89,7 +79,7 @@ some_files image text = by_levels (levels_of image.files text)
     of_levels levels files =
         decided_as (λ fit. (levels, record { files = files; fit = fit }))
         (λ h. subst (λ (found : List Pair). file_total found ≤ max_file_total)
-        (levels_are_one files_tell_apart image.files h.0 levels h.1.files files) h.1.fit)
+        (levels_are_one files_distinguish image.files h.0 levels h.1.files files) h.1.fit)
         (below (file_total levels) max_file_total)
 
     by_count : (levels : List Pair) → All HasBoth levels → image.files ≡ flat_map files_in levels

@@ -1,28 +1,18 @@
 -- An image is judged.
-use Rattle.std.proofs.Common.{◌≡◌, inl, inr, ◌*◌, ◌^◌, pos, List, Option, Some, None, Result, Ok, Err, All, refl}
+use Rattle.existence_laws.proofs.Prelude.{◌≡◌, inl, inr, ◌*◌, ◌^◌, pos, List, Option, Some, None, Result, Ok, Err, All}
+use Rattle.existence_laws.proofs.Prelude.{refl, Hash, LedgerHeader, IsBytes, StartImage, EntryMap, Pair, list_hash}
+use Rattle.existence_laws.proofs.Prelude.{ImageFault, ImageRule, ClosingState, entry_rules, header_in, AreFieldsInRange}
+use Rattle.existence_laws.proofs.Prelude.{HasHeader, HasLevels, HasEntries, state_of, BreaksEntries, IsJudged}
+use Rattle.existence_laws.proofs.Prelude.{EachImage}
 use Rattle.close_laws.specs.ledger_types.contracts.ids.Hash as hash
-use Rattle.close_laws.specs.ledger_types.declared.ids.Hash.{Hash}
-use Rattle.close_laws.specs.ledger_types.declared.header.LedgerHeader.{LedgerHeader}
-use Rattle.replay.specs.xdr_core.Format.{IsBytes}
-use Rattle.close_laws.specs.xdr_header.declared.image.StartImage.{StartImage}
-use Rattle.close_laws.specs.entry_map.EntryMap.{EntryMap}
 use Rattle.close_laws.specs.legal_rules.Headers.{header_flags}
-use Rattle.close_laws.specs.bucket_levels.Pairs.{Pair}
-use Rattle.close_laws.specs.bucket_levels.Hash.{list_hash}
-use Rattle.close_laws.specs.close_rules.declared.image_fault.ImageFault.{ImageFault}
 use Rattle.close_laws.specs.close_rules.declared.image_fault.ImageFault.TheVariants as fault
-use Rattle.close_laws.specs.close_rules.declared.image_fault.ImageRule.{ImageRule}
 use Rattle.close_laws.specs.close_rules.declared.image_fault.ImageRule.TheVariants as rule
-use Rattle.close_laws.specs.close_rules.State.{ClosingState}
-use Rattle.close_laws.specs.close_rules.EntryRules.{entry_rules}
-use Rattle.close_laws.specs.close_rules.Images.{header_in, AreFieldsInRange, HasHeader, HasLevels, HasEntries, state_of}
-use Rattle.close_laws.specs.close_rules.Images.{BreaksEntries, IsJudged}
-use Rattle.existence_laws.specs.Existence.{EachImage}
 use Rattle.existence_laws.proofs.Decided.{Decided, decided_as, both, below, below_int, same_number, same_value}
 use Rattle.existence_laws.proofs.FilesOfLevels.{some_files}
 use Rattle.existence_laws.proofs.Marks.{well_marked, are_keyed}
 use Rattle.existence_laws.proofs.Rules.{IsOfEntries, FirstOf, first_of}
-use Rattle.existence_laws.proofs.Standing.{some_entries}
+use Rattle.existence_laws.proofs.Existing.{some_entries}
 
 -- ---- the first rules
 
@@ -68,7 +58,7 @@ module _ (network : Hash) (image : StartImage) (text : All IsBytes image.files) 
 
   by_entries : (levels : List Pair) (m : EntryMap) → HasEntries image h levels m → Verdict network image
   by_entries levels m has =
-      by_first levels m has (first_of h m (are_keyed levels m has.files.files.files.have has.standing))
+      by_first levels m has (first_of h m (are_keyed levels m has.files.files.files.have has.existing))
 
   by_levels : (levels : List Pair) → HasLevels image h levels → Verdict network image
   by_levels levels has =
@@ -76,7 +66,7 @@ module _ (network : Hash) (image : StartImage) (text : All IsBytes image.files) 
         | inl marks ↦ elim (same_value hash.the_row.coded (list_hash levels) h.bucket_list_hash) [
           | inl same ↦
               let m = some_entries levels in
-              by_entries levels m.0 (record { files = has; marks = marks; hash = same; standing = m.1 })
+              by_entries levels m.0 (record { files = has; marks = marks; hash = same; existing = m.1 })
           | inr fails ↦ (Err (fault.BadImage rule.ListHash), (h, levels, has, marks, fails))
         ]
         | inr fails ↦ (Err (fault.BadImage rule.Marks), (h, levels, has, fails))

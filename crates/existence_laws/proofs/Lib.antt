@@ -5,7 +5,7 @@ pub mod Steps
 pub mod Changes
 pub mod Refusing
 pub mod Closing
-pub mod Standing
+pub mod Existing
 pub mod FilesOfLevels
 pub mod Marks
 pub mod Ranges
@@ -14,3 +14,4 @@ pub mod Judging
 pub mod Running
 pub mod Starting
 pub mod Contents
+pub mod Prelude

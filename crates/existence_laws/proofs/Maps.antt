@@ -1,20 +1,10 @@
 -- Finite maps that have a function's values.
-use Rattle.std.proofs.Common.{◌≡◌, Bool, true, false, cond, ◌||◌, List, [], ◌∷◌, ◌++◌, Option, Some, None, refl, sym}
-use Rattle.std.proofs.Common.{ap, ◌∙◌}
-use Rattle.std.specs.Option.{is_some}
-use Rattle.std.specs.List.{list_any}
-use Rattle.std.specs.Ordering.{eq_by_cmp}
-use Rattle.std.specs.FinMap.{empty, get, insert, keys, get-empty, get-insert, contains_key-keys}
-use Rattle.std.proofs.lemmas.List.Folds.{list_any-append}
-use Rattle.close_laws.specs.ledger_types.declared.key.LedgerKey.{LedgerKey}
-use Rattle.close_laws.specs.ledger_types.KeyOrder.{key_cmp}
-use Rattle.close_laws.proofs.ledger_types_proofs.KeyOrdering.{keys_total}
+use Rattle.existence_laws.proofs.Prelude.{◌≡◌, Bool, true, false, cond, ◌||◌, List, [], ◌∷◌, ◌++◌, Option, Some, None}
+use Rattle.existence_laws.proofs.Prelude.{refl, sym, ap, ◌∙◌, list_any, eq_by_cmp, empty, get, insert, keys, get-empty}
+use Rattle.existence_laws.proofs.Prelude.{get-insert, contains_key-keys, list_any-append, LedgerKey, key_cmp}
+use Rattle.existence_laws.proofs.Prelude.{keys_total, same_keys, or_parts}
 use Rattle.close_laws.specs.entry_map.KeyMaps.{KeyedMap}
-use Rattle.close_laws.proofs.entry_map_proofs.KeyMaps.{same_keys}
-
--- what stands in two equal options
-pub value_is : {V : Type 0} (x y : V) → Some x ≡ Some y → x ≡ y
-value_is x y e = cc
+use Rattle.close_laws.proofs.ledger_types_proofs.Lists.{is_some_false}
 
 -- a map that has a function's values
 abbrev pub MapOf : {V : Type 0} → (LedgerKey → Option V) → Type 0
@@ -64,22 +54,14 @@ made_of f ks none =
 
 -- ---- at keys of maps
 
-nothing_there : {V : Type 0} (o : Option V) → is_some o ≡ false → o ≡ None
-nothing_there None h = refl
-nothing_there (Some v) h = absurd (cc)
-
 pub no_value : {V : Type 0} (m : KeyedMap V) (k : LedgerKey) → list_any (eq_by_cmp key_cmp k) (keys m) ≡ false
     → get m k ≡ None
-no_value m k none = nothing_there (get m k) (contains_key-keys m k ∙ none)
-
-pub neither : (a b : Bool) → (a || b) ≡ false → (a ≡ false) × (b ≡ false)
-neither true b h = absurd (cc)
-neither false b h = (refl, h)
+no_value m k none = is_some_false (get m k) (contains_key-keys m k ∙ none)
 
 -- where a function has a value only where one of two maps has one, some map has its values
 pub map_over : {A B V : Type 0} (a : KeyedMap A) (b : KeyedMap B) (f : LedgerKey → Option V)
     → ((k : LedgerKey) → get a k ≡ None → get b k ≡ None → f k ≡ None) → MapOf f
 map_over a b f none = made_of f (keys a ++ keys b) (λ k out.
-    let apart = neither (list_any (eq_by_cmp key_cmp k) (keys a)) (list_any (eq_by_cmp key_cmp k) (keys b))
+    let apart = or_parts (list_any (eq_by_cmp key_cmp k) (keys a)) (list_any (eq_by_cmp key_cmp k) (keys b))
     (sym (list_any-append (eq_by_cmp key_cmp k) (keys a) (keys b)) ∙ out) in
     none k (no_value a k apart.0) (no_value b k apart.1))

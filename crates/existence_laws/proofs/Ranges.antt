@@ -1,6 +1,10 @@
 -- Whether an entry is in its ranges.
-use Rattle.std.proofs.Common.{◌≡◌, ◌≢◌, inl, inr, ℕ, ◌%◌, ◌≤◌, pos, length, Option, Some, None, true, refl}
-use Rattle.std.specs.Coded.{coded_option}
+use Rattle.existence_laws.proofs.Prelude as prelude
+use prelude.{◌≡◌, ◌≢◌, inl, inr, ℕ, ◌%◌, ◌≤◌, pos, length, Option, Some, None, true, refl, coded_option, TrustLineEntry}
+use prelude.{LedgerEntry, LedgerEntryBody, asset_cmp, signer_key_cmp, pool_id_of, account_liabilities, sponsorship_of}
+use prelude.{has_flag, AreAccountFlags, AreSignersInRange, IsAccountInRange, IsHeldIn, AreLineFlags, IsTrustLineInRange}
+use prelude.{IsOfferInRange, IsDataInRange, balance_flags, AreClaimantsInRange, IsBalanceInRange, IsPoolInRange}
+use prelude.{IsBodyInRange, IsPaidRightly, IsEntryInRange}
 use Rattle.std.specs.declared.cmp.Ordering.{Ordering}
 use Rattle.std.specs.declared.cmp.Ordering.TheVariants.{Less, Equal, Greater}
 use Rattle.close_laws.specs.ledger_types.contracts.ids.AccountId as account_id
@@ -13,33 +17,20 @@ use Rattle.close_laws.specs.ledger_types.declared.asset.TrustLineAsset.TheVarian
 use Rattle.close_laws.specs.ledger_types.declared.signer.Signer.{Signer}
 use Rattle.close_laws.specs.ledger_types.declared.signer.SignerKey.TheVariants as signer
 use Rattle.close_laws.specs.ledger_types.declared.account.AccountEntry.{AccountEntry}
-use Rattle.close_laws.specs.ledger_types.declared.trust_line.TrustLineEntry.{TrustLineEntry}
 use Rattle.close_laws.specs.ledger_types.declared.offer.OfferEntry.{OfferEntry}
 use Rattle.close_laws.specs.ledger_types.declared.data_entry.DataEntry.{DataEntry}
 use Rattle.close_laws.specs.ledger_types.declared.claimable_balance.Claimant.{Claimant}
 use Rattle.close_laws.specs.ledger_types.declared.claimable_balance.ClaimableBalanceEntry.{ClaimableBalanceEntry}
 use Rattle.close_laws.specs.ledger_types.declared.liquidity_pool.LiquidityPoolEntry.{LiquidityPoolEntry}
-use Rattle.close_laws.specs.ledger_types.declared.entry.LedgerEntry.{LedgerEntry}
-use Rattle.close_laws.specs.ledger_types.declared.entry.LedgerEntryBody.{LedgerEntryBody}
 use Rattle.close_laws.specs.ledger_types.declared.entry.LedgerEntryBody.TheVariants as body
-use Rattle.close_laws.specs.ledger_types.KeyOrder.{asset_cmp, signer_key_cmp}
 use Rattle.replay.specs.valid_values.Texts.{is_valid_text}
 use Rattle.replay.specs.valid_values.Assets.{is_valid_code, is_valid_asset}
 use Rattle.replay.specs.valid_values.Predicates.{is_valid_stored_predicate}
-use Rattle.replay.specs.hash_ids.Ids.{pool_id_of}
-use Rattle.close_laws.specs.entry_slots.AccountExtensions.{account_liabilities, sponsorship_of}
 use Rattle.close_laws.specs.entry_slots.LineExtensions.{line_liabilities, use_count}
 use Rattle.close_laws.specs.entry_slots.EntrySponsor.{sponsor_of}
 use Rattle.replay.specs.reserve_rules.Reserve.{greatest_i64, IsInRange, IsLineInRange}
 use Rattle.close_laws.specs.sponsor_rules.Charge.{owner_of}
 use Rattle.close_laws.specs.legal_rules.OfferLiabilities.{bound_of}
-use Rattle.close_laws.specs.legal_rules.Ranges.{has_flag, AreAccountFlags, AreSignersInRange, IsAccountInRange}
-use Rattle.close_laws.specs.legal_rules.Ranges.{IsHeldIn}
-use Rattle.close_laws.specs.legal_rules.Ranges.{AreLineFlags, IsTrustLineInRange, IsOfferInRange, IsDataInRange}
-use Rattle.close_laws.specs.legal_rules.Ranges.{balance_flags}
-use Rattle.close_laws.specs.legal_rules.Ranges.{AreClaimantsInRange, IsBalanceInRange, IsPoolInRange, IsBodyInRange}
-use Rattle.close_laws.specs.legal_rules.Ranges.{IsPaidRightly}
-use Rattle.close_laws.specs.legal_rules.Ranges.{IsEntryInRange}
 use Rattle.existence_laws.proofs.Decided.{Decided, decided_as, both, implied, opposite, below, same_number, is_true}
 use Rattle.existence_laws.proofs.Decided.{below_int, same_int, same_value, each, each_pair}
 
@@ -214,8 +205,8 @@ claimants_in_range balance =
     (each (λ (c : Claimant). is_valid_stored_predicate c.predicate ≡ true) claimants
     (λ c. is_true (is_valid_stored_predicate c.predicate))))))
 
-balance_stands : (balance : ClaimableBalanceEntry) → Decided (IsBalanceInRange balance)
-balance_stands balance =
+balance_decided : (balance : ClaimableBalanceEntry) → Decided (IsBalanceInRange balance)
+balance_decided balance =
     decided_as (λ h. record { amount = h.0; asset = h.1.0; flags = h.1.1.0; claimants = h.1.1.1 })
     (λ r. (r.amount, (r.asset, (r.flags, r.claimants))))
     (both (below_int (pos 1) balance.amount) (both (is_true (is_valid_asset balance.asset))
@@ -247,7 +238,7 @@ body_in_range id_pool (body.Account account) = account_in_range account
 body_in_range id_pool (body.TrustLine line) = line_in_range line
 body_in_range id_pool (body.Offer offer) = offer_in_range id_pool offer
 body_in_range id_pool (body.Data entry) = data_in_range entry
-body_in_range id_pool (body.ClaimableBalance balance) = balance_stands balance
+body_in_range id_pool (body.ClaimableBalance balance) = balance_decided balance
 body_in_range id_pool (body.LiquidityPool pool) = pool_in_range pool
 
 paid_rightly : (b : LedgerEntryBody) (sponsor : Option AccountId) → Decided (IsPaidRightly b sponsor)

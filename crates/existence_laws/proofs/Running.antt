@@ -1,57 +1,44 @@
--- The bytes behind a state come to something.
-use Rattle.std.proofs.Common.{◌≡◌, ℕ, zero, suc, ◌+◌, ◌≤◌, List, [], ◌∷◌, ◌++◌, length, Result, Ok, Err, refl, sym}
-use Rattle.std.proofs.Common.{ap, subst, arith}
-use Rattle.std.proofs.lemmas.List.{length-append}
-use Rattle.replay.specs.xdr_core.declared.fault.XdrFault.{XdrFault}
-use Rattle.replay.specs.xdr_core.Format.{IsBytes}
-use Rattle.replay.specs.xdr_core.Leaves.{mark}
-use Rattle.replay.specs.xdr_core.Place.{Place, Reading}
+-- The bytes after a state yield something.
+use Rattle.existence_laws.proofs.Prelude.{◌≡◌, ℕ, zero, suc, ◌+◌, ◌≤◌, List, [], ◌∷◌, ◌++◌, length, Result, Ok, Err}
+use Rattle.existence_laws.proofs.Prelude.{refl, sym, ap, subst, arith, length-append, XdrFault, IsBytes, mark, Position}
+use Rattle.existence_laws.proofs.Prelude.{Reading, CloseFault, ClosingState, IsClosingState, PreparedClose, IsClose}
+use Rattle.existence_laws.proofs.Prelude.{TakenIsClosable, NextIsClosing, installed_state, Outcome, silent, after}
+use Rattle.existence_laws.proofs.Prelude.{max_record_len, framed, lines_of, IsStopped, IsRun, EachClose, EachRun}
 use Rattle.replay.proofs.xdr_core_proofs.FormatLaws.{mark_laws}
-use Rattle.close_laws.specs.close_rules.declared.close_fault.CloseFault.{CloseFault}
-use Rattle.close_laws.specs.close_rules.State.{ClosingState, IsClosingState}
-use Rattle.close_laws.specs.close_rules.Close.{PreparedClose, IsClose}
-use Rattle.close_laws.specs.Closes.{TakenIsClosable, NextIsClosing}
-use Rattle.replay.proofs.ledger_close_proofs.Installs.{installed_state}
 use Rattle.replay.specs.run_outcome.declared.status.Status.TheVariants as status
 use Rattle.replay.specs.run_outcome.Lines.{end_line, refused_line}
-use Rattle.replay.specs.run_outcome.Outcome.{Outcome, silent, behind, max_record_len, framed, lines_of, IsStopped}
-use Rattle.replay.specs.run_outcome.Outcome.{IsRun}
 use Rattle.replay.proofs.Marking.{read_mark, framed_above}
 use Rattle.replay.proofs.Runs.{ended_run, prepended}
-use Rattle.existence_laws.specs.Existence.{EachClose, EachRun}
+use Rattle.replay.proofs.Marking.{mark_fits}
 
-abbrev place : ℕ → List ℕ → Place
-place at text = record { at = at; rest = text }
+abbrev index : ℕ → List ℕ → Position
+index at text = record { at = at; rest = text }
 
 abbrev SomeRun : ClosingState → ℕ → List ℕ → Type 0
-SomeRun s at text = (o : Outcome) × IsRun s (place at text) o
+SomeRun s at text = (o : Outcome) × IsRun s (index at text) o
 
--- ---- a record at the front
-
-mark_fits : (bytes : List ℕ) → (mark max_record_len).within bytes → length bytes ≤ max_record_len
-unfolding mark
-mark_fits bytes fits = fits
+-- ---- a record at the start
 
 mark_bytes : (bytes : List ℕ) → (mark max_record_len).sized bytes → IsBytes bytes
 unfolding mark
 mark_bytes bytes are = are
 
--- a record that was read, and the bytes behind it
+-- a record that was read, and the bytes after it
 record Ahead (text bytes rest : List ℕ) : Type 0 where
   pub short : length bytes ≤ max_record_len
   pub are : IsBytes bytes
   pub parts : text ≡ framed bytes ++ rest
   pub others : IsBytes rest
 
-ahead : (at : ℕ) (text bytes : List ℕ) (q : Place) → IsBytes text → read_mark (place at text) ≡ Ok (bytes, q)
+ahead : (at : ℕ) (text bytes : List ℕ) (q : Position) → IsBytes text → read_mark (index at text) ≡ Ok (bytes, q)
     → Ahead text bytes q.rest
 ahead at text bytes q fits reads =
-    let spelled = (mark_laws max_record_len (omega arith)).lawful.takes (place at text) q bytes fits reads in
+    let encoded = (mark_laws max_record_len (omega arith)).lawful.takes (index at text) q bytes fits reads in
     record {
-      short = mark_fits bytes spelled.within;
-      are = mark_bytes bytes spelled.sized;
-      parts = spelled.taken.parts;
-      others = spelled.taken.rest;
+      short = mark_fits bytes encoded.within;
+      are = mark_bytes bytes encoded.sized;
+      parts = encoded.taken.parts;
+      others = encoded.taken.rest;
     }
 
 nearer : (text bytes rest : List ℕ) (n : ℕ) → length text ≤ suc n → text ≡ framed bytes ++ rest → length rest ≤ n
@@ -66,8 +53,8 @@ module _ (each : EachClose) (closable : TakenIsClosable) (next : NextIsClosing) 
   Within n = (s : ClosingState) (at : ℕ) (text : List ℕ) → length text ≤ n → IsClosingState s → IsBytes text
       → SomeRun s at text
 
-  by_answer : (s : ClosingState) (at byte : ℕ) (more bytes : List ℕ) (q : Place) → IsClosingState s
-      → read_mark (place at (byte ∷ more)) ≡ Ok (bytes, q) → Ahead (byte ∷ more) bytes q.rest
+  by_answer : (s : ClosingState) (at byte : ℕ) (more bytes : List ℕ) (q : Position) → IsClosingState s
+      → read_mark (index at (byte ∷ more)) ≡ Ok (bytes, q) → Ahead (byte ∷ more) bytes q.rest
       → ((t : ClosingState) → IsClosingState t → SomeRun t (at + length (framed bytes)) q.rest)
       → (answer : Result PreparedClose CloseFault) → IsClose s bytes answer → SomeRun s at (byte ∷ more)
   by_answer s at byte more bytes q state reads here later (Err wrong) close =
@@ -76,15 +63,15 @@ module _ (each : EachClose) (closable : TakenIsClosable) (next : NextIsClosing) 
       (last, ended_run s at (byte ∷ more) last stopped)
   by_answer s at byte more bytes q state reads here later (Ok closed) close =
       let rest = later closed.state (installed_state closable next s closed state (bytes, close, here.short)) in
-      let o = behind (lines_of closed) rest.0 in (
+      let o = after (lines_of closed) rest.0 in (
         o,
-        subst (λ (t : List ℕ). IsRun s (place at t) o) (sym here.parts)
+        subst (λ (t : List ℕ). IsRun s (index at t) o) (sym here.parts)
             (prepended s bytes closed at q.rest rest.0 here.short close rest.1),
       )
 
   by_mark : (n : ℕ) → Within n → (s : ClosingState) (at byte : ℕ) (more : List ℕ) → length (byte ∷ more) ≤ suc n
       → IsClosingState s → IsBytes (byte ∷ more) → (r : Reading XdrFault (List ℕ))
-      → read_mark (place at (byte ∷ more)) ≡ r → SomeRun s at (byte ∷ more)
+      → read_mark (index at (byte ∷ more)) ≡ r → SomeRun s at (byte ∷ more)
   by_mark n within s at byte more le state text (Err wrong) reads =
       let last = silent (status.BadInput wrong.at) in
       let stopped = subst (λ (r : Reading XdrFault (List ℕ)). IsStopped s r last) (sym reads) refl in
@@ -103,8 +90,8 @@ module _ (each : EachClose) (closable : TakenIsClosable) (next : NextIsClosing) 
       (last, ended_run s at [] last refl)
   runs_within zero s at (byte ∷ more) le state text = absurd (omega arith)
   runs_within (suc n) s at (byte ∷ more) le state text =
-      by_mark n (λ t place rest within closing bytes. runs_within n t place rest within closing bytes) s at byte more le
-      state text (read_mark (place at (byte ∷ more))) refl
+      by_mark n (λ t index rest within closing bytes. runs_within n t index rest within closing bytes) s at byte more le
+      state text (read_mark (index at (byte ∷ more))) refl
 
   pub each_run : EachRun
   each_run s p state text = runs_within (length p.rest) s p.at p.rest (omega arith) state text

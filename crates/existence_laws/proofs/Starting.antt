@@ -1,62 +1,47 @@
 -- An input has an outcome.
-use Rattle.std.proofs.Common.{◌≡◌, ℕ, zero, suc, ◌-◌, List, [], ◌∷◌, length, All, Some, Result, Ok, Err, refl, sym}
-use Rattle.std.proofs.Common.{subst}
-use Rattle.std.proofs.lemmas.List.Elements.{All-nil, All-cons}
-use Rattle.close_laws.specs.ledger_types.declared.ids.Hash.{Hash}
-use Rattle.close_laws.specs.ledger_types.declared.header.LedgerHeader.{LedgerHeader}
-use Rattle.replay.specs.xdr_core.declared.fault.XdrFault.{XdrFault}
-use Rattle.replay.specs.xdr_core.Format.{IsBytes}
-use Rattle.replay.specs.xdr_core.Leaves.{mark}
-use Rattle.replay.specs.xdr_core.Place.{Place, Reading, start_of}
-use Rattle.close_laws.specs.xdr_header.declared.image.StartImage.{StartImage}
-use Rattle.close_laws.specs.xdr_header.Header.{ledger_header}
+use Rattle.existence_laws.proofs.Prelude as prelude
+use prelude.{◌≡◌, ℕ, zero, suc, ◌-◌, List, [], ◌∷◌, length, All, Some, Result, Ok, Err, refl, sym, subst, All-nil}
+use prelude.{All-cons, Hash, LedgerHeader, XdrFault, IsBytes, mark, Position, Reading, start_of, StartImage}
+use prelude.{ledger_header, start_image_laws, network_id_of, ledger_hash_of, ImageFault, ClosingState, IsClosingState}
+use prelude.{IsEncoded, header_in, if_complete, read_complete, IsJudged, IsComplete, is_kept, Outcome, silent}
+use prelude.{IsStarted, IsOutcomeOf, EachRun, EachImage, EachOutcome, same_Some}
 use Rattle.close_laws.specs.xdr_header.Image.{file, files, start_image}
 use Rattle.close_laws.proofs.xdr_header_proofs.HeaderLaws.{ledger_header_laws}
-use Rattle.close_laws.proofs.xdr_header_proofs.ImageLaws.{start_image_laws}
-use Rattle.replay.specs.hash_ids.Ids.{network_id_of}
-use Rattle.close_laws.specs.value_hashes.Hashes.{ledger_hash_of}
-use Rattle.close_laws.specs.close_rules.declared.image_fault.ImageFault.{ImageFault}
 use Rattle.close_laws.specs.close_rules.declared.image_fault.ImageFault.TheVariants as fault
-use Rattle.close_laws.specs.close_rules.State.{ClosingState, IsClosingState, IsSpelled}
-use Rattle.close_laws.specs.close_rules.Images.{header_in, if_whole, read_whole, IsJudged}
-use Rattle.replay.proofs.ledger_close_proofs.Judged.{IsWhole, is_kept}
 use Rattle.replay.specs.run_outcome.declared.status.Status.TheVariants as status
-use Rattle.replay.specs.run_outcome.Outcome.{Outcome, silent, IsStarted, IsOutcomeOf}
-use Rattle.existence_laws.proofs.Maps.{value_is}
-use Rattle.existence_laws.specs.Existence.{EachRun, EachImage, EachOutcome}
 
 -- ---- the state of an image
 
-whole_is : (found h : LedgerHeader) (rest : List ℕ) → if_whole found rest ≡ Some h → found ≡ h
-whole_is found h [] is = value_is found h is
-whole_is found h (byte ∷ rest) is = absurd (cc (is))
+complete_is : (found h : LedgerHeader) (rest : List ℕ) → if_complete found rest ≡ Some h → found ≡ h
+complete_is found h [] is = same_Some found h is
+complete_is found h (byte ∷ rest) is = absurd (cc (is))
 
-read_spelled : (bytes : List ℕ) (h : LedgerHeader) (r : Reading XdrFault LedgerHeader) → IsBytes bytes
-    → ledger_header.read (start_of bytes) ≡ r → read_whole r ≡ Some h → IsSpelled ledger_header h
-read_spelled bytes h (Err wrong) text reads is = absurd (cc (is))
-read_spelled bytes h (Ok x) text reads is =
-    let spelled = ledger_header_laws.lawful.takes (start_of bytes) x.1 x.0 text reads in
-    subst (IsSpelled ledger_header) (whole_is x.0 h x.1.rest is)
-    (record { within = spelled.within; sized = spelled.sized })
+read_encoded : (bytes : List ℕ) (h : LedgerHeader) (r : Reading XdrFault LedgerHeader) → IsBytes bytes
+    → ledger_header.read (start_of bytes) ≡ r → read_complete r ≡ Some h → IsEncoded ledger_header h
+read_encoded bytes h (Err wrong) text reads is = absurd (cc (is))
+read_encoded bytes h (Ok x) text reads is =
+    let encoded = ledger_header_laws.lawful.takes (start_of bytes) x.1 x.0 text reads in
+    subst (IsEncoded ledger_header) (complete_is x.0 h x.1.rest is)
+    (record { within = encoded.within; sized = encoded.sized })
 
 -- a header that was read can be written
-header_spelled : (bytes : List ℕ) (h : LedgerHeader) → IsBytes bytes → header_in bytes ≡ Some h
-    → IsSpelled ledger_header h
+header_encoded : (bytes : List ℕ) (h : LedgerHeader) → IsBytes bytes → header_in bytes ≡ Some h
+    → IsEncoded ledger_header h
 unfolding header_in
-header_spelled bytes h text is = read_spelled bytes h (ledger_header.read (start_of bytes)) text refl is
+header_encoded bytes h text is = read_encoded bytes h (ledger_header.read (start_of bytes)) text refl is
 
 pub judged_state : (network : Hash) (image : StartImage) (s : ClosingState) → IsBytes image.header
     → IsJudged network image (Ok s) → IsClosingState s
 judged_state network image s text (h, levels, m, has, kept, is) =
-    let whole : IsWhole image h levels m = record {
-      header = (has.files.header, header_spelled image.header h text has.files.header.reads);
+    let entire : IsComplete image h levels m = record {
+      header = (has.files.header, header_encoded image.header h text has.files.header.reads);
       files = record { are = has.files.files.files; fit = has.files.files.fit };
-      stands = record { marks = has.marks; standing = has.standing };
+      exists = record { marks = has.marks; existing = has.existing };
       judged = (has.hash, kept);
     } in
     subst IsClosingState (sym is)
     (is_kept network (ledger_hash_of h) image h m (record { pairs = levels; seq = h.ledger_seq; pending = [] })
-    whole refl refl).state
+    entire refl refl).state
 
 -- ---- an input
 
@@ -78,7 +63,7 @@ files_bytes image within sized = bytes_of_files 22 536870912 image.files within.
 abbrev SomeOutcome : Hash → Reading XdrFault StartImage → Type 0
 SomeOutcome network r = (o : Outcome) × IsOutcomeOf network r o
 
-by_judgement : EachRun → (network : Hash) (image : StartImage) (q : Place) → IsBytes image.header → IsBytes q.rest
+by_judgement : EachRun → (network : Hash) (image : StartImage) (q : Position) → IsBytes image.header → IsBytes q.rest
     → (judged : Result ClosingState ImageFault) → IsJudged network image judged
     → (o : Outcome) × IsStarted judged q o
 by_judgement runs network image q header rest (Ok s) judged =
@@ -91,9 +76,9 @@ by_reading : EachRun → EachImage → (network : Hash) (input : List ℕ) → I
     → (r : Reading XdrFault StartImage) → start_image.read (start_of input) ≡ r → SomeOutcome network r
 by_reading runs images network input text (Err wrong) reads = (silent (status.BadInput wrong.at), refl)
 by_reading runs images network input text (Ok (image, q)) reads =
-    let spelled = start_image_laws.lawful.takes (start_of input) q image text reads in
-    let found = images network image (files_bytes image spelled.within spelled.sized) in
-    let begun = by_judgement runs network image q (header_bytes image spelled.sized) spelled.taken.rest found.0 found.1
+    let encoded = start_image_laws.lawful.takes (start_of input) q image text reads in
+    let found = images network image (files_bytes image encoded.within encoded.sized) in
+    let begun = by_judgement runs network image q (header_bytes image encoded.sized) encoded.taken.rest found.0 found.1
     in (begun.0, (found.0, found.1, begun.1))
 
 pub each_outcome : EachRun → EachImage → EachOutcome

@@ -2,7 +2,7 @@
 use Rattle.std.specs.Prelude.{ℕ, ◌≤◌, List, length, All, Result, ◌⊎◌}
 use Rattle.close_laws.specs.ledger_types.declared.ids.Hash.{Hash}
 use Rattle.replay.specs.xdr_core.Format.{IsBytes}
-use Rattle.replay.specs.xdr_core.Place.{Place}
+use Rattle.replay.specs.xdr_core.Position.{Position}
 use Rattle.close_laws.specs.xdr_header.declared.image.StartImage.{StartImage}
 use Rattle.close_laws.specs.close_rules.declared.close_fault.CloseFault.{CloseFault}
 use Rattle.close_laws.specs.close_rules.declared.image_fault.ImageFault.{ImageFault}
@@ -19,11 +19,11 @@ abbrev pub EachClose : Type 0
 EachClose = (s : ClosingState) (bytes : List ℕ) → IsClosingState s → IsBytes bytes → length bytes ≤ max_record_len
     → (answer : Result PreparedClose CloseFault) × IsClose s bytes answer
 
--- the bytes behind such a state come to something
+-- the bytes after such a state yield something
 abbrev pub EachRun : Type 0
-EachRun = (s : ClosingState) (p : Place) → IsClosingState s → IsBytes p.rest → (o : Outcome) × IsRun s p o
+EachRun = (s : ClosingState) (p : Position) → IsClosingState s → IsBytes p.rest → (o : Outcome) × IsRun s p o
 
--- an image, of which the files are bytes, stands for a state, or there is a reason why it stands for none
+-- an image, of which the files are bytes, represents a state, or there is a reason why it represents none
 abbrev pub EachImage : Type 0
 EachImage = (network : Hash) (image : StartImage) → All IsBytes image.files
     → (judged : Result ClosingState ImageFault) × IsJudged network image judged
@@ -37,7 +37,7 @@ abbrev pub Opened : Image → Type 0
 Opened c =
     ((s : ClosingState) × IsClosingState s × OpensTo c s)
     ⊎ HoldsNothing c
-    ⊎ ((file : ℕ) × (place : ℕ) × IsBadStore c file place)
+    ⊎ ((file : ℕ) × (index : ℕ) × IsBadStore c file index)
 
 -- so does each content of files that are bytes
 abbrev pub EachContent : Type 0

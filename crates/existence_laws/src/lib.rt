@@ -1,4 +1,4 @@
-//! Laws that there is an answer, over the definitions of closes, images and runs. That there is only one is told by
+//! Laws that there is an answer, over the definitions of closes, images and runs. That there is only one is shown by
 //! `close_laws` and `replay`.
 #![tactic(auto)]
 

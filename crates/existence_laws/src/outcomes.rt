@@ -7,7 +7,7 @@ use crate::images::each_image;
 use close_laws::closes::{next_is_closing, taken_is_closable};
 use image_store::laws::each_content_opens_to_one;
 
-/// The records behind a state come to something.
+/// The records after a state yield something.
 pub fn each_run()
     ensures { spec.EachRun }
 {
@@ -24,7 +24,7 @@ pub fn each_outcome()
     each_image();
 }
 
-/// Each content of a volume opens to a state from which a ledger closes, or has a fault at a file and place, or no
+/// Each content of a volume opens to a state from which a ledger closes, or has a fault at a file and offset, or no
 /// store.
 pub fn each_content()
     ensures { spec.EachContent }

@@ -2,8 +2,9 @@ pub mod Orders
 pub mod Counting
 pub mod Ranking
 pub mod Ranks
-pub mod Places
+pub mod Indices
 pub mod Longer
-pub mod Spelled
+pub mod Encoded
 pub mod Ordered
 pub mod Texts
+pub mod Prelude

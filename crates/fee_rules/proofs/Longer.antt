@@ -1,22 +1,17 @@
--- One transaction more in a list, spelled or in its queue, and one byte more of a mixed hash.
-use Rattle.std.proofs.Common.{◌≡◌, ℕ, ◌+◌, ◌<◌, suc, List, [], ◌∷◌, ◌++◌, length, get_or, take, ap, ◌∙◌, sym, arith}
-use Rattle.std.proofs.Common.{take-suc, map}
-use Rattle.std.proofs.lemmas.List.{map-append}
-use Rattle.std.proofs.lemmas.List.{length-take-le}
-use Rattle.std.specs.Prelude.{bit_xor, slice_index}
-use Rattle.op_types.specs.declared.transaction.TransactionEnvelope.{TransactionEnvelope}
-use Rattle.xdr_tx.specs.Transactions.{transaction_envelope}
-use Rattle.fee_rules.specs.Queues.{queued_of, all_queued_from, all_queued}
-use Rattle.fee_rules.specs.Turns.{mixed_bytes}
+-- One transaction more in a list, encoded or in its queue, and one byte more of a mixed hash.
+use Rattle.fee_rules.proofs.Prelude.{◌≡◌, ℕ, ◌+◌, ◌<◌, suc, List, [], ◌∷◌, ◌++◌, length, get_or, take, ap, ◌∙◌, sym}
+use Rattle.fee_rules.proofs.Prelude.{arith, take-suc, map, map-append, length-take-le, bit_xor, slice_index}
+use Rattle.fee_rules.proofs.Prelude.{TransactionEnvelope, transaction_envelope, queued_of, all_queued_from, all_queued}
+use Rattle.fee_rules.proofs.Prelude.{mixed_bytes}
 
-queued_after : (place : ℕ) (envelopes : List TransactionEnvelope) (e : TransactionEnvelope)
-    → all_queued_from place (envelopes ++ e ∷ [])
-    ≡ all_queued_from place envelopes ++ queued_of (place + length envelopes) e ∷ []
-queued_after place [] e = let same : place ≡ place + 0 = omega arith in ap (λ n. queued_of n e ∷ []) same
-queued_after place (x ∷ xs) e =
-    let same : place + 1 + length xs ≡ place + suc (length xs) = omega arith in
-    ap (λ zs. queued_of place x ∷ zs)
-    (queued_after (place + 1) xs e ∙ ap (λ n. all_queued_from (place + 1) xs ++ queued_of n e ∷ []) same)
+queued_after : (index : ℕ) (envelopes : List TransactionEnvelope) (e : TransactionEnvelope)
+    → all_queued_from index (envelopes ++ e ∷ [])
+    ≡ all_queued_from index envelopes ++ queued_of (index + length envelopes) e ∷ []
+queued_after index [] e = let same : index ≡ index + 0 = omega arith in ap (λ n. queued_of n e ∷ []) same
+queued_after index (x ∷ xs) e =
+    let same : index + 1 + length xs ≡ index + suc (length xs) = omega arith in
+    ap (λ zs. queued_of index x ∷ zs)
+    (queued_after (index + 1) xs e ∙ ap (λ n. all_queued_from (index + 1) xs ++ queued_of n e ∷ []) same)
 
 pub queued_more : (envelopes : List TransactionEnvelope) (i : ℕ) (e : TransactionEnvelope) → i < length envelopes
     → e ≡ get_or envelopes i e
@@ -30,16 +25,16 @@ queued_more envelopes i e within at =
     ∙ queued_after 0 (take i envelopes) e
     ∙ ap (λ n. all_queued (take i envelopes) ++ queued_of n e ∷ []) same
 
-pub spelled_more : (envelopes : List TransactionEnvelope) (i : ℕ) (e : TransactionEnvelope) → i < length envelopes
+pub encoded_more : (envelopes : List TransactionEnvelope) (i : ℕ) (e : TransactionEnvelope) → i < length envelopes
     → e ≡ get_or envelopes i e
-    → map (λ x. transaction_envelope.spell x) (take (i + 1) envelopes)
-    ≡ map (λ x. transaction_envelope.spell x) (take i envelopes) ++ transaction_envelope.spell e ∷ []
-spelled_more envelopes i e within at =
+    → map (λ x. transaction_envelope.encoding x) (take (i + 1) envelopes)
+    ≡ map (λ x. transaction_envelope.encoding x) (take i envelopes) ++ transaction_envelope.encoding e ∷ []
+encoded_more envelopes i e within at =
     let next : i + 1 ≡ suc i = omega arith in
-    let spelled : List TransactionEnvelope → List (List ℕ) = map (λ x. transaction_envelope.spell x) in
-    ap (λ n. spelled (take n envelopes)) next
-    ∙ ap spelled (take-suc envelopes i e within ∙ ap (λ x. take i envelopes ++ x ∷ []) (sym at))
-    ∙ map-append (λ x. transaction_envelope.spell x) (take i envelopes) (e ∷ [])
+    let encoded : List TransactionEnvelope → List (List ℕ) = map (λ x. transaction_envelope.encoding x) in
+    ap (λ n. encoded (take n envelopes)) next
+    ∙ ap encoded (take-suc envelopes i e within ∙ ap (λ x. take i envelopes ++ x ∷ []) (sym at))
+    ∙ map-append (λ x. transaction_envelope.encoding x) (take i envelopes) (e ∷ [])
 
 pub mixed_more : (a b : List ℕ) (n : ℕ)
     → mixed_bytes a b (n + 1) ≡ mixed_bytes a b n ++ bit_xor (slice_index a n) (slice_index b n) ∷ []

@@ -1,17 +1,10 @@
--- The order of application names places of the set's list alone.
-use Rattle.std.proofs.Common.{◌≡◌, ℕ, zero, suc, ◌+◌, ◌<◌, ◌≤◌, Bool, true, false, cond, List, [], ◌∷◌, length}
-use Rattle.std.proofs.Common.{All, Option, Some, None, refl, sym, ap, subst, ◌∙◌, arith}
-use Rattle.std.proofs.lemmas.List.Elements.{All-nil, All-cons, All-append, All-map}
-use Rattle.std.specs.List.{find}
-use Rattle.std.specs.declared.cmp.Ordering.{Ordering}
-use Rattle.op_types.specs.declared.transaction.TransactionEnvelope.{TransactionEnvelope}
-use Rattle.op_types.specs.declared.transaction.TransactionSet.{TransactionSet}
-use Rattle.fee_rules.specs.declared.queued.Queued.{Queued}
-use Rattle.fee_rules.specs.declared.turn.Turn.{Turn}
-use Rattle.fee_rules.specs.Ranking.{at_rank, at_most_one, first_ranked}
-use Rattle.fee_rules.specs.Queues.{queued_of, all_queued_from, all_queued}
-use Rattle.fee_rules.specs.SetHash.{hash_of_set}
-use Rattle.fee_rules.specs.Turns.{turn_cmp, turn_of, turns_of, places_in_order, apply_order_of}
+-- The order of application names indices of the set's list alone.
+use Rattle.fee_rules.proofs.Prelude.{◌≡◌, ℕ, zero, suc, ◌+◌, ◌<◌, ◌≤◌, Bool, true, false, cond, List, [], ◌∷◌, length}
+use Rattle.fee_rules.proofs.Prelude.{Option, Some, None, refl, sym, ap, subst, ◌∙◌, arith, All-nil, All-cons}
+use Rattle.fee_rules.proofs.Prelude.{All-append, All-map, find, Ordering, TransactionEnvelope, TransactionSet, Queued}
+use Rattle.fee_rules.proofs.Prelude.{Turn, at_rank, at_most_one, first_ranked, queued_of, all_queued_from, all_queued}
+use Rattle.fee_rules.proofs.Prelude.{hash_of_set, turn_cmp, turn_of, turns_of, indices_in_order, apply_order_of}
+use Rattle.std.proofs.Common.{All}
 
 -- ---- what is found in a list is of the list
 
@@ -41,29 +34,29 @@ ranked_hold P cmp xs (suc k) all =
     All-append P (first_ranked cmp xs k) (at_most_one (at_rank cmp xs k)) (ranked_hold P cmp xs k all)
     (one_holds P _ xs (at_rank cmp xs k) refl all)
 
--- ---- the places of a set
+-- ---- the indices of a set
 
-one_less : (place left n : ℕ) → place + suc left ≤ n → (place < n) × (place + 1 + left ≤ n)
-one_less place left n le = (omega arith, omega arith)
+one_less : (index left n : ℕ) → index + suc left ≤ n → (index < n) × (index + 1 + left ≤ n)
+one_less index left n le = (omega arith, omega arith)
 
-queued_below : (n place : ℕ) (envelopes : List TransactionEnvelope) → place + length envelopes ≤ n
-    → All (λ (tx : Queued). tx.place < n) (all_queued_from place envelopes)
-queued_below n place [] le = All-nil (λ (tx : Queued). tx.place < n)
-queued_below n place (envelope ∷ envelopes) le =
-    let less = one_less place (length envelopes) n le in
-    All-cons (λ (tx : Queued). tx.place < n) (queued_of place envelope) (all_queued_from (place + 1) envelopes) less.0
-    (queued_below n (place + 1) envelopes less.1)
+queued_below : (n index : ℕ) (envelopes : List TransactionEnvelope) → index + length envelopes ≤ n
+    → All (λ (tx : Queued). tx.index < n) (all_queued_from index envelopes)
+queued_below n index [] le = All-nil (λ (tx : Queued). tx.index < n)
+queued_below n index (envelope ∷ envelopes) le =
+    let less = one_less index (length envelopes) n le in
+    All-cons (λ (tx : Queued). tx.index < n) (queued_of index envelope) (all_queued_from (index + 1) envelopes) less.0
+    (queued_below n (index + 1) envelopes less.1)
 
 itself : (n : ℕ) → 0 + n ≤ n
 itself n = omega arith
 
-pub places_stand : (set : TransactionSet) → All (λ place. place < length set.txs) (apply_order_of set)
-unfolding places_in_order
-places_stand set =
+pub indices_exist : (set : TransactionSet) → All (λ index. index < length set.txs) (apply_order_of set)
+unfolding indices_in_order
+indices_exist set =
     let n = length set.txs in
     let txs = all_queued set.txs in
     let turns = turns_of (hash_of_set set) txs in
-    All-map (λ (place : ℕ). place < n) (λ (turn : Turn). turn.place) (first_ranked turn_cmp turns (length turns))
-    (ranked_hold (λ (turn : Turn). turn.place < n) turn_cmp turns (length turns)
-    (All-map (λ (turn : Turn). turn.place < n) (turn_of (hash_of_set set) txs) txs
+    All-map (λ (index : ℕ). index < n) (λ (turn : Turn). turn.index) (first_ranked turn_cmp turns (length turns))
+    (ranked_hold (λ (turn : Turn). turn.index < n) turn_cmp turns (length turns)
+    (All-map (λ (turn : Turn). turn.index < n) (turn_of (hash_of_set set) txs) txs
     (queued_below n 0 set.txs (itself n))))

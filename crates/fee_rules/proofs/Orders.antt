@@ -1,18 +1,12 @@
 -- The derived orders are the stated ones, and total.
-use Rattle.std.proofs.Common.{◌≡◌, refl, subst}
-use Rattle.std.specs.Cmp.{IsTotalOrder}
-use Rattle.fee_rules.specs.declared.hashed.Hashed.{Hashed}
-use Rattle.fee_rules.specs.declared.queued.Queued.{Queued}
-use Rattle.fee_rules.specs.declared.turn.Turn.{Turn}
+use Rattle.fee_rules.proofs.Prelude.{◌≡◌, refl, subst, IsTotalOrder, Hashed, Queued, Turn, hashed_cmp, queued_cmp}
+use Rattle.fee_rules.proofs.Prelude.{turn_cmp}
 use Rattle.fee_rules.specs.contracts.hashed.HashedOrd.TheImpl as hashed
 use Rattle.fee_rules.specs.contracts.hashed.HashedOrd.TheImpl.Laws as hashed_ord
 use Rattle.fee_rules.specs.contracts.queued.QueuedOrd.TheImpl as queued
 use Rattle.fee_rules.specs.contracts.queued.QueuedOrd.TheImpl.Laws as queued_ord
 use Rattle.fee_rules.specs.contracts.turn.TurnOrd.TheImpl as turns
 use Rattle.fee_rules.specs.contracts.turn.TurnOrd.TheImpl.Laws as turn_ord
-use Rattle.fee_rules.specs.SetHash.{hashed_cmp}
-use Rattle.fee_rules.specs.Queues.{queued_cmp}
-use Rattle.fee_rules.specs.Turns.{turn_cmp}
 
 hashed_compared : (a b : Hashed) → (hashed.cmp-value).it a b ≡ hashed_cmp a b
 hashed_compared a b = refl

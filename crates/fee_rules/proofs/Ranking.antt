@@ -1,18 +1,10 @@
 -- A sorted list without ties, of the elements of another, is that one by ranks.
-use Rattle.std.proofs.Common.{◌≡◌, ℕ, ◌<◌, ◌≤◌, zero, suc, Bool, true, false, cond, List, [], ◌∷◌, ◌++◌, length}
-use Rattle.std.proofs.Common.{get_or, take, Contains, Some, refl, ap, ◌∙◌, sym, subst, arith, nat_eq, eq-eqb}
-use Rattle.std.specs.List.{find, IsDistinct}
-use Rattle.std.specs.List.Sorted.{IsPermutation, IsSorted}
-use Rattle.std.specs.declared.cmp.Ordering.{Ordering}
-use Rattle.std.specs.Ordering.{eq_by_cmp}
-use Rattle.std.specs.Cmp.{IsTotalOrder}
-use Rattle.std.proofs.Common.{take_all, take-suc}
+use Rattle.fee_rules.proofs.Prelude as prelude
+use prelude.{◌≡◌, ℕ, ◌<◌, ◌≤◌, zero, suc, Bool, true, false, cond, List, [], ◌∷◌, ◌++◌, length, get_or, take, Contains}
+use prelude.{Some, refl, ap, ◌∙◌, sym, subst, arith, nat_eq, eq-eqb, find, IsDistinct, IsPermutation, IsSorted}
+use prelude.{Ordering, eq_by_cmp, IsTotalOrder, take_all, take-suc, get_or_default, Contains-get_or, length_permutation}
+use prelude.{Contains-permutation, IsPermutation-sym, rank_of, at_rank, at_most_one, first_ranked, ranked}
 use Rattle.std.proofs.lemmas.Bool.{eqb-true}
-use Rattle.std.proofs.lemmas.List.{get_or_default}
-use Rattle.std.proofs.lemmas.List.Elements.{Contains-get_or}
-use Rattle.std.proofs.lemmas.List.Sorted.{length_permutation}
-use Rattle.std.proofs.lemmas.List.Sorted.{Contains-permutation, IsPermutation-sym}
-use Rattle.fee_rules.specs.Ranking.{rank_of, at_rank, at_most_one, first_ranked, ranked}
 use Rattle.fee_rules.proofs.Counting.{sorted_counts}
 
 -- ---- finding
@@ -20,17 +12,17 @@ use Rattle.fee_rules.proofs.Counting.{sorted_counts}
 record Found {X : Type 0} (p : X → Bool) (xs : List X) (d : X) : Type 0 where
   found : X
   is : find p xs ≡ Some found
-  place : ℕ
-  below : place < length xs
-  there : get_or xs place d ≡ found
+  index : ℕ
+  below : index < length xs
+  there : get_or xs index d ≡ found
   passes : p found ≡ true
 
-here : {X : Type 0} (p : X → Bool) (x : X) (xs : List X) (d : X) → p x ≡ true → Found p (x ∷ xs) d
-here p x xs d q =
+found_at_first : {X : Type 0} (p : X → Bool) (x : X) (xs : List X) (d : X) → p x ≡ true → Found p (x ∷ xs) d
+found_at_first p x xs d q =
     record {
       found = x;
       is = ap (λ b. cond b (Some x) (find p xs)) q;
-      place = 0;
+      index = 0;
       below = omega arith;
       there = refl;
       passes = q;
@@ -41,7 +33,7 @@ later p x xs d q f =
     record {
       found = f.found;
       is = ap (λ b. cond b (Some x) (find p xs)) q ∙ f.is;
-      place = suc f.place;
+      index = suc f.index;
       below = (let h = f.below in omega arith);
       there = f.there;
       passes = f.passes;
@@ -49,24 +41,24 @@ later p x xs d q f =
 
 choose : {X : Type 0} (p : X → Bool) (x : X) (xs : List X) (d : X) (b : Bool) → p x ≡ b
     → (p x ≡ false → Found p xs d) → Found p (x ∷ xs) d
-choose p x xs d true q rest = here p x xs d q
+choose p x xs d true q rest = found_at_first p x xs d q
 choose p x xs d false q rest = later p x xs d q (rest q)
 
 find_some : {X : Type 0} (p : X → Bool) (xs : List X) (i : ℕ) (d : X) → i < length xs → p (get_or xs i d) ≡ true
     → Found p xs d
 find_some p [] i d h e = absurd (omega arith)
-find_some p (x ∷ xs) zero d h e = here p x xs d e
+find_some p (x ∷ xs) zero d h e = found_at_first p x xs d e
 find_some p (x ∷ xs) (suc i) d h e = choose p x xs d (p x) refl (λ q. find_some p xs i d (omega arith) e)
 
 -- ---- ranks
 
 module _ {X : Type 0} {R : X → X → Ordering} (o : IsTotalOrder R) (xs ys : List X) (moved : IsPermutation xs ys)
     (sorted : IsSorted R ys) (apart : IsDistinct (eq_by_cmp R) xs) where
-  -- what is found at a rank stands there in the sorted list
-  stands : (k : ℕ) (d : X) → k < length ys → Found (λ x. nat_eq (rank_of R xs x) k) xs d
+  -- what is found at a rank is there in the sorted list
+  exists : (k : ℕ) (d : X) → k < length ys → Found (λ x. nat_eq (rank_of R xs x) k) xs d
       → at_rank R xs k ≡ Some (get_or ys k d)
-  stands k d within f =
-      let among : Contains xs f.found = subst (λ x. Contains xs x) f.there (Contains-get_or xs f.place d f.below) in
+  exists k d within f =
+      let among : Contains xs f.found = subst (λ x. Contains xs x) f.there (Contains-get_or xs f.index d f.below) in
       let in_order : Contains ys f.found = Contains-permutation xs ys f.found moved among in
       let i = in_order.0 in
       let there : get_or ys i d ≡ f.found = get_or_default ys i d f.found in_order.1 ∙ in_order.2 in
@@ -83,7 +75,7 @@ module _ {X : Type 0} {R : X → X → Ordering} (o : IsTotalOrder R) (xs ys : L
       let counted : rank_of R xs (get_or ys k d) ≡ k = sorted_counts o xs ys moved sorted apart k d within in
       let passes : nat_eq (rank_of R xs (get_or xs back.0 d)) k ≡ true =
       eq-eqb (rank_of R xs (get_or xs back.0 d)) k (ap (rank_of R xs) there ∙ counted) in
-      stands k d within (find_some (λ x. nat_eq (rank_of R xs x) k) xs back.0 d back.1 passes)
+      exists k d within (find_some (λ x. nat_eq (rank_of R xs x) k) xs back.0 d back.1 passes)
 
   first_are : (k : ℕ) (d : X) → k ≤ length ys → first_ranked R xs k ≡ take k ys
   unfolding first_ranked

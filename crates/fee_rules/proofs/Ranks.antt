@@ -1,40 +1,20 @@
--- The rank in a queue, by the place where the run of its source begins.
-use Rattle.std.proofs.Common.{◌≡◌, ◌≢◌, ℕ, ◌+◌, ◌-◌, ◌<◌, ◌≤◌, Bool, true, false, ◌&&◌, List, length, get_or, refl, ap}
-use Rattle.std.proofs.Common.{◌∙◌, sym, subst, arith, ◌⊎◌, inl, inr}
-use Rattle.std.specs.List.{IsDistinct}
-use Rattle.std.specs.List.Sorted.{IsSorted}
-use Rattle.std.specs.declared.cmp.Ordering.{Ordering}
-use Rattle.std.specs.declared.cmp.Ordering.TheVariants.{Less, Equal, Greater}
-use Rattle.std.specs.Ordering.{is_lt, is_eq, eq_by_cmp, ordering_then, ordering_reverse, nat_cmp}
-use Rattle.std.specs.Cmp.{IsTotalOrder}
+-- The rank in a queue, by the index where the run of its source begins.
+use Rattle.fee_rules.proofs.Prelude as prelude
+use prelude.{◌≡◌, ◌≢◌, ℕ, ◌+◌, ◌-◌, ◌<◌, ◌≤◌, Bool, true, false, ◌&&◌, List, length, get_or, refl, ap, ◌∙◌, sym, subst}
+use prelude.{arith, ◌⊎◌, inl, inr, IsDistinct, IsSorted, Ordering, Less, Equal, Greater, is_lt, is_eq, eq_by_cmp}
+use prelude.{ordering_then, ordering_reverse, nat_cmp, IsTotalOrder, sorted_far, ranks_by, apart_from_distinct}
+use prelude.{nat_cmp_total, leb, suc, cond, [], ◌∷◌, ◌++◌, map, take, map-append, Hash, account_cmp, Queued, Turn}
+use prelude.{queue_cmp, queued_cmp, is_ahead, queue_rank, no_tx, at, IsRun, turn_of, mixed_hash, Equal-is}
 use Rattle.std.specs.Cmp.Lexicographic.{lists_total, slice_cmp}
-use Rattle.std.proofs.lemmas.List.Sorted.{sorted_far, ranks_by}
-use Rattle.std.proofs.lemmas.Map.Keys.{apart_from_distinct}
-use Rattle.std.proofs.lemmas.Map.Lookups.{exact_bytes}
-use Rattle.std.proofs.lemmas.Cmp.{nat_cmp_total, tied_itself}
 use Rattle.std.proofs.lemmas.Bool.Decides.{leb_tells}
-use Rattle.std.proofs.Common.{leb, suc, cond, [], ◌∷◌, ◌++◌, map, take}
 use Rattle.std.proofs.Math.Seq.{take-suc}
-use Rattle.std.proofs.lemmas.List.{map-append}
 use Rattle.ledger_types.specs.declared.ids.AccountId.{AccountId}
-use Rattle.ledger_types.specs.declared.ids.Hash.{Hash}
-use Rattle.ledger_types.specs.KeyOrder.{account_cmp}
-use Rattle.fee_rules.specs.declared.queued.Queued.{Queued}
-use Rattle.fee_rules.specs.declared.turn.Turn.{Turn}
-use Rattle.fee_rules.specs.Queues.{queue_cmp, queued_cmp, is_ahead, queue_rank}
-use Rattle.fee_rules.specs.Runs.{no_tx, at, IsRun}
-use Rattle.fee_rules.specs.Turns.{turn_of, mixed_hash}
 use Rattle.fee_rules.proofs.Counting.{must_be_less, middle_counted}
 use Rattle.fee_rules.proofs.Orders.{queued_total}
+use Rattle.ledger_types.proofs.KeyOrdering.{account_cmp_itself, exact_accounts}
 
 bytes_total : IsTotalOrder (λ (a b : List ℕ). slice_cmp nat_cmp a b)
 bytes_total = lists_total nat_cmp_total
-
-same_source : (a b : AccountId) → account_cmp a b ≡ Equal → a ≡ b
-same_source a b e = ap (λ k. record { 0 = k }) (exact_bytes a.0 b.0 e)
-
-tied_source : (a : AccountId) → account_cmp a a ≡ Equal
-tied_source a = tied_itself bytes_total a.0
 
 -- ---- a source and a queue
 
@@ -65,18 +45,13 @@ neither_less Greater Less e h g = absurd (cc)
 neither_less Greater Equal e h g = absurd (cc)
 neither_less Greater Greater e h g = absurd (cc)
 
-only_equal : (r : Ordering) → is_eq r ≡ true → r ≡ Equal
-only_equal Less h = absurd (cc)
-only_equal Equal h = refl
-only_equal Greater h = absurd (cc)
-
 not_equal : (r : Ordering) → is_eq r ≡ false → r ≡ Equal → ⊥
 not_equal Less h e = cc
 not_equal Equal h e = cc
 not_equal Greater h e = cc
 
 differs : (a b : AccountId) (r : Ordering) → account_cmp a b ≡ r → is_eq r ≡ false → a ≢ b
-differs a b r e h = λ s. not_equal r h (sym e ∙ subst (λ x. account_cmp a x ≡ Equal) s (tied_source a))
+differs a b r e h = λ s. not_equal r h (sym e ∙ subst (λ x. account_cmp a x ≡ Equal) s (account_cmp_itself a))
 
 -- ---- ranks
 
@@ -91,15 +66,15 @@ rank_is txs start i d sorted apart le within same before =
     let far = sorted_far (λ x y. is_lt (queued_cmp x y)) (ranks_by queued_total (λ x. x)) txs sorted in
     middle_counted (λ other. is_ahead other tx) d txs start i le (omega arith)
     (λ j h. ahead_apart (account_cmp (get_or txs j d).source tx.source) (queue_cmp (get_or txs j d) tx)
-    (λ e. before j h (same_source _ _ e)))
+    (λ e. before j h (exact_accounts _ _ e)))
     (λ j h g. ahead_true (account_cmp (get_or txs j d).source tx.source) (queue_cmp (get_or txs j d) tx)
-    (subst (λ s. account_cmp (get_or txs j d).source s ≡ Equal) (same j h g) (tied_source (get_or txs j d).source))
+    (subst (λ s. account_cmp (get_or txs j d).source s ≡ Equal) (same j h g) (account_cmp_itself (get_or txs j d).source))
     (must_be_less _ _ (queued_total.antisymm (get_or txs j d) tx) (far j i d (omega arith) within)
     (apart_from_distinct (eq_by_cmp queued_cmp) txs j i d apart g within)))
     (λ j h g. ahead_false (account_cmp (get_or txs j d).source tx.source) (queue_cmp (get_or txs j d) tx)
     (far i j d h g))
 
--- two places of one source with no other source between them
+-- two indices of one source with no other source between them
 sandwiched : (txs : List Queued) (j start i : ℕ) → IsSorted queued_cmp txs → j ≤ start → start ≤ i → i < length txs
     → (at txs j).source ≡ (at txs i).source
     → (at txs start).source ≡ (at txs i).source
@@ -111,10 +86,10 @@ sandwiched txs j start i sorted low high within e =
     ≡ false = source_first _ (queue_cmp (at txs start) (at txs j)) (far j start no_tx low (omega arith)) in
     let second : is_lt (account_cmp b a)
     ≡ false = source_first _ (queue_cmp (at txs i) (at txs start)) (far start i no_tx high within) in
-    same_source a b (neither_less (account_cmp a b) (account_cmp b a) (bytes_total.antisymm a.0 b.0)
+    exact_accounts a b (neither_less (account_cmp a b) (account_cmp b a) (bytes_total.antisymm a.0 b.0)
     (subst (λ s. is_lt (account_cmp a s) ≡ false) e first) second)
 
--- where another source begins at i, no earlier place has its source
+-- where another source begins at i, no earlier index has its source
 earlier : (txs : List Queued) (start i : ℕ) → IsSorted queued_cmp txs → start ≤ i → i < length txs → IsRun txs start i
     → (at txs start).source ≢ (at txs i).source
     → (j : ℕ) → j < i → ((leb start j ≡ true) × (start ≤ j)) ⊎ ((leb start j ≡ false) × (j < start))
@@ -134,16 +109,16 @@ one_more : (set_hash : Hash) (txs : List Queued) (turns : List Turn) (start i : 
     → IsSorted queued_cmp txs → IsDistinct (eq_by_cmp queued_cmp) txs → i < length txs → tx ≡ at txs i → start ≤ i
     → ((j : ℕ) → start ≤ j → j < i → (at txs j).source ≡ (at txs i).source)
     → ((j : ℕ) → j < start → (at txs j).source ≢ (at txs i).source) → turns ≡ map (turn_of set_hash txs) (take i txs)
-    → turns ++ record { queue_rank = i - start; mixed = mixed_hash tx.full_hash set_hash; place = tx.place } ∷ []
+    → turns ++ record { queue_rank = i - start; mixed = mixed_hash tx.full_hash set_hash; index = tx.index } ∷ []
     ≡ map (turn_of set_hash txs) (take (i + 1) txs)
 one_more set_hash txs turns start i tx sorted apart within there le same before done =
     let rank : queue_rank txs (at txs i) ≡ i - start = rank_is txs start i no_tx sorted apart le within same before in
     let next : suc i ≡ i + 1 = omega arith in
-    let turn : record { queue_rank = i - start; mixed = mixed_hash tx.full_hash set_hash; place = tx.place }
+    let turn : record { queue_rank = i - start; mixed = mixed_hash tx.full_hash set_hash; index = tx.index }
     ≡ turn_of set_hash txs
     (at txs i) = λ k. record
-    { queue_rank = sym rank k; mixed = mixed_hash (there k).full_hash set_hash; place = (there k).place } in
-    ap (λ ts. ts ++ record { queue_rank = i - start; mixed = mixed_hash tx.full_hash set_hash; place = tx.place } ∷ [])
+    { queue_rank = sym rank k; mixed = mixed_hash (there k).full_hash set_hash; index = (there k).index } in
+    ap (λ ts. ts ++ record { queue_rank = i - start; mixed = mixed_hash tx.full_hash set_hash; index = tx.index } ∷ [])
     done
     ∙ ap (λ (t : Turn). map (turn_of set_hash txs) (take i txs) ++ t ∷ []) turn
     ∙ sym (map-append (turn_of set_hash txs) (take i txs) (at txs i ∷ []))
@@ -169,11 +144,11 @@ step_by : (set_hash : Hash) (txs : List Queued) (turns : List Turn) (start i : �
     → first ≡ at txs start → tx ≡ at txs i → SoFar set_hash txs turns start i → account_cmp first.source tx.source ≡ r
     → is_eq r ≡ true
     → SoFar set_hash txs (turns
-    ++ record { queue_rank = i - start; mixed = mixed_hash tx.full_hash set_hash; place = tx.place } ∷ []) start (i + 1)
+    ++ record { queue_rank = i - start; mixed = mixed_hash tx.full_hash set_hash; index = tx.index } ∷ []) start (i + 1)
 step_by set_hash txs turns start i first tx r sorted apart within at_start at_i far e is =
-    let equal : account_cmp first.source tx.source ≡ Equal = e ∙ only_equal r is in
+    let equal : account_cmp first.source tx.source ≡ Equal = e ∙ (Equal-is r).0 is in
     let one : (at txs start).source ≡ (at txs i).source = ap (λ (q : Queued). q.source) (sym at_start)
-    ∙ same_source first.source tx.source equal ∙ ap (λ (q : Queued). q.source) at_i in
+    ∙ exact_accounts first.source tx.source equal ∙ ap (λ (q : Queued). q.source) at_i in
     record {
       done = one_more set_hash txs turns start i tx sorted apart within at_i far.low
           (same_there txs start i far.run one) (λ j h. λ s. far.run.before j h (s ∙ sym one)) far.done;
@@ -186,7 +161,7 @@ step_fresh : (set_hash : Hash) (txs : List Queued) (turns : List Turn) (start i 
     → first ≡ at txs start → tx ≡ at txs i → SoFar set_hash txs turns start i → account_cmp first.source tx.source ≡ r
     → is_eq r ≡ false
     → SoFar set_hash txs (turns
-    ++ record { queue_rank = i - i; mixed = mixed_hash tx.full_hash set_hash; place = tx.place } ∷ []) i (i + 1)
+    ++ record { queue_rank = i - i; mixed = mixed_hash tx.full_hash set_hash; index = tx.index } ∷ []) i (i + 1)
 step_fresh set_hash txs turns start i first tx r sorted apart within at_start at_i far e is =
     let other : first.source ≢ tx.source = differs first.source tx.source r e is in
     let apart_there : (at txs start).source ≢ (at txs i).source = λ s. other
@@ -205,7 +180,7 @@ pub step : (set_hash : Hash) (txs : List Queued) (turns : List Turn) (start i : 
     → IsSorted queued_cmp txs → IsDistinct (eq_by_cmp queued_cmp) txs → i < length txs
     → first ≡ at txs start → tx ≡ at txs i → SoFar set_hash txs turns start i → account_cmp first.source tx.source ≡ r
     → SoFar set_hash txs (turns
-    ++ record { queue_rank = i - cond (is_eq r) start i; mixed = mixed_hash tx.full_hash set_hash; place = tx.place } ∷
+    ++ record { queue_rank = i - cond (is_eq r) start i; mixed = mixed_hash tx.full_hash set_hash; index = tx.index } ∷
     []) (cond (is_eq r) start i) (i + 1)
 step set_hash txs turns start i first tx Less sorted apart within at_start at_i far e = step_fresh set_hash txs turns
     start i first tx Less sorted apart within at_start at_i far e refl

@@ -12,8 +12,8 @@ abbrev pub ceil_div : ℕ → ℕ → ℕ
 ceil_div a b = (a + (b - 1)) / b
 
 -- a set of more operations than 100 below the most that a set may have
-abbrev pub is_crowded : ℕ → List TransactionEnvelope → Bool
-is_crowded max_tx_set_size envelopes = nat_lt (max_tx_set_size - 100) (sum_by operation_count envelopes)
+abbrev pub is_in_surge : ℕ → List TransactionEnvelope → Bool
+is_in_surge max_tx_set_size envelopes = nat_lt (max_tx_set_size - 100) (sum_by operation_count envelopes)
 
 -- the lesser of two bids an operation, where there are two
 abbrev pub lesser_bid : ℕ → Option ℕ → ℕ
@@ -34,10 +34,10 @@ abbrev pub bid_or : ℕ → Option ℕ → ℕ
 bid_or base_fee None = base_fee
 bid_or base_fee (Some bid) = bid
 
--- what an operation of the set costs at most, in stroops: the header's fee, or the least bid of a crowded set
+-- what an operation of the set costs at most, in stroops: the header's fee, or the least bid of a surge-priced set
 abbrev pub set_base_fee : LedgerHeader → List TransactionEnvelope → ℕ
 set_base_fee header envelopes =
-    if is_crowded header.max_tx_set_size envelopes then bid_or header.base_fee (least_bid envelopes)
+    if is_in_surge header.max_tx_set_size envelopes then bid_or header.base_fee (least_bid envelopes)
     else header.base_fee
 
 -- what a transaction is charged: never more than its bid, nor than the account of its fee source has

@@ -5,4 +5,4 @@ pub mod Runs
 pub mod SetHash
 pub mod Turns
 pub mod Fees
-pub mod Spellings
+pub mod Encodings

@@ -1,4 +1,4 @@
--- Ranks by counting: what stands at a rank is that before which exactly so many others go.
+-- Ranks by counting: what is at a rank is that before which exactly so many others go.
 use Rattle.std.specs.Prelude.{ℕ, zero, suc, nat_eq, ◌++◌, List, [], ◌∷◌, length, Option, Some, None}
 use Rattle.std.specs.List.{count_by, find}
 use Rattle.std.specs.declared.cmp.Ordering.{Ordering}

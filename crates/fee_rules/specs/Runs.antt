@@ -1,17 +1,17 @@
--- Runs of one source among transactions that stand by source.
+-- Runs of one source among transactions that are ordered by source.
 use Rattle.std.specs.Prelude.{◌≡◌, ◌≢◌, ℕ, ◌<◌, ◌≤◌, pos, List, [], slice_index_or, if◌then◌else◌}
 use Rattle.std.specs.Ordering.{is_eq}
 use Rattle.ledger_types.specs.KeyOrder.{account_cmp}
 use Rattle.fee_rules.specs.declared.queued.Queued.{Queued}
 
--- what no place holds
+-- what no index holds
 abbrev pub no_tx : Queued
-no_tx = record { source = record { 0 = [] }; seq_num = pos 0; full_hash = record { 0 = [] }; place = 0 }
+no_tx = record { source = record { 0 = [] }; seq_num = pos 0; full_hash = record { 0 = [] }; index = 0 }
 
 abbrev pub at : List Queued → ℕ → Queued
 at txs j = slice_index_or txs j no_tx
 
--- the places from start up to i have one source, and those before have another
+-- the indices from start up to i have one source, and those before have another
 pub record IsRun (txs : List Queued) (start i : ℕ) : Type 0 where
   pub same : (j : ℕ) → start ≤ j → j < i → (at txs j).source ≡ (at txs start).source
   pub before : (j : ℕ) → j < start → (at txs j).source ≢ (at txs start).source

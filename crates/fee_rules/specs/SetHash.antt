@@ -16,24 +16,24 @@ use Rattle.fee_rules.specs.Queues.{all_queued}
 use Rattle.fee_rules.specs.Ranking.{ranked}
 
 abbrev pub hashed_of : Queued → Hashed
-hashed_of queued = record { full_hash = queued.full_hash; place = queued.place }
+hashed_of queued = record { full_hash = queued.full_hash; index = queued.index }
 
--- by hash; equal envelopes by their places
+-- by hash; equal envelopes by their indices
 abbrev pub hashed_cmp : Hashed → Hashed → Ordering
-hashed_cmp a b = ordering_then (hash_cmp a.full_hash b.full_hash) (nat_cmp a.place b.place)
+hashed_cmp a b = ordering_then (hash_cmp a.full_hash b.full_hash) (nat_cmp a.index b.index)
 
-abbrev pub spelling_if : Option TransactionEnvelope → List ℕ
-spelling_if None = []
-spelling_if (Some envelope) = transaction_envelope.spell envelope
+abbrev pub encoding_if : Option TransactionEnvelope → List ℕ
+encoding_if None = []
+encoding_if (Some envelope) = transaction_envelope.encoding envelope
 
--- the spelling of the envelope at a place of a list
-abbrev pub spelling_at : List TransactionEnvelope → ℕ → List ℕ
-spelling_at envelopes place = spelling_if (slice_get envelopes place)
+-- the encoding of the envelope at an index of a list
+abbrev pub encoding_at : List TransactionEnvelope → ℕ → List ℕ
+encoding_at envelopes index = encoding_if (slice_get envelopes index)
 
--- the spellings of envelopes, in the order of the envelopes' hashes
-abbrev pub spellings_by_hash : List TransactionEnvelope → List Queued → List (List ℕ)
-spellings_by_hash envelopes queued =
-    map (λ hashed. spelling_at envelopes hashed.place) (ranked hashed_cmp (map hashed_of queued))
+-- the encodings of envelopes, in the order of the envelopes' hashes
+abbrev pub encodings_by_hash : List TransactionEnvelope → List Queued → List (List ℕ)
+encodings_by_hash envelopes queued =
+    map (λ hashed. encoding_at envelopes hashed.index) (ranked hashed_cmp (map hashed_of queued))
 
 unfoldable pub hash_of_set : TransactionSet → Hash
-hash_of_set set = set_hash_of set.previous_ledger_hash (spellings_by_hash set.txs (all_queued set.txs))
+hash_of_set set = set_hash_of set.previous_ledger_hash (encodings_by_hash set.txs (all_queued set.txs))

@@ -20,21 +20,21 @@ mixed_bytes a b (suc n) = mixed_bytes a b n ++ bit_xor (slice_index a n) (slice_
 abbrev pub mixed_hash : Hash → Hash → Hash
 mixed_hash a b = record { 0 = mixed_bytes a.0 b.0 32 }
 
--- by the rank in the queue, then by the full hash xor the set's, and then by place
+-- by the rank in the queue, then by the full hash xor the set's, and then by index
 abbrev pub turn_cmp : Turn → Turn → Ordering
 turn_cmp a b = ordering_then (nat_cmp a.queue_rank b.queue_rank)
-    (ordering_then (hash_cmp a.mixed b.mixed) (nat_cmp a.place b.place))
+    (ordering_then (hash_cmp a.mixed b.mixed) (nat_cmp a.index b.index))
 
 abbrev pub turn_of : Hash → List Queued → Queued → Turn
 turn_of set_hash txs tx =
-    record { queue_rank = queue_rank txs tx; mixed = mixed_hash tx.full_hash set_hash; place = tx.place }
+    record { queue_rank = queue_rank txs tx; mixed = mixed_hash tx.full_hash set_hash; index = tx.index }
 
 abbrev pub turns_of : Hash → List Queued → List Turn
 turns_of set_hash txs = map (turn_of set_hash txs) txs
 
--- the places of transactions in the set's list, in the order in which they are applied
-unfoldable pub places_in_order : Hash → List Queued → List ℕ
-places_in_order set_hash txs = map (λ turn. turn.place) (ranked turn_cmp (turns_of set_hash txs))
+-- the indices of transactions in the set's list, in the order in which they are applied
+unfoldable pub indices_in_order : Hash → List Queued → List ℕ
+indices_in_order set_hash txs = map (λ turn. turn.index) (ranked turn_cmp (turns_of set_hash txs))
 
 abbrev pub apply_order_of : TransactionSet → List ℕ
-apply_order_of set = places_in_order (hash_of_set set) (all_queued set.txs)
+apply_order_of set = indices_in_order (hash_of_set set) (all_queued set.txs)

@@ -36,8 +36,8 @@ fn total_operations(set: &[TransactionEnvelope]) -> u128
 }
 
 /// Whether a set has more operations than 100 below the most that a set may have.
-fn is_crowded(max_tx_set_size: u32, set: &[TransactionEnvelope]) -> bool
-    ensures { result ≡ spec.is_crowded max_tx_set_size set.now }
+fn is_in_surge(max_tx_set_size: u32, set: &[TransactionEnvelope]) -> bool
+    ensures { result ≡ spec.is_in_surge max_tx_set_size set.now }
 {
     total_operations(set) > u128::from(max_tx_set_size.saturating_sub(100))
 }
@@ -91,7 +91,7 @@ fn least_bid(set: &[TransactionEnvelope]) -> Option<u64>
 pub fn set_base_fee(header: &LedgerHeader, set: &TransactionSet) -> i64
     ensures fee { result ≡ pos (spec.set_base_fee header.now set.now.txs) }
 {
-    if !is_crowded(header.max_tx_set_size, set.txs.as_slice()) {
+    if !is_in_surge(header.max_tx_set_size, set.txs.as_slice()) {
         return i64::from(header.base_fee);
     }
     match least_bid(set.txs.as_slice()) {
@@ -111,8 +111,8 @@ pub fn fee_charged(base_fee: i64, envelope: &TransactionEnvelope, balance: i64) 
     u128::from(not_below_0(balance)).min(most) as i64
 }
 
-/// What a balance has behind a fee of at most what the balance had, in stroops: nothing more where it was below 0.
-pub fn behind_fee(balance: i64, fee: i64) -> i64
+/// What a balance has after a fee of at most what the balance had, in stroops: nothing more where it was below 0.
+pub fn after_fee(balance: i64, fee: i64) -> i64
     requires low { pos 0 ≤ℤ fee }
     requires most { fee ≤ℤ pos (envelopes.not_below_0 balance) }
     ensures { result ≡ balance -ℤ fee }

@@ -3,7 +3,7 @@
 ghost use Rattle.std.specs.Prelude.{◌≡◌, IfOk, map};
 ghost use Rattle.std.specs.List.{IsDistinct};
 ghost use Rattle.std.specs.Ordering.{eq_by_cmp};
-ghost use Rattle.fee_rules.specs.Queues.{has_place_of};
+ghost use Rattle.fee_rules.specs.Queues.{has_index_of};
 ghost use Rattle.fee_rules.specs.Ranking.{ranked};
 ghost use Rattle.fee_rules.specs.SetHash as spec;
 
@@ -11,30 +11,30 @@ use crate::queued::Queued;
 use ledger_types::Hash;
 use std::alloc::{AllocError, Global};
 
-/// An envelope's hash and its place in the set's list. These are ordered by hash, and equal envelopes by their places.
+/// An envelope's hash and its index in the set's list. These are ordered by hash, and equal envelopes by their indices.
 #[derive(Clone, Copy, PartialEq, Eq, PartialOrd, Ord)]
 pub(crate) struct Hashed {
     pub full_hash: Hash,
-    pub place: u32,
+    pub index: u32,
 }
 
-/// The hash and the place of an envelope.
-fn hash_and_place(queued: &Queued) -> Hashed
+/// The hash and the index of an envelope.
+fn hash_and_index(queued: &Queued) -> Hashed
     ensures { result ≡ spec.hashed_of queued.now }
 {
     Hashed {
         full_hash: queued.full_hash,
-        place: queued.place,
+        index: queued.index,
     }
 }
 
-/// The hashes and places of envelopes.
+/// The hashes and indices of envelopes.
 fn all_hashed(alloc: Global, queued: &[Queued]) -> Result<Vec<Hashed>, AllocError>
     ensures { IfOk result (λ hashed. hashed.items ≡ map spec.hashed_of queued.now) }
 {
     queued
         .iter()
-        .map(|queued| hash_and_place(queued))
+        .map(|queued| hash_and_index(queued))
         .collect(alloc)
 }
 
@@ -50,7 +50,7 @@ fn by_hash(hashed: Vec<Hashed>) -> Result<Vec<Hashed>, AllocError>
 
 /// Envelopes in the order of their hashes.
 pub(crate) fn in_order(alloc: Global, queued: &[Queued]) -> Result<Vec<Hashed>, AllocError>
-    requires { IsDistinct has_place_of queued.now }
+    requires { IsDistinct has_index_of queued.now }
     ensures { IfOk result (λ order. order.items ≡ ranked spec.hashed_cmp (map spec.hashed_of queued.now)) }
 {
     let hashed = all_hashed(alloc, queued)?;

@@ -18,23 +18,23 @@ pub(crate) struct Queued {
     pub seq_num: i64,
     /// The hash of the envelope with its signatures.
     pub full_hash: Hash,
-    /// Where the envelope stands in the set's list.
-    pub place: u32,
+    /// The index of the envelope in the set's list.
+    pub index: u32,
 }
 
-/// A transaction in the queue of its source, whose envelope has this spelling.
+/// A transaction in the queue of its source, whose envelope has this encoding.
 pub(crate) fn queued_at(
-    place: u32,
+    index: u32,
     envelope: &TransactionEnvelope,
     text: &[u8],
 ) -> Result<Queued, AllocError>
-    requires { text.now ≡ transaction_envelope.spell envelope.now }
-    ensures { IfOk result (λ queued. queued ≡ spec.queued_of place envelope.now) }
+    requires { text.now ≡ transaction_envelope.encoding envelope.now }
+    ensures { IfOk result (λ queued. queued ≡ spec.queued_of index envelope.now) }
 {
     Ok(Queued {
         source: source(envelope),
         seq_num: seq_num(envelope),
         full_hash: full_hash(text)?,
-        place,
+        index,
     })
 }

@@ -2,8 +2,8 @@
 
 ghost use Rattle.std.specs.Prelude.{◌≡◌, IfOk, map};
 ghost use Rattle.std.specs.List.{IsDistinct};
-ghost use Rattle.fee_rules.specs.Queues.{has_place_of};
-ghost use Rattle.fee_rules.specs.Spellings.{text_at, texts_by_hash};
+ghost use Rattle.fee_rules.specs.Queues.{has_index_of};
+ghost use Rattle.fee_rules.specs.Encodings.{text_at, texts_by_hash};
 ghost use Rattle.hash_ids.specs.Ids.{set_hash_of};
 
 use crate::hashed::{Hashed, in_order};
@@ -11,11 +11,11 @@ use crate::queued::Queued;
 use ledger_types::Hash;
 use std::alloc::{AllocError, Global};
 
-/// The text at a place of a list, or nothing.
-fn text_in<'a>(texts: &'a [Vec<u8>], place: u32) -> &'a [u8]
-    ensures { result.now ≡ text_at (map (λ text. text.items) texts.now) place }
+/// The text at an index of a list, or nothing.
+fn text_in<'a>(texts: &'a [Vec<u8>], index: u32) -> &'a [u8]
+    ensures { result.now ≡ text_at (map (λ text. text.items) texts.now) index }
 {
-    match texts.get(place as usize) {
+    match texts.get(index as usize) {
         None => &[],
         Some(text) => text.as_slice(),
     }
@@ -28,17 +28,17 @@ fn texts_in<'a>(
     order: &[Hashed],
 ) -> Result<Vec<&'a [u8]>, AllocError>
     ensures { IfOk result (λ found. map (λ text. text.now) found.items
-        ≡ map (λ hashed. text_at (map (λ text. text.items) texts.now) hashed.place) order.now) }
+        ≡ map (λ hashed. text_at (map (λ text. text.items) texts.now) hashed.index) order.now) }
 {
     let mut found = Vec::with_capacity(alloc, order.len())?;
     for hashed in order {
-        found.push(text_in(texts, hashed.place))?;
+        found.push(text_in(texts, hashed.index))?;
     }
     Ok(found)
 }
 
-/// The hash of a set behind the ledger with this hash, whose envelopes have these spellings and stand in these queues:
-/// SHA-256 of the hash of the ledger before it and of the spellings in the order of their own hashes, without a count
+/// The hash of a set after the ledger with this hash, whose envelopes have these encodings and are in these queues:
+/// SHA-256 of the hash of the ledger before it and of the encodings in the order of their own hashes, without a count
 /// (TxSetFrame::getContentsHash in stellar-core).
 pub(crate) fn hash_of_texts(
     alloc: Global,
@@ -46,7 +46,7 @@ pub(crate) fn hash_of_texts(
     texts: &[Vec<u8>],
     queued: &[Queued],
 ) -> Result<Hash, AllocError>
-    requires { IsDistinct has_place_of queued.now }
+    requires { IsDistinct has_index_of queued.now }
     ensures { IfOk result (λ hash. hash
         ≡ set_hash_of previous.now (texts_by_hash (map (λ text. text.items) texts.now) queued.now)) }
 {

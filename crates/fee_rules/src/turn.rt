@@ -13,15 +13,15 @@ use ledger_types::Hash;
 use std::alloc::{AllocError, Global};
 use std::cmp::Ordering;
 
-/// When a transaction goes. Turns are ordered by rank, mixed hash and place.
+/// When a transaction goes. Turns are ordered by rank, mixed hash and index.
 #[derive(Clone, Copy, PartialEq, Eq, PartialOrd, Ord)]
 pub(crate) struct Turn {
     /// How many of its source go before it.
     pub queue_rank: u32,
     /// Its full hash xor the set's.
     pub mixed: Hash,
-    /// Where its envelope stands in the set's list.
-    pub place: u32,
+    /// The index of its envelope in the set's list.
+    pub index: u32,
 }
 
 /// A hash, bit by bit xor another one.
@@ -47,7 +47,7 @@ fn run_start(first: &Queued, tx: &Queued, start: usize, i: usize) -> usize
     }
 }
 
-/// The turns of transactions that stand by source and as in their queues.
+/// The turns of transactions that are ordered by source and as in their queues.
 pub(crate) fn turns_of(
     alloc: Global,
     set_hash: &Hash,
@@ -65,7 +65,7 @@ pub(crate) fn turns_of(
         turns.push(Turn {
             queue_rank: (i - start) as u32,
             mixed: mixed_hash(&tx.full_hash, set_hash),
-            place: tx.place,
+            index: tx.index,
         })?;
     }
     Ok(turns)

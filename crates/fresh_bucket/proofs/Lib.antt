@@ -1,5 +1,6 @@
 pub mod Listed
 pub mod Revalued
-pub mod Told
-pub mod Spelled
+pub mod Stated
+pub mod Encoded
 pub mod Nothing
+pub mod Prelude

@@ -1,34 +1,10 @@
 -- Lists that have exactly the values of which something holds, as rows under their keys.
-use Rattle.std.proofs.Common.{◌≡◌, ◌↔◌, ◌<◌, Bool, true, false, cond, List, [], ◌∷◌, Some, None, map}
-use Rattle.std.proofs.Common.{refl, sym, ap, subst, ◌∙◌, arith, length, suc, get_or, All, Contains}
-use Rattle.std.specs.declared.cmp.Ordering.{Ordering}
-use Rattle.std.specs.declared.cmp.Ordering.TheVariants.{Less}
-use Rattle.std.specs.Ordering.{is_lt, is_eq, eq_by_cmp}
-use Rattle.std.specs.Cmp.{tied_itself}
-use Rattle.std.specs.List.{AllByRecursion}
-use Rattle.std.specs.FinMap.Entries.{find, is_sorted, below_all}
-use Rattle.std.proofs.lemmas.List.{get_or-map}
-use Rattle.std.proofs.lemmas.List.Elements.{All-head, All-tail, Contains-get_or}
-use Rattle.ledger_types.specs.declared.key.LedgerKey.{LedgerKey}
-use Rattle.ledger_types.specs.KeyOrder.{key_cmp}
-use Rattle.ledger_types.proofs.KeyOrdering.{keys_total}
-use Rattle.entry_map.specs.KeyMaps.{AreRising}
-use Rattle.entry_table.specs.Rows.{value_at}
-use Rattle.entry_table.proofs.Walks.{both, first, second, is_less, none_found, Sorted, Above}
-use Rattle.entry_table.proofs.Places.{found_at, at_of}
-
-same_length : {X Y : Type 0} (f : X → Y) (xs : List X) → length (map f xs) ≡ length xs
-same_length f [] = refl
-same_length f (x ∷ xs) = ap suc (same_length f xs)
-
-in_map : {X Y : Type 0} (f : X → Y) (xs : List X) (x : X) → Contains xs x → Contains (map f xs) (f x)
-in_map f xs x h = (h.0, omega (arith, same_length f xs, h.1), get_or-map f xs h.0 x (f x) h.1 ∙ ap f h.2)
-
-of_map : {X Y : Type 0} (f : X → Y) (xs : List X) (y : Y) → Contains (map f xs) y → (x : X) × Contains xs x × (y ≡ f x)
-of_map f [] y h = absurd (omega (arith, h.1))
-of_map f (x ∷ xs) y h =
-    let within : h.0 < length (x ∷ xs) = omega (arith, h.1, same_length f (x ∷ xs)) in
-    (get_or (x ∷ xs) h.0 x, Contains-get_or (x ∷ xs) h.0 x within, sym h.2 ∙ get_or-map f (x ∷ xs) h.0 x y within)
+use Rattle.fresh_bucket.proofs.Prelude.{◌≡◌, ◌↔◌, Bool, true, false, cond, List, [], ◌∷◌, Some, None, map, refl, sym}
+use Rattle.fresh_bucket.proofs.Prelude.{ap, subst, All, Contains, Ordering, Less, is_lt, is_eq, eq_by_cmp, tied_itself}
+use Rattle.fresh_bucket.proofs.Prelude.{AllByRecursion, find, is_sorted, below_all, All-head, All-tail, LedgerKey}
+use Rattle.fresh_bucket.proofs.Prelude.{key_cmp, keys_total, AreRising, value_at, both, first, second, is_less}
+use Rattle.fresh_bucket.proofs.Prelude.{none_found, Sorted, Above, contained_in_map, map_contains}
+use Rattle.entry_table.proofs.Positions.{found_at, at_of}
 
 abbrev pub listed : {X V : Type 0} → (X → LedgerKey) → (X → V) → List X → List (LedgerKey × V)
 listed key f xs = map (λ x. (key x, f x)) xs
@@ -50,14 +26,14 @@ module _ {X V : Type 0} (key : X → LedgerKey) (f : X → V) (P : X → Type 0)
     (rises : AreRising (map key xs)) (all : (x : X) → Contains xs x ↔ P x) where
   pub there : (x : X) → P x → value_at (key x) (listed key f xs) ≡ Some (f x)
   there x p =
-      let h = in_map (λ y. (key y, f y)) xs x ((all x).1 p) in
+      let h = map_contains (λ y. (key y, f y)) xs x ((all x).1 p) in
       subst (λ (y : LedgerKey × V). find key_cmp y.0 (listed key f xs) ≡ Some y.1) h.2
       (found_at (listed key f xs) h.0 (key x, f x) (sorted key f xs rises) h.1)
 
   pub source : (k : LedgerKey) (v : V) → value_at k (listed key f xs) ≡ Some v
       → (x : X) × P x × (key x ≡ k) × (v ≡ f x)
   source k v h =
-      let x = of_map (λ y. (key y, f y)) xs (k, v) (at_of (listed key f xs) k v (k, v) h) in
+      let x = contained_in_map (λ y. (key y, f y)) xs (k, v) (at_of (listed key f xs) k v (k, v) h) in
       (x.0, (all x.0).0 x.1, sym (ap (λ (y : LedgerKey × V). y.0) x.2), ap (λ (y : LedgerKey × V). y.1) x.2)
 
   pub nowhere : (k : LedgerKey) → ((x : X) → key x ≡ k → P x → ⊥) → value_at k (listed key f xs) ≡ None

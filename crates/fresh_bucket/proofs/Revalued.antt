@@ -1,13 +1,7 @@
 -- Rows whose values are taken for others: their keys stay.
-use Rattle.std.proofs.Common.{◌≡◌, true, false, cond, List, [], ◌∷◌, Option, Some, None, map, option_map}
-use Rattle.std.proofs.Common.{refl, sym, ap, ◌∙◌}
-use Rattle.std.specs.Option.{option_or}
-use Rattle.std.specs.Ordering.{is_lt, eq_by_cmp}
-use Rattle.std.specs.FinMap.Entries.{find, is_sorted, below_all}
-use Rattle.ledger_types.specs.declared.key.LedgerKey.{LedgerKey}
-use Rattle.ledger_types.specs.KeyOrder.{key_cmp}
-use Rattle.entry_table.specs.Rows.{value_at, IsOverlaid}
-use Rattle.entry_table.proofs.Walks.{both, first, second, Sorted, Above}
+use Rattle.fresh_bucket.proofs.Prelude.{◌≡◌, true, false, cond, List, [], ◌∷◌, Option, Some, None, map, option_map}
+use Rattle.fresh_bucket.proofs.Prelude.{refl, sym, ap, ◌∙◌, option_or, is_lt, eq_by_cmp, find, is_sorted, below_all}
+use Rattle.fresh_bucket.proofs.Prelude.{LedgerKey, key_cmp, value_at, IsOverlaid, both, first, second, Sorted, Above}
 
 or_mapped : {V W : Type 0} (f : V → W) (a b : Option V)
     → option_map f (option_or a b) ≡ option_or (option_map f a) (option_map f b)

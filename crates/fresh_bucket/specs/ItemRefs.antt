@@ -6,7 +6,7 @@ use Rattle.ledger_types.specs.declared.key.LedgerKey.{LedgerKey}
 use Rattle.fresh_bucket.specs.declared.item_ref.ItemRef.{ItemRef}
 use Rattle.fresh_bucket.specs.declared.item_ref.ItemRef.TheVariants as at
 
--- the item that stands there
+-- the item that is there
 abbrev pub item_at : ItemRef → BucketEntry
 item_at (at.Init entry) = bucket.Init entry.now
 item_at (at.Live entry) = bucket.Live entry.now

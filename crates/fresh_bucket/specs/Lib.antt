@@ -1,3 +1,3 @@
-pub mod Spellable
+pub mod Encodable
 pub mod Items
 pub mod ItemRefs

@@ -3,7 +3,7 @@
 ghost use Rattle.std.specs.Prelude.{◌≡◌, Some, IfOk};
 ghost use Rattle.entry_map.specs.EntryMap.{EntryMap, IsKeyed};
 ghost use Rattle.entry_table.specs.entry_changes.Next.{IsExactBatch};
-ghost use Rattle.entry_table.specs.entry_changes.Spellable.{AreSpellable};
+ghost use Rattle.entry_table.specs.entry_changes.Encodable.{AreEncodable};
 ghost use Rattle.bucket_core.specs.Bucket.{version_of};
 ghost use Rattle.bucket_levels.specs.Fresh.{IsFresh};
 
@@ -17,7 +17,7 @@ use std::sync::Arc;
 /// The bucket of what a close changed: META of the version, and INIT, LIVE and DEAD in the order of their keys.
 pub fn fresh_bucket(alloc: Global, version: u32, batch: &Batch) -> Result<Arc<Bucket>, AllocError>
     requires { (before : EntryMap) × (after : EntryMap)
-        × IsExactBatch before after batch.now × IsKeyed before × AreSpellable before × AreSpellable after }
+        × IsExactBatch before after batch.now × IsKeyed before × AreEncodable before × AreEncodable after }
     ensures fresh { (before : EntryMap) (after : EntryMap) → IsExactBatch before after batch.now → IsKeyed after
         → IfOk result (λ bucket. IsFresh before after bucket.value) }
     ensures version { IfOk result (λ bucket. version_of bucket.value ≡ Some version) }

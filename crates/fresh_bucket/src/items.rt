@@ -64,7 +64,7 @@ fn gone_row<'a>(alloc: Global, keys: &'a [LedgerKey]) -> Result<Vec<Kept<ItemRef
     Ok(row)
 }
 
-/// The items that a batch tells, in the order of their keys, where the batch has them.
+/// The items that a batch states, in the order of their keys, where the batch has them.
 pub(crate) fn item_row<'a>(
     alloc: Global,
     batch: &'a Batch,

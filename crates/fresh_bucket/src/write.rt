@@ -4,7 +4,7 @@ ghost use Rattle.std.specs.Prelude.{◌≡◌, ◌++◌, ◌<◌, ◌^◌, map, 
 ghost use Rattle.std.specs.List.{flat_map};
 ghost use Rattle.ledger_types.specs.declared.bucket.BucketEntry.TheVariants as bucket;
 ghost use Rattle.xdr_entries.specs.Keys as spec;
-ghost use Rattle.bucket_core.specs.bucket_items.MarkedItem.{record_of, IsSpellable};
+ghost use Rattle.bucket_core.specs.bucket_items.MarkedItem.{record_of, IsEncodable};
 ghost use Rattle.fresh_bucket.specs.ItemRefs.{item_at, items_at};
 
 use crate::item_ref::ItemRef;
@@ -26,11 +26,11 @@ const DEADENTRY: i32 = 1;
 /// INITENTRY (BucketEntryType in Stellar-ledger.x).
 const INITENTRY: i32 = 2;
 
-/// Writes an item: its spelling stands at the end.
+/// Writes an item: its encoding is at the end.
 #[tactic(auto, unfolding(xdr_entries::specs::Keys::bucket_entry, xdr_core::specs::Leaves::i32))]
-fn spell_item(item: &ItemRef<'_>, text: &mut Builder) -> Result<(), AllocError>
+fn encode_item(item: &ItemRef<'_>, text: &mut Builder) -> Result<(), AllocError>
     requires { spec.bucket_entry.within (item_at item.now) }
-    ensures { OnOk result (text.new ≡ text.old ++ spec.bucket_entry.spell (item_at item.now)) }
+    ensures { OnOk result (text.new ≡ text.old ++ spec.bucket_entry.encoding (item_at item.now)) }
 {
     match item {
         ItemRef::Init(entry) => {
@@ -48,21 +48,21 @@ fn spell_item(item: &ItemRef<'_>, text: &mut Builder) -> Result<(), AllocError>
     }
 }
 
-/// Puts an item behind its record mark at the end of a file.
+/// Puts an item after its record mark at the end of a file.
 #[tactic(auto, unfolding(xdr_core::specs::Leaves::mark))]
 fn write_item(alloc: Global, item: &ItemRef<'_>, file: &mut Builder) -> Result<(), AllocError>
-    requires { IsSpellable (item_at item.now) }
+    requires { IsEncodable (item_at item.now) }
     ensures { OnOk result (file.new ≡ file.old ++ record_of (item_at item.now)) }
 {
     let mut text = Builder::new(alloc);
-    spell_item(item, &mut text)?;
+    encode_item(item, &mut text)?;
     file.mark(text.as_slice(), MAX_ITEM_LEN)
 }
 
-/// Puts META behind its record mark at the end of a file.
+/// Puts META after its record mark at the end of a file.
 #[tactic(auto, unfolding(xdr_core::specs::Leaves::mark))]
 fn write_meta(alloc: Global, version: u32, file: &mut Builder) -> Result<(), AllocError>
-    requires { IsSpellable (bucket.Meta version) }
+    requires { IsEncodable (bucket.Meta version) }
     ensures { OnOk result (file.new ≡ file.old ++ record_of (bucket.Meta version)) }
 {
     let meta = BucketEntry::Meta {
@@ -79,7 +79,7 @@ fn write_items(
     row: &[Kept<ItemRef<'_>>],
     file: &mut Builder,
 ) -> Result<(), AllocError>
-    requires { All (λ x. IsSpellable (item_at x.1)) row.now }
+    requires { All (λ x. IsEncodable (item_at x.1)) row.now }
     ensures { OnOk result (file.new ≡ file.old ++ flat_map record_of (map (λ x. x.1) (items_at row.now))) }
 {
     for kept in row {
@@ -94,7 +94,7 @@ pub(crate) fn file_of(
     version: u32,
     row: &[Kept<ItemRef<'_>>],
 ) -> Result<Vec<u8>, AllocError>
-    requires { All (λ x. IsSpellable (item_at x.1)) row.now }
+    requires { All (λ x. IsEncodable (item_at x.1)) row.now }
     ensures { IfOk result (λ file.
         file.items ≡ record_of (bucket.Meta version) ++ flat_map record_of (map (λ x. x.1) (items_at row.now))) }
 {

@@ -1,29 +1,25 @@
 -- Reading one block.
-use Rattle.std.proofs.Common.{◌≡◌, ℕ, ◌+◌, ◌<◌, ◌≤◌, List, [], ◌∷◌, ◌++◌, length, take, drop, get_or, sym, ◌∙◌, ap}
-use Rattle.std.proofs.Common.{subst, arith, length-append, take-append-drop}
-use Rattle.std.proofs.lemmas.List.{drop-drop}
+use Rattle.gate_journal.proofs.Prelude.{◌≡◌, ℕ, ◌+◌, ◌<◌, ◌≤◌, List, [], ◌∷◌, ◌++◌, length, take, drop, get_or, sym}
+use Rattle.gate_journal.proofs.Prelude.{◌∙◌, ap, subst, arith, length-append, take-append-drop, drop-drop, big_number}
+use Rattle.gate_journal.proofs.Prelude.{big_bytes, big_number-reads_back, max_record, block, IsBroken, IsOpen}
 use Rattle.std.proofs.lemmas.Nat.{be_bytes_4}
 use Rattle.std.specs.Int.{w32, from_be_bytes}
-use Rattle.byteorder.specs.Endian.{big_number, big_bytes}
-use Rattle.byteorder.specs.Numbers.{big_number-reads_back}
-use Rattle.gate_journal.specs.Records.{max_record, block, IsBroken}
-use Rattle.gate_journal.specs.Reading.{IsOpen}
 
--- an open gate is broken where no record stands behind it
+-- an open gate is broken where no record follows it
 pub broken_by : (rest : List ℕ) → IsOpen rest
     → ((bytes more : List ℕ) → length bytes ≤ max_record → rest ≡ block bytes ++ more → ⊥) → IsBroken rest
 broken_by [] opened none = tt
-broken_by (gate ∷ behind) opened none = (ap (λ (l : List ℕ). get_or l 0 0) opened, none)
+broken_by (gate ∷ following) opened none = (ap (λ (l : List ℕ). get_or l 0 0) opened, none)
 
 pub length_block : (bytes more : List ℕ) → length (block bytes ++ more) ≡ 5 + length bytes + length more
 length_block bytes more = omega (arith, length-append (block bytes) more)
 
 -- the length that a block begins with
-pub length_told : (bytes more rest head : List ℕ) → length bytes ≤ max_record → rest ≡ block bytes ++ more
+pub length_reported : (bytes more rest head : List ℕ) → length bytes ≤ max_record → rest ≡ block bytes ++ more
     → head ≡ take 4 (drop 1 rest)
     → big_number 4 head ≡ length bytes
-length_told bytes more rest head short is front =
-    let same : head ≡ big_bytes 4 (length bytes) = front ∙ ap (λ (l : List ℕ). take 4 (drop 1 l)) is in
+length_reported bytes more rest head short is prefix =
+    let same : head ≡ big_bytes 4 (length bytes) = prefix ∙ ap (λ (l : List ℕ). take 4 (drop 1 l)) is in
     ap (big_number 4) same ∙ big_number-reads_back 4 (length bytes) [] (omega arith)
 
 pub too_short : (rest : List ℕ) → IsOpen rest → length rest < 5 → IsBroken rest
@@ -32,34 +28,34 @@ too_short rest opened less =
 
 pub no_room : (rest head : List ℕ) (count : ℕ) → IsOpen rest → head ≡ take 4 (drop 1 rest) → count ≡ big_number 4 head
     → (count ≤ max_record → length rest < 5 + count) → IsBroken rest
-no_room rest head count opened front counts less = broken_by rest opened (λ bytes more short is.
-    let same : count ≡ length bytes = counts ∙ length_told bytes more rest head short is front in
+no_room rest head count opened prefix counts less = broken_by rest opened (λ bytes more short is.
+    let same : count ≡ length bytes = counts ∙ length_reported bytes more rest head short is prefix in
     absurd (omega (arith, less (omega (arith, same, short)), ap length is, length_block bytes more)))
 
-pub spelled_by : (head : List ℕ) (count : ℕ) → length head ≡ 4 → ((i : ℕ) → get_or head i 0 < 256)
+pub encoded_by : (head : List ℕ) (count : ℕ) → length head ≡ 4 → ((i : ℕ) → get_or head i 0 < 256)
     → count ≡ big_number 4 head
     → big_bytes 4 count ≡ head
-spelled_by head count four fits counts =
+encoded_by head count four fits counts =
     let word : count ≡ from_be_bytes w32 head = counts ∙ omega arith in
     be_bytes_4 head count four fits word
 
--- what stands from an open gate on, by the length behind it
-pub head_stands : (rest head : List ℕ) (count : ℕ) → IsOpen rest → big_bytes 4 count ≡ head
+-- what is there from an open gate on, by the length after it
+pub head_is_there : (rest head : List ℕ) (count : ℕ) → IsOpen rest → big_bytes 4 count ≡ head
     → head ≡ take 4 (drop 1 rest) → rest ≡ (1 ∷ big_bytes 4 count) ++ drop 5 rest
-head_stands rest head count opened back front =
+head_is_there rest head count opened back prefix =
     opened ∙ ap (λ (l : List ℕ). 1 ∷ l) (sym (take-append-drop 4 (drop 1 rest)))
-    ∙ ap (λ (l : List ℕ). (1 ∷ l) ++ drop 4 (drop 1 rest)) (sym (back ∙ front))
+    ∙ ap (λ (l : List ℕ). (1 ∷ l) ++ drop 4 (drop 1 rest)) (sym (back ∙ prefix))
     ∙ ap (λ (l : List ℕ). (1 ∷ big_bytes 4 count) ++ l) (drop-drop 4 1 rest)
 
 -- and by its bytes
-pub block_stands : (rest bytes : List ℕ) (count : ℕ) → rest ≡ (1 ∷ big_bytes 4 count) ++ drop 5 rest
+pub block_is_there : (rest bytes : List ℕ) (count : ℕ) → rest ≡ (1 ∷ big_bytes 4 count) ++ drop 5 rest
     → length bytes ≡ count
     → bytes ≡ take count (drop 5 rest) → rest ≡ block bytes ++ drop (5 + length bytes) rest
-block_stands rest bytes count head long front =
+block_is_there rest bytes count head long prefix =
     head ∙ ap (λ (n : ℕ). (1 ∷ big_bytes 4 n) ++ drop 5 rest) (sym long)
     ∙ ap (λ (l : List ℕ). (1 ∷ big_bytes 4 (length bytes)) ++ l) (sym (take-append-drop (length bytes) (drop 5 rest)))
     ∙ ap (λ (l : List ℕ). (1 ∷ big_bytes 4 (length bytes)) ++ (l ++ drop (length bytes) (drop 5 rest)))
-    (ap (λ (n : ℕ). take n (drop 5 rest)) long ∙ sym front)
+    (ap (λ (n : ℕ). take n (drop 5 rest)) long ∙ sym prefix)
     ∙ ap (λ (l : List ℕ). block bytes ++ l) (drop-drop (length bytes) 5 rest)
 
 -- a record was read, from a file that stayed as it was
@@ -71,6 +67,6 @@ pub record_read : (at count : ℕ) (file mid late bytes : List ℕ) → mid ≡ 
 record_read at count file mid late bytes first second head long read short =
     let there : drop at file ≡ (1 ∷ big_bytes 4 count) ++ drop 5 (drop at file)
     = subst (λ (l : List ℕ). drop at l ≡ (1 ∷ big_bytes 4 count) ++ drop 5 (drop at l)) first head in
-    let front : bytes ≡ take count (drop 5 (drop at file))
+    let prefix : bytes ≡ take count (drop 5 (drop at file))
     = read ∙ ap (λ (l : List ℕ). take count (drop (at + 5) l)) second ∙ ap (take count) (sym (drop-drop 5 at file)) in
-    (omega (arith, long, short), block_stands (drop at file) bytes count there long front)
+    (omega (arith, long, short), block_is_there (drop at file) bytes count there long prefix)

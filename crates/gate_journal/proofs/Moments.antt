@@ -1,11 +1,9 @@
 -- What a crash leaves at each moment of an append.
-use Rattle.std.proofs.Common.{◌≡◌, ℕ, ◌+◌, ◌≤◌, List, [], ◌∷◌, ◌++◌, length, drop, ◌∙◌, ap, subst, inl, inr, ◌⊎◌, arith}
-use Rattle.std.proofs.Common.{length-append, Result, Ok, Err, OnOk}
-use Rattle.outside.specs.Disk.{Image, Disk, Runs, InFile, Torn, Wrote, IsSafe}
-use Rattle.outside.proofs.Running.{onward}
-use Rattle.gate_journal.specs.Records.{max_record, blocks, IsShut, StandFirst, HasRecords, framed, Appended}
-use Rattle.gate_journal.specs.Calls.{Stands, HasEither}
-use Rattle.gate_journal.proofs.Crash.{torn_behind, Staged, staged, torn_gate, appended}
+use Rattle.gate_journal.proofs.Prelude.{◌≡◌, ℕ, ◌+◌, ◌≤◌, List, [], ◌∷◌, ◌++◌, length, drop, ◌∙◌, ap, subst, inl, inr}
+use Rattle.gate_journal.proofs.Prelude.{◌⊎◌, arith, length-append, Result, Ok, Err, OnOk, Image, Disk, Runs, InFile}
+use Rattle.gate_journal.proofs.Prelude.{Torn, Wrote, IsSafe, onward, max_record, blocks, IsShut, BeginWith, HasRecords}
+use Rattle.gate_journal.proofs.Prelude.{framed, Appended, HoldsRecords, HasEither}
+use Rattle.gate_journal.proofs.Crash.{torn_after, Staged, staged, torn_gate, appended}
 
 -- a step is also a wider one, from what a crash may leave
 widen_since : {step wider : Image → Image → Type 0} (old new : Disk) (c : Image) (t : ℕ)
@@ -29,66 +27,66 @@ abbrev Either : (file : ℕ) (records : List (List ℕ)) (bytes : List ℕ) → 
 Either file records bytes = InFile file (λ _ c. HasEither records bytes c)
 
 pub first_write : (old new : Disk) (file end n : ℕ) (records : List (List ℕ)) (bytes : List ℕ)
-    → Stands old file end records
+    → HoldsRecords old file end records
     → Runs (InFile file (Torn (end + 1) n)) old new → Runs (Either file records bytes) old new
-first_write old new file end n records bytes stands r =
+first_write old new file end n records bytes holds_records r =
     widened_from {step = InFile file (Torn (end + 1) n)} {wider = Either file records bytes} old new
     (λ d e may step. record {
-      here = inl (torn_behind records end n (old.reads file) (e file) stands.place stands.holds
-          (subst (λ (l : List ℕ). Torn (end + 1) n l (e file)) (stands.kept d may) step.here));
+      here = inl (torn_after records end n (old.reads file) (e file) holds_records.offset holds_records.holds
+          (subst (λ (l : List ℕ). Torn (end + 1) n l (e file)) (holds_records.kept d may) step.here));
       others = step.others;
     }) r
 
-pub both_writes : (old mid new : Disk) (file end : ℕ) (records : List (List ℕ)) (bytes behind : List ℕ)
+pub both_writes : (old mid new : Disk) (file end : ℕ) (records : List (List ℕ)) (bytes following : List ℕ)
     → length bytes ≤ max_record
-    → end ≡ length (blocks records) → Staged records bytes behind (mid.reads file) → IsSafe mid
+    → end ≡ length (blocks records) → Staged records bytes following (mid.reads file) → IsSafe mid
     → Runs (Either file records bytes) old mid → Runs (InFile file (Torn end 1)) mid new
     → Runs (Either file records bytes) old new
-both_writes old mid new file end records bytes behind fits place stage safe first second =
+both_writes old mid new file end records bytes following fits offset stage safe first second =
     onward {first = Either file records bytes} {second = InFile file (Torn end 1)} {both =
     Either file records bytes} old mid new
     (λ d e f may may_mid one two. record {
-      here = torn_gate records bytes behind end (mid.reads file) (f file) fits place stage
+      here = torn_gate records bytes following end (mid.reads file) (f file) fits offset stage
           (subst (λ (image : Image). Torn end 1 (image file) (f file)) (safe e may_mid) two.here);
       others = λ k other. two.others k other ∙ one.others k other;
     })
     (λ d e one. one) first second
 
--- the gate behind the records is there
-reach_at : (file : List ℕ) (records : List (List ℕ)) (behind : List ℕ) (end : ℕ) → end ≡ length (blocks records)
-    → StandFirst file records behind
-    → IsShut behind → end + 1 ≤ length file
-reach_at file records [] end place first shut = absurd shut
-reach_at file records (gate ∷ rest) end place first shut =
-    omega (arith, place, ap length first.cut, length-append (blocks records) (gate ∷ rest))
+-- the gate after the records is there
+reach_at : (file : List ℕ) (records : List (List ℕ)) (following : List ℕ) (end : ℕ) → end ≡ length (blocks records)
+    → BeginWith file records following
+    → IsShut following → end + 1 ≤ length file
+reach_at file records [] end offset first shut = absurd shut
+reach_at file records (gate ∷ rest) end offset first shut =
+    omega (arith, offset, ap length first.cut, length-append (blocks records) (gate ∷ rest))
 
 pub reach : (file : List ℕ) (records : List (List ℕ)) (end : ℕ) → end ≡ length (blocks records)
     → HasRecords file records → end + 1 ≤ length file
-reach file records end place (behind, first, shut) = reach_at file records behind end place first shut
+reach file records end offset (following, first, shut) = reach_at file records following end offset first shut
 
-pub reach_staged : (records : List (List ℕ)) (bytes behind mid : List ℕ) (end : ℕ) → end ≡ length (blocks records)
-    → Staged records bytes behind mid
+pub reach_staged : (records : List (List ℕ)) (bytes following mid : List ℕ) (end : ℕ) → end ≡ length (blocks records)
+    → Staged records bytes following mid
     → end ≤ length mid
-reach_staged records bytes behind mid end place stage =
-    omega (arith, place, ap length stage.whole, length-append (blocks records) (stage.gate ∷ (framed bytes ++ behind)))
+reach_staged records bytes following mid end offset stage =
+    omega (arith, offset, ap length stage.entire, length-append (blocks records) (stage.gate ∷ (framed bytes ++ following)))
 
 -- what the first write leaves
 pub staged_by : (old mid : Disk) (file end : ℕ) (records : List (List ℕ)) (bytes piece : List ℕ) → piece ≡ framed bytes
-    → Stands old file end records
+    → HoldsRecords old file end records
     → InFile file (Wrote (end + 1) piece) old.reads mid.reads
     → Staged records bytes (drop (end + 1 + length (framed bytes)) (old.reads file)) (mid.reads file)
-staged_by old mid file end records bytes piece is stands wrote =
-    staged records bytes end (old.reads file) (mid.reads file) stands.place stands.holds
+staged_by old mid file end records bytes piece is holds_records wrote =
+    staged records bytes end (old.reads file) (mid.reads file) holds_records.offset holds_records.holds
     (subst (λ (l : List ℕ). Wrote (end + 1) l (old.reads file) (mid.reads file)) is wrote.here)
 
 pub appended_by : (old mid new : Disk) (file end : ℕ) (records : List (List ℕ)) (bytes piece : List ℕ)
-    → Stands old file end records
+    → HoldsRecords old file end records
     → Staged records bytes (drop (end + 1 + length (framed bytes)) (old.reads file)) (mid.reads file)
     → InFile file (Wrote (end + 1) piece) old.reads mid.reads → InFile file (Wrote end (1 ∷ [])) mid.reads new.reads
     → InFile file (Appended end bytes) old.reads new.reads
-appended_by old mid new file end records bytes piece stands stage first second = record {
+appended_by old mid new file end records bytes piece holds_records stage first second = record {
   here = appended records bytes end (old.reads file) (mid.reads file)
-      (new.reads file) stands.place stands.holds stage second.here;
+      (new.reads file) holds_records.offset holds_records.holds stage second.here;
   others = λ k other. second.others k other ∙ first.others k other;
 }
 

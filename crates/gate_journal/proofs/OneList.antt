@@ -1,27 +1,24 @@
--- A file is cut into blocks and what stands behind them in one way.
-use Rattle.std.proofs.Common.{◌≡◌, ℕ, ◌≤◌, List, [], ◌∷◌, ◌++◌, length, get_or, take, drop, refl, sym, ◌∙◌, ap, arith}
-use Rattle.std.proofs.Common.{append_assoc, All}
-use Rattle.std.proofs.lemmas.List.{take_at, drop_at}
-use Rattle.std.proofs.lemmas.List.Elements.{All-head, All-tail}
-use Rattle.byteorder.specs.Endian.{big_number, big_bytes}
-use Rattle.byteorder.specs.Numbers.{big_number-reads_back}
-use Rattle.gate_journal.specs.Records.{max_record, block, blocks, IsShut, IsBroken}
-use Rattle.gate_journal.specs.Laws.{RecordsAreOne, PlacesAreOne, NeverBoth}
+-- A file is cut into blocks and what follows them in one way.
+use Rattle.gate_journal.proofs.Prelude.{◌≡◌, ℕ, ◌≤◌, List, [], ◌∷◌, ◌++◌, length, get_or, take, drop, refl, sym, ◌∙◌}
+use Rattle.gate_journal.proofs.Prelude.{ap, arith, append_assoc, take_at, drop_at, All-head, All-tail, big_number}
+use Rattle.gate_journal.proofs.Prelude.{big_bytes, big_number-reads_back, max_record, block, blocks, IsShut, IsBroken}
+use Rattle.std.proofs.Common.{All}
+use Rattle.gate_journal.specs.Laws.{RecordsAreOne, OffsetsAreOne, NeverBoth}
 
 abbrev IsSmall : List ℕ → Type 0
 IsSmall bytes = length bytes ≤ max_record
 
--- no record stands at the front
+-- no record is at the start
 abbrev IsEnd : List ℕ → Type 0
-IsEnd behind = (bytes more : List ℕ) → IsSmall bytes → behind ≡ block bytes ++ more → ⊥
+IsEnd following = (bytes more : List ℕ) → IsSmall bytes → following ≡ block bytes ++ more → ⊥
 
-shut_is_end : (behind : List ℕ) → IsShut behind → IsEnd behind
+shut_is_end : (following : List ℕ) → IsShut following → IsEnd following
 shut_is_end [] shut bytes more small is = shut
-shut_is_end (gate ∷ behind) shut bytes more small is = shut (ap (λ (l : List ℕ). get_or l 0 0) is)
+shut_is_end (gate ∷ following) shut bytes more small is = shut (ap (λ (l : List ℕ). get_or l 0 0) is)
 
-broken_is_end : (behind : List ℕ) → IsBroken behind → IsEnd behind
+broken_is_end : (following : List ℕ) → IsBroken following → IsEnd following
 broken_is_end [] broken bytes more small is = absurd (omega (arith, ap length is))
-broken_is_end (gate ∷ behind) broken bytes more small is = broken.1 bytes more small is
+broken_is_end (gate ∷ following) broken bytes more small is = broken.1 bytes more small is
 
 block_apart : (r s x y : List ℕ) → IsSmall r → IsSmall s → block r ++ x ≡ block s ++ y → (r ≡ s) × (x ≡ y)
 block_apart r s x y small_r small_s e =
@@ -53,8 +50,8 @@ records_are_one file rs ss (x, first, shut_x) (y, second, shut_y) =
     (one_cut rs ss x y first.short second.short (shut_is_end x shut_x) (shut_is_end y shut_y)
     (sym first.cut ∙ second.cut)).0
 
-pub places_are_one : PlacesAreOne
-places_are_one file place other (rs, x, first, broken_x, at) (ss, y, second, broken_y, there) =
+pub offsets_are_one : OffsetsAreOne
+offsets_are_one file offset other (rs, x, first, broken_x, at) (ss, y, second, broken_y, there) =
     at ∙ ap (λ (l : List (List ℕ)). length (blocks l))
     ((one_cut rs ss x y first.short second.short (broken_is_end x broken_x) (broken_is_end y broken_y) (sym first.cut
     ∙ second.cut)).0) ∙ sym there
@@ -65,7 +62,7 @@ shut_or_broken (gate ∷ x) [] shut broken e = absurd (omega (arith, ap length e
 shut_or_broken (gate ∷ x) (other ∷ y) shut broken e = shut (ap (λ (l : List ℕ). get_or l 0 0) e ∙ broken.0)
 
 pub never_both : NeverBoth
-never_both file rs place (x, first, shut) (ss, y, second, broken, at) =
+never_both file rs offset (x, first, shut) (ss, y, second, broken, at) =
     shut_or_broken x y shut broken
     ((one_cut rs ss x y first.short second.short (shut_is_end x shut) (broken_is_end y broken) (sym first.cut
     ∙ second.cut)).1)

@@ -1,7 +1,5 @@
 -- A volume that stays as it is over several calls.
-use Rattle.std.proofs.Common.{refl, ◌∙◌, arith, inl}
-use Rattle.outside.specs.Disk.{Disk, Same, Stays}
-use Rattle.outside.proofs.Running.{onward}
+use Rattle.gate_journal.proofs.Prelude.{refl, ◌∙◌, arith, inl, Disk, Same, Stays, onward}
 
 pub stays_none : (disk : Disk) → Stays disk disk
 stays_none disk = record {

@@ -6,21 +6,21 @@ use Rattle.gate_journal.specs.Records.{blocks, HasRecords, HasNoRecords}
 use Rattle.gate_journal.specs.declared.fault.StoreFault.{StoreFault}
 use Rattle.gate_journal.specs.declared.fault.StoreFault.TheVariants as fault
 
--- the number of its file, the place of the gate behind its records, and whether a call on the volume has failed
+-- the number of its file, the offset of the gate after its records, and whether a call on the volume has failed
 pub record JournalState : Type 0 where
   pub file : ℕ
   pub end : ℕ
   pub failed : Bool
 
--- A file stands for these records, whatever a crash leaves of it, and the gate behind them is at this place.
-pub record Stands (disk : Disk) (file end : ℕ) (records : List (List ℕ)) : Type 0 where
+-- A file represents these records, whatever a crash leaves of it, and the gate after them is at this offset.
+pub record HoldsRecords (disk : Disk) (file end : ℕ) (records : List (List ℕ)) : Type 0 where
   pub kept : (c : Image) → disk.may_leave c → c file ≡ disk.reads file
   pub holds : HasRecords (disk.reads file) records
-  pub place : end ≡ length (blocks records)
+  pub offset : end ≡ length (blocks records)
 
--- the journal stands for these records
+-- the journal represents these records
 pub record IsSettled (journal : JournalState) (disk : Disk) (records : List (List ℕ)) : Type 0 where
-  pub stands : Stands disk journal.file journal.end records
+  pub holds_records : HoldsRecords disk journal.file journal.end records
   pub working : journal.failed ≡ false
 
 -- the records before, or those and the new one
@@ -45,14 +45,14 @@ IsAppendFault failed before now other = ⊥
 -- why `mount` fails
 abbrev pub IsMountFault : (before now : ℕ) → StoreFault → Type 0
 IsMountFault before now fault.DiskFault = Rose before now
-IsMountFault before now (fault.BadStore file place) = Unit {0}
+IsMountFault before now (fault.BadStore file offset) = Unit {0}
 IsMountFault before now fault.NoMemory = Unit {0}
 IsMountFault before now other = ⊥
 
--- what `mount` tells of what is read, which stays as it is but for a fault of the device
+-- what `mount` says of what is read, which stays as it is but for a fault of the device
 abbrev pub Mounts : (file : ℕ) (old new : Disk) → Result (JournalState × List (List ℕ)) StoreFault → Type 0
 Mounts file old new (Ok m) = (new.reads ≡ old.reads) × (m.0.file ≡ file) × IsSettled m.0 new m.1
-Mounts file old new (Err (fault.BadStore bad place)) = (new.reads ≡ old.reads) × (bad ≡ file)
-    × HasNoRecords (old.reads file) place
+Mounts file old new (Err (fault.BadStore bad offset)) = (new.reads ≡ old.reads) × (bad ≡ file)
+    × HasNoRecords (old.reads file) offset
 Mounts file old new (Err fault.NoMemory) = new.reads ≡ old.reads
 Mounts file old new (Err other) = Unit {0}

@@ -1,4 +1,4 @@
--- What a file holds is told in one way.
+-- What a file holds is determined in one way.
 use Rattle.std.specs.Prelude.{◌≡◌, ℕ, List}
 use Rattle.gate_journal.specs.Records.{HasRecords, HasNoRecords}
 
@@ -7,11 +7,11 @@ abbrev pub RecordsAreOne : Type 0
 RecordsAreOne = (file : List ℕ) (records others : List (List ℕ)) → HasRecords file records → HasRecords file others
     → records ≡ others
 
--- it is none for what stands at one place
-abbrev pub PlacesAreOne : Type 0
-PlacesAreOne = (file : List ℕ) (place other : ℕ) → HasNoRecords file place → HasNoRecords file other → place ≡ other
+-- it is none for what is at one offset
+abbrev pub OffsetsAreOne : Type 0
+OffsetsAreOne = (file : List ℕ) (offset other : ℕ) → HasNoRecords file offset → HasNoRecords file other → offset ≡ other
 
 -- and never both
 abbrev pub NeverBoth : Type 0
-NeverBoth = (file : List ℕ) (records : List (List ℕ)) (place : ℕ) → HasRecords file records
-    → HasNoRecords file place → ⊥
+NeverBoth = (file : List ℕ) (records : List (List ℕ)) (offset : ℕ) → HasRecords file records
+    → HasNoRecords file offset → ⊥

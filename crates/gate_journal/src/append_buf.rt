@@ -45,7 +45,7 @@ impl AppendBuf {
         self.piece.len() - 5
     }
 
-    // What is written behind the gate.
+    // What is written after the gate.
     pub(crate) fn piece(&self) -> &[u8]
         ensures piece { result.now ≡ framed self.now }
         ensures short { length self.now ≤ max_record }

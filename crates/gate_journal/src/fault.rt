@@ -5,7 +5,7 @@ pub enum StoreFault {
     DiskFault,
     /// An earlier call on the volume failed, and the store was not mounted since.
     Failed,
-    /// The volume holds no store: this is wrong at this place of this file.
+    /// The volume holds no store: this is wrong at this offset of this file.
     BadStore { file: u8, place: u64 },
     /// No image is open.
     Missing,

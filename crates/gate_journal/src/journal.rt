@@ -26,7 +26,7 @@ ghost use Rattle.std.specs.Prelude.{
 ghost use Rattle.outside.specs.Streams.{HasCause, Rose};
 ghost use Rattle.outside.specs.Disk.{Image, Runs, Same, Stays, InFile, IsSafe};
 ghost use Rattle.gate_journal.specs.Records.{max_record, blocks, Appended, HasRecords};
-ghost use Rattle.gate_journal.specs.Calls.{Stands, IsSettled, HasEither, Anything, IsClearFault, IsAppendFault};
+ghost use Rattle.gate_journal.specs.Calls.{HoldsRecords, IsSettled, HasEither, Anything, IsClearFault, IsAppendFault};
 ghost use Rattle.gate_journal.specs.Calls.{IsMountFault, Mounts};
 ghost use Rattle.gate_journal.specs.declared.fault.StoreFault.TheVariants as fault;
 
@@ -38,15 +38,15 @@ use outside::{Failed, Volume, write_and_sync};
 use std::alloc::Global;
 use std::marker::Model;
 
-/// A gate behind which no record stands.
+/// A gate that no record follows.
 const SHUT: u8 = 0;
 
-/// A list of records in a file of a volume. A record is kept, whole or not at all, whenever the volume loses power, and
-/// from the `Ok` of its `append` on it is kept.
+/// A list of records in a file of a volume. A record is kept, entirely or not at all, whenever the volume loses
+/// power, and from the `Ok` of its `append` on it is kept.
 #[derive(Drop)]
 pub struct Journal {
     file: u8,
-    // the place of the gate behind the records
+    // the offset of the gate after the records
     end: u64,
     failed: bool,
 }
@@ -62,15 +62,15 @@ impl Model for Journal {
     ghost invariant = { λ j. (j.file < 4) × (j.end < 2 ^ 64 - 1) };
 }
 
-// Writes a record behind the gate at `end`, syncs, opens the gate and syncs.
+// Writes a record after the gate at `end`, syncs, opens the gate and syncs.
 fn append_at<V: Volume>(vol: &mut V, file: u8, end: u64, buf: &AppendBuf) -> Result<(), Failed>
     requires file { file < 4 }
     requires end { end < 2 ^ 64 - 1 }
-    ensures ok { V.tells → (records : List (List ℕ)) → Stands (V.disk vol.old) file end records
+    ensures ok { V.reports → (records : List (List ℕ)) → HoldsRecords (V.disk vol.old) file end records
         → OnOk result (HasRecords ((V.disk vol.new).reads file) (records ++ buf.now ∷ [])) }
-    ensures written { V.tells → (records : List (List ℕ)) → Stands (V.disk vol.old) file end records
+    ensures written { V.reports → (records : List (List ℕ)) → HoldsRecords (V.disk vol.old) file end records
         → OnOk result (InFile file (Appended end buf.now) (V.disk vol.old).reads (V.disk vol.new).reads) }
-    ensures runs { V.tells → (records : List (List ℕ)) → Stands (V.disk vol.old) file end records
+    ensures runs { V.reports → (records : List (List ℕ)) → HoldsRecords (V.disk vol.old) file end records
         → Runs (InFile file (λ _ c. HasEither records buf.now c)) (V.disk vol.old) (V.disk vol.new) }
     ensures safe { OnOk result (IsSafe (V.disk vol.new)) }
     ensures fits { OnOk result (end + 6 + length buf.now < 2 ^ 64) }
@@ -89,8 +89,8 @@ impl Journal {
     pub fn clear<V: Volume>(vol: &mut V, file: u8) -> Result<Journal, StoreFault>
         requires { file < 4 }
         ensures journal { IfOk result (λ j. j ≡ record { file = file; end = 0; failed = false }) }
-        ensures settled { V.tells → IfOk result (λ j. IsSettled j (V.disk vol.new) []) }
-        ensures written { V.tells → OnOk result (InFile file (λ _ new. new ≡ 0 ∷ [])
+        ensures settled { V.reports → IfOk result (λ j. IsSettled j (V.disk vol.new) []) }
+        ensures written { V.reports → OnOk result (InFile file (λ _ new. new ≡ 0 ∷ [])
             (V.disk vol.old).reads (V.disk vol.new).reads) }
         ensures safe { OnOk result (IsSafe (V.disk vol.new)) }
         ensures runs { Runs (InFile file Anything) (V.disk vol.old) (V.disk vol.new) }
@@ -112,7 +112,7 @@ impl Journal {
     }
 
     /// Opens the journal of a file, and gives its records. It begins with a sync and writes nothing, so a last gate
-    /// that is neither 0 nor 1 stays until the next `append`. `BadStore` tells where a gate is missing, or the
+    /// that is neither 0 nor 1 stays until the next `append`. `BadStore` says where a gate is missing, or the
     /// gate of a record that is cut short or longer than 16777216 bytes.
     pub fn mount<V: Volume>(
         alloc: Global,
@@ -120,10 +120,10 @@ impl Journal {
         file: u8,
     ) -> Result<(Journal, ItemList<ItemList<u8>>), StoreFault>
         requires { file < 4 }
-        ensures mounts { V.tells → Mounts file (V.disk vol.old) (V.disk vol.new) result }
+        ensures mounts { V.reports → Mounts file (V.disk vol.old) (V.disk vol.new) result }
         ensures journal { IfOk result (λ m. (m.0.file ≡ file) × (m.0.failed ≡ false)) }
         ensures short { IfOk result (λ m. All (λ bytes. length bytes ≤ max_record) m.1) }
-        ensures place { IfOk result (λ m. (m.0.end ≡ length (blocks m.1)) × (length (blocks m.1) < 2 ^ 64)) }
+        ensures offset { IfOk result (λ m. (m.0.end ≡ length (blocks m.1)) × (length (blocks m.1) < 2 ^ 64)) }
         ensures safe { OnOk result (IsSafe (V.disk vol.new)) }
         ensures runs { Runs Same (V.disk vol.old) (V.disk vol.new) }
         ensures later { V.faults vol.old ≤ V.faults vol.new }
@@ -150,19 +150,19 @@ impl Journal {
         }
     }
 
-    /// Puts a record behind the others. While it runs each crash leaves the records before, or those and this one; from
+    /// Puts a record after the others. While it runs each crash leaves the records before, or those and this one; from
     /// `Ok` on, these. It takes no memory. After a `DiskFault` it answers `Failed`, until the journal is mounted anew.
     pub fn append<V: Volume>(&mut self, vol: &mut V, buf: AppendBuf) -> Result<(), StoreFault>
-        requires { V.tells → (self.old.failed ≡ true)
+        requires { V.reports → (self.old.failed ≡ true)
             ⊎ ((records : List (List ℕ)) × IsSettled self.old (V.disk vol.old) records) }
-        ensures ok { V.tells → (records : List (List ℕ)) → IsSettled self.old (V.disk vol.old) records
+        ensures ok { V.reports → (records : List (List ℕ)) → IsSettled self.old (V.disk vol.old) records
             → OnOk result (IsSettled self.new (V.disk vol.new) (records ++ buf ∷ [])) }
-        ensures each_moment { V.tells → (records : List (List ℕ)) → IsSettled self.old (V.disk vol.old) records
+        ensures each_moment { V.reports → (records : List (List ℕ)) → IsSettled self.old (V.disk vol.old) records
             → (c : Image) → (V.disk vol.new).left_since (V.disk vol.old).moment c
             → HasEither records buf (c self.old.file) }
-        ensures runs { V.tells → (records : List (List ℕ)) → IsSettled self.old (V.disk vol.old) records
+        ensures runs { V.reports → (records : List (List ℕ)) → IsSettled self.old (V.disk vol.old) records
             → Runs (InFile self.old.file (λ _ c. HasEither records buf c)) (V.disk vol.old) (V.disk vol.new) }
-        ensures written { V.tells → (records : List (List ℕ)) → IsSettled self.old (V.disk vol.old) records
+        ensures written { V.reports → (records : List (List ℕ)) → IsSettled self.old (V.disk vol.old) records
             → OnOk result (InFile self.old.file (Appended self.old.end buf) (V.disk vol.old).reads
             (V.disk vol.new).reads) }
         ensures safe { OnOk result (IsSafe (V.disk vol.new)) }

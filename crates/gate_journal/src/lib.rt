@@ -1,4 +1,4 @@
-//! A list of records in a file of a volume that may lose power: each record stands behind a gate, which is opened once
+//! A list of records in a file of a volume that may lose power: each record follows a gate, which is opened once
 //! the record is kept.
 #![tactic(auto)]
 

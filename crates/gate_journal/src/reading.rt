@@ -5,7 +5,7 @@ ghost use Rattle.byteorder.specs.Endian.{big_number, big_bytes};
 ghost use Rattle.outside.specs.Streams.{HasCause};
 ghost use Rattle.outside.specs.Disk.{Stays};
 ghost use Rattle.gate_journal.specs.Records.{max_record, blocks};
-ghost use Rattle.gate_journal.specs.Reading.{TellsNothing, TellsGate, TellsLength, TellsRecord, TellsRecords, IsOpen};
+ghost use Rattle.gate_journal.specs.Reading.{ReportsNothing, ReportsGate, ReportsLength, ReportsRecord, ReportsRecords, IsOpen};
 ghost use Rattle.gate_journal.specs.Reading.{HasReadCause};
 
 use crate::fault::StoreFault;
@@ -14,18 +14,18 @@ use item_list::ItemList;
 use outside::{Failed, Volume};
 use std::alloc::Global;
 
-/// A gate behind which a record stands.
+/// A gate that a record follows.
 pub(crate) const OPEN: u8 = 1;
 
 /// The most bytes of a record.
 const MAX_RECORD: u32 = 16_777_216;
 
-/// Fills `buf` with what stands in a file from `at` on.
+/// Fills `buf` with the bytes of a file from `at` on.
 pub fn read_exact<V: Volume>(vol: &mut V, file: u8, at: u64, buf: &mut [u8]) -> Result<(), Failed>
     requires file { file < 4 }
     requires fits { at + length buf.old < 2 ^ 64 }
-    requires within { V.tells → at + length buf.old ≤ length ((V.disk vol.old).reads file) }
-    ensures bytes { V.tells → OnOk result (buf.new ≡ take (length buf.new) (drop at ((V.disk vol.old).reads file))) }
+    requires within { V.reports → at + length buf.old ≤ length ((V.disk vol.old).reads file) }
+    ensures bytes { V.reports → OnOk result (buf.new ≡ take (length buf.new) (drop at ((V.disk vol.old).reads file))) }
     ensures stays { Stays (V.disk vol.old) (V.disk vol.new) }
     ensures cause { HasCause (V.faults vol.old) (V.faults vol.new) result }
 {
@@ -50,12 +50,12 @@ pub fn read_bytes<V: Volume>(
 ) -> Result<Vec<u8>, StoreFault>
     requires file { file < 4 }
     requires fits { at + count < 2 ^ 64 }
-    requires within { V.tells → at + count ≤ length ((V.disk vol.old).reads file) }
+    requires within { V.reports → at + count ≤ length ((V.disk vol.old).reads file) }
     ensures count { IfOk result (λ bytes. length bytes.items ≡ count) }
-    ensures bytes { V.tells → IfOk result (λ bytes. bytes.items ≡ take count (drop at ((V.disk vol.old).reads file))) }
+    ensures bytes { V.reports → IfOk result (λ bytes. bytes.items ≡ take count (drop at ((V.disk vol.old).reads file))) }
     ensures stays { Stays (V.disk vol.old) (V.disk vol.new) }
     ensures cause { HasReadCause (V.faults vol.old) (V.faults vol.new) result }
-    ensures unbroken { IfErr result (λ wrong. TellsNothing wrong) }
+    ensures unbroken { IfErr result (λ wrong. ReportsNothing wrong) }
 {
     let Ok(mut bytes) = vec![in alloc; 0; count] else {
         return Err(StoreFault::NoMemory);
@@ -66,11 +66,11 @@ pub fn read_bytes<V: Volume>(
     }
 }
 
-// Whether the gate at a place is open.
+// Whether the gate at an offset is open.
 fn is_open<V: Volume>(vol: &mut V, file: u8, at: u64, size: u64) -> Result<bool, StoreFault>
     requires file { file < 4 }
-    requires size { V.tells → size ≡ length ((V.disk vol.old).reads file) }
-    ensures told { V.tells → TellsGate file at (drop at ((V.disk vol.old).reads file)) result }
+    requires size { V.reports → size ≡ length ((V.disk vol.old).reads file) }
+    ensures reported { V.reports → ReportsGate file at (drop at ((V.disk vol.old).reads file)) result }
     ensures within { IfOk result (λ _. at < size) }
     ensures stays { Stays (V.disk vol.old) (V.disk vol.new) }
     ensures cause { HasReadCause (V.faults vol.old) (V.faults vol.new) result }
@@ -85,21 +85,21 @@ fn is_open<V: Volume>(vol: &mut V, file: u8, at: u64, size: u64) -> Result<bool,
     }
 }
 
-// The number that four bytes spell, the highest first.
+// The number that four bytes encode, the highest first.
 fn number(head: &[u8; 4]) -> u32
     ensures read { result ≡ big_number 4 head.now }
-    ensures spelled { big_bytes 4 result ≡ head.now }
+    ensures encoded { big_bytes 4 result ≡ head.now }
 {
     BigEndian::read_u32(head)
 }
 
-// The length of the record behind the open gate at a place.
+// The length of the record after the open gate at an offset.
 fn record_length<V: Volume>(vol: &mut V, file: u8, at: u64, size: u64) -> Result<u32, StoreFault>
     requires file { file < 4 }
-    requires size { V.tells → size ≡ length ((V.disk vol.old).reads file) }
+    requires size { V.reports → size ≡ length ((V.disk vol.old).reads file) }
     requires within { at < size }
-    requires opened { V.tells → IsOpen (drop at ((V.disk vol.old).reads file)) }
-    ensures told { V.tells → TellsLength file at (drop at ((V.disk vol.old).reads file)) result }
+    requires opened { V.reports → IsOpen (drop at ((V.disk vol.old).reads file)) }
+    ensures reported { V.reports → ReportsLength file at (drop at ((V.disk vol.old).reads file)) result }
     ensures within { IfOk result (λ count. (at + 5 + count ≤ size) × (count ≤ 16777216)) }
     ensures stays { Stays (V.disk vol.old) (V.disk vol.new) }
     ensures cause { HasReadCause (V.faults vol.old) (V.faults vol.new) result }
@@ -121,7 +121,7 @@ fn record_length<V: Volume>(vol: &mut V, file: u8, at: u64, size: u64) -> Result
     Ok(count)
 }
 
-// The record behind the gate at a place, or none where the gate isn't open.
+// The record after the gate at an offset, or none where the gate isn't open.
 fn next_record<V: Volume>(
     alloc: Global,
     vol: &mut V,
@@ -130,8 +130,8 @@ fn next_record<V: Volume>(
     size: u64,
 ) -> Result<Option<ItemList<u8>>, StoreFault>
     requires file { file < 4 }
-    requires size { V.tells → size ≡ length ((V.disk vol.old).reads file) }
-    ensures told { V.tells → TellsRecord file at (drop at ((V.disk vol.old).reads file)) result }
+    requires size { V.reports → size ≡ length ((V.disk vol.old).reads file) }
+    ensures reported { V.reports → ReportsRecord file at (drop at ((V.disk vol.old).reads file)) result }
     ensures within { IfOk result (λ found. (at < size) × IfSome found (λ bytes. at + 5 + length bytes ≤ size)) }
     ensures short { IfOk result (λ found. IfSome found (λ bytes. length bytes ≤ max_record)) }
     ensures stays { Stays (V.disk vol.old) (V.disk vol.new) }
@@ -152,7 +152,7 @@ fn next_record<V: Volume>(
     }
 }
 
-// The records of a file, and the place of the gate behind them.
+// The records of a file, and the offset of the gate after them.
 pub(crate) fn read_records<V: Volume>(
     alloc: Global,
     vol: &mut V,
@@ -160,11 +160,11 @@ pub(crate) fn read_records<V: Volume>(
     size: u64,
 ) -> Result<(ItemList<ItemList<u8>>, u64), StoreFault>
     requires file { file < 4 }
-    requires size { V.tells → size ≡ length ((V.disk vol.old).reads file) }
-    ensures told { V.tells → TellsRecords file ((V.disk vol.old).reads file) result }
+    requires size { V.reports → size ≡ length ((V.disk vol.old).reads file) }
+    ensures reported { V.reports → ReportsRecords file ((V.disk vol.old).reads file) result }
     ensures within { IfOk result (λ found. found.1 < size) }
     ensures short { IfOk result (λ found. All (λ bytes. length bytes ≤ max_record) found.0) }
-    ensures place { IfOk result (λ found. found.1 ≡ length (blocks found.0)) }
+    ensures offset { IfOk result (λ found. found.1 ≡ length (blocks found.0)) }
     ensures stays { Stays (V.disk vol.old) (V.disk vol.new) }
     ensures cause { HasReadCause (V.faults vol.old) (V.faults vol.new) result }
 {

@@ -16,26 +16,26 @@ hash_of text = record { 0 = sha256 text }
 abbrev pub network_id_of : List ℕ → Hash
 network_id_of passphrase = hash_of passphrase
 
--- the hash of a transaction from its envelope type and its spelling (TransactionSignaturePayload)
+-- the hash of a transaction from its envelope type and its encoding (TransactionSignaturePayload)
 abbrev pub tx_hash_of : Hash → ℕ → List ℕ → Hash
-tx_hash_of network kind tx = hash_of (network.0 ++ u32.spell kind ++ tx)
+tx_hash_of network kind tx = hash_of (network.0 ++ u32.encoding kind ++ tx)
 
--- the hash of a transaction set: of the hash of the ledger before it, and the spellings of its envelopes in a row
+-- the hash of a transaction set: of the hash of the ledger before it, and the encodings of its envelopes in a row
 abbrev pub set_hash_of : Hash → List (List ℕ) → Hash
 set_hash_of previous envelopes = hash_of (previous.0 ++ flat_map (λ envelope. envelope) envelopes)
 
 -- the id of the claimable balance that an operation makes (OperationID)
 abbrev pub balance_id_of : AccountId → ℤ → ℕ → Hash
 balance_id_of source seq op =
-    hash_of (i32.spell ENVELOPE_TYPE_OP_ID ++ account_id.spell source ++ i64.spell seq ++ u32.spell op)
+    hash_of (i32.encoding ENVELOPE_TYPE_OP_ID ++ account_id.encoding source ++ i64.encoding seq ++ u32.encoding op)
 
 -- the id of the claimable balance that an operation makes as it revokes an authorisation, of a pool's asset
 -- (OperationID)
 abbrev pub revoke_id_of : AccountId → ℤ → ℕ → Hash → Asset → Hash
 revoke_id_of source seq op pool held =
-    hash_of (i32.spell ENVELOPE_TYPE_POOL_REVOKE_OP_ID ++ account_id.spell source ++ i64.spell seq ++ u32.spell op
-    ++ hash.spell pool ++ asset.spell held)
+    hash_of (i32.encoding ENVELOPE_TYPE_POOL_REVOKE_OP_ID ++ account_id.encoding source ++ i64.encoding seq ++ u32.encoding op
+    ++ hash.encoding pool ++ asset.encoding held)
 
 -- the id of the pool of two assets, whose fee is 30
 abbrev pub pool_id_of : Asset → Asset → Hash
-pool_id_of a b = hash_of (pool_params.spell (record { asset_a = a; asset_b = b; fee = pos 30 }))
+pool_id_of a b = hash_of (pool_params.encoding (record { asset_a = a; asset_b = b; fee = pos 30 }))

@@ -1,4 +1,4 @@
-//! Hashes of whole texts.
+//! Hashes of complete texts.
 
 ghost use Rattle.std.specs.Prelude.{◌≡◌, Ok};
 ghost use Rattle.hash_ids.specs.Ids.{hash_of, network_id_of};
@@ -21,14 +21,14 @@ pub fn network_id(passphrase: &str) -> Result<Hash, AllocError>
     Ok(hash(passphrase.as_bytes()))
 }
 
-/// The hash of an envelope with its signatures, from its spelling.
+/// The hash of an envelope with its signatures, from its encoding.
 pub fn full_hash(envelope: &[u8]) -> Result<Hash, AllocError>
     ensures { result ≡ Ok (hash_of envelope.now) }
 {
     Ok(hash(envelope))
 }
 
-/// The hash of a ledger's header, from its spelling.
+/// The hash of a ledger's header, from its encoding.
 pub fn header_hash(bytes: &[u8]) -> Result<Hash, AllocError>
     ensures { result ≡ Ok (hash_of bytes.now) }
 {

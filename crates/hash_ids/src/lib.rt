@@ -1,4 +1,4 @@
-//! The ids and hashes of the protocol, each SHA-256 (FIPS 180-4) of the spelling of its preimage.
+//! The ids and hashes of the protocol, each SHA-256 (FIPS 180-4) of the encoding of its preimage.
 #![tactic(auto)]
 
 mod digest;

@@ -11,7 +11,7 @@ use std::alloc::{AllocError, Global};
 use xdr_core::Builder;
 use xdr_entries::{write_account_id, write_asset, write_hash};
 
-/// The id of the claimable balance that the operation at place `op`, counted from 0, of a transaction makes.
+/// The id of the claimable balance that the operation at index `op`, counted from 0, of a transaction makes.
 pub fn balance_id(alloc: Global, source: &AccountId, seq: i64, op: u32) -> Result<Hash, AllocError>
     ensures { IfOk result (λ id. id ≡ balance_id_of source.now seq op) }
 {
@@ -20,7 +20,7 @@ pub fn balance_id(alloc: Global, source: &AccountId, seq: i64, op: u32) -> Resul
     Ok(hash(builder.as_slice()))
 }
 
-/// The id of the claimable balance that the operation at place `op`, counted from 0, of a transaction makes of an asset
+/// The id of the claimable balance that the operation at index `op`, counted from 0, of a transaction makes of an asset
 /// of a pool, as it revokes an authorisation.
 #[tactic(auto, using(crate::proofs::Pieces::written_pieces))]
 pub fn revoke_id(
@@ -56,7 +56,7 @@ fn write_operation(
     builder: &mut Builder,
 ) -> Result<(), AllocError>
     ensures { OnOk result (builder.new
-        ≡ builder.old ++ i32.spell kind ++ account_id.spell source.now ++ i64.spell seq ++ u32.spell op) }
+        ≡ builder.old ++ i32.encoding kind ++ account_id.encoding source.now ++ i64.encoding seq ++ u32.encoding op) }
 {
     builder.i32(kind)?;
     write_account_id(source, builder)?;

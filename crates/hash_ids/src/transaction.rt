@@ -9,8 +9,8 @@ use sha2::{Digest, Sha256};
 use std::alloc::AllocError;
 use std::convert::AsSlice;
 
-/// The hash of a transaction whose spelling is `tx`. `kind` is the type of its envelope, `ENVELOPE_TYPE_TX` or
-/// `ENVELOPE_TYPE_TX_FEE_BUMP`. A transaction of the first version is spelled behind the four zero bytes of its key's
+/// The hash of a transaction whose encoding is `tx`. `kind` is the type of its envelope, `ENVELOPE_TYPE_TX` or
+/// `ENVELOPE_TYPE_TX_FEE_BUMP`. A transaction of the first version is encoded after the four zero bytes of its key's
 /// type.
 #[tactic(auto, unfolding(xdr_core::specs::Leaves::u32))]
 pub fn tx_hash(network: &Hash, kind: u32, tx: &[u8]) -> Result<Hash, AllocError>
@@ -25,7 +25,7 @@ pub fn tx_hash(network: &Hash, kind: u32, tx: &[u8]) -> Result<Hash, AllocError>
     Ok(Hash(hasher.finalize()))
 }
 
-/// The hash of a transaction set, from the hash of the ledger before it and the spellings of its envelopes, which are
+/// The hash of a transaction set, from the hash of the ledger before it and the encodings of its envelopes, which are
 /// given in rising order of their hashes.
 pub fn set_hash<T: AsSlice<u8>>(previous: &Hash, envelopes: &[T]) -> Result<Hash, AllocError>
     ensures { result ≡ Ok (set_hash_of previous.now (map (λ envelope. T.items envelope) envelopes.now)) }

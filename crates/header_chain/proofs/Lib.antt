@@ -1,3 +1,4 @@
-pub mod Places
+pub mod Indices
 pub mod Asked
 pub use Rattle.xdr_header.proofs as xdr_header_proofs
+pub mod Prelude

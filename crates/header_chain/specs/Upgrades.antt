@@ -6,25 +6,25 @@ use Rattle.ledger_types.specs.declared.header.LedgerHeader.{LedgerHeader}
 use Rattle.ledger_types.specs.declared.header.LedgerUpgrade.{LedgerUpgrade}
 use Rattle.ledger_types.specs.declared.header.LedgerUpgrade.TheVariants as upgrade
 use Rattle.xdr_core.specs.declared.fault.XdrFault.{XdrFault}
-use Rattle.xdr_core.specs.Place.{Reading, start_of}
+use Rattle.xdr_core.specs.Position.{Reading, start_of}
 use Rattle.xdr_header.specs.Header.{ledger_upgrade}
 use Rattle.header_chain.specs.declared.upgrades.UpgradeFault.{UpgradeFault}
 use Rattle.header_chain.specs.declared.upgrades.UpgradeFault.TheVariants as fault
 
 -- ---- what bytes ask for
 
--- an upgrade behind which no byte is left
-abbrev pub if_whole : LedgerUpgrade → List ℕ → Option LedgerUpgrade
-if_whole asked [] = Some asked
-if_whole asked (byte ∷ rest) = None
+-- an upgrade after which no byte is left
+abbrev pub if_complete : LedgerUpgrade → List ℕ → Option LedgerUpgrade
+if_complete asked [] = Some asked
+if_complete asked (byte ∷ rest) = None
 
-abbrev pub read_whole : Reading XdrFault LedgerUpgrade → Option LedgerUpgrade
-read_whole (Ok x) = if_whole x.0 x.1.rest
-read_whole (Err wrong) = None
+abbrev pub read_complete : Reading XdrFault LedgerUpgrade → Option LedgerUpgrade
+read_complete (Ok x) = if_complete x.0 x.1.rest
+read_complete (Err wrong) = None
 
--- the upgrade that bytes spell, if they spell one and no more
+-- the upgrade that bytes encode, if they encode one and no more
 abbrev pub upgrade_in : List ℕ → Option LedgerUpgrade
-upgrade_in bytes = read_whole (ledger_upgrade.read (start_of bytes))
+upgrade_in bytes = read_complete (ledger_upgrade.read (start_of bytes))
 
 -- ---- bad upgrades
 
@@ -43,24 +43,24 @@ is_bad_value (upgrade.BaseReserve n) = nat_eq n 0
 is_bad_value (upgrade.Flags n) = nat_lt 7 n
 is_bad_value other = false
 
--- the type of what was asked for, 0 where that can't be told
+-- the type of what was asked for, 0 where that can't be determined
 abbrev pub type_at : Option (Option LedgerUpgrade) → ℕ
 type_at (Some (Some asked)) = type_of asked
 type_at other = 0
 
--- bytes that spell no upgrade, a type that isn't above the one before, or a value that nothing may have
-abbrev pub is_bad_behind : (before : ℕ) → Option (Option LedgerUpgrade) → Bool
-is_bad_behind before None = false
-is_bad_behind before (Some None) = true
-is_bad_behind before (Some (Some asked)) = nat_le (type_of asked) before || is_bad_value asked
+-- bytes that encode no upgrade, a type that isn't above the one before, or a value that nothing may have
+abbrev pub is_bad_after : (before : ℕ) → Option (Option LedgerUpgrade) → Bool
+is_bad_after before None = false
+is_bad_after before (Some None) = true
+is_bad_after before (Some (Some asked)) = nat_le (type_of asked) before || is_bad_value asked
 
--- the type of the upgrade before a place
+-- the type of the upgrade before an index
 abbrev pub type_before : List (Option LedgerUpgrade) → ℕ → ℕ
 type_before asked zero = 0
 type_before asked (suc i) = type_at (slice_get asked i)
 
 abbrev pub is_bad_at : List (Option LedgerUpgrade) → ℕ → Bool
-is_bad_at asked i = is_bad_behind (type_before asked i) (slice_get asked i)
+is_bad_at asked i = is_bad_after (type_before asked i) (slice_get asked i)
 
 -- ---- upgrades that aren't made here
 
@@ -89,17 +89,17 @@ all_upgraded header asked = fold upgraded_if header asked
 
 -- ---- what a call answers
 
--- the first place of a list at which something is so
-abbrev pub first_place : {X : Type 0} → (ℕ → Bool) → List X → Option ℕ
-first_place p xs = find p (range_with_len 0 (length xs))
+-- the first index of a list at which something is so
+abbrev pub first_index : {X : Type 0} → (ℕ → Bool) → List X → Option ℕ
+first_index p xs = find p (range_with_len 0 (length xs))
 
--- A bad upgrade is told before one that isn't made here. A header that isn't upgraded stays.
+-- A bad upgrade is reported before one that isn't made here. A header that isn't upgraded stays.
 abbrev pub IsUpgraded : List (Option LedgerUpgrade) → (old new : LedgerHeader) → Result (Unit {0}) UpgradeFault
     → Type 0
 IsUpgraded asked old new (Ok done) =
-    (first_place (is_bad_at asked) asked ≡ None)
-    × (first_place (λ i. is_out_of_profile old (slice_get asked i)) asked ≡ None) × (new ≡ all_upgraded old asked)
-IsUpgraded asked old new (Err (fault.Bad index)) = (first_place (is_bad_at asked) asked ≡ Some index) × (new ≡ old)
+    (first_index (is_bad_at asked) asked ≡ None)
+    × (first_index (λ i. is_out_of_profile old (slice_get asked i)) asked ≡ None) × (new ≡ all_upgraded old asked)
+IsUpgraded asked old new (Err (fault.Bad index)) = (first_index (is_bad_at asked) asked ≡ Some index) × (new ≡ old)
 IsUpgraded asked old new (Err (fault.OutOfProfile index)) =
-    (first_place (is_bad_at asked) asked ≡ None)
-    × (first_place (λ i. is_out_of_profile old (slice_get asked i)) asked ≡ Some index) × (new ≡ old)
+    (first_index (is_bad_at asked) asked ≡ None)
+    × (first_index (λ i. is_out_of_profile old (slice_get asked i)) asked ≡ Some index) × (new ≡ old)

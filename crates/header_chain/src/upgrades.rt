@@ -9,10 +9,10 @@ use thiserror::Error;
 use xdr_core::Cursor;
 use xdr_header::read_ledger_upgrade;
 
-/// Why a header isn't upgraded. The place is that of the first such upgrade in the list.
+/// Why a header isn't upgraded. The index is that of the first such upgrade in the list.
 #[derive(Clone, Copy, PartialEq, Eq, Debug, Error)]
 pub enum UpgradeFault {
-    /// The bytes spell no upgrade, its type isn't above the one before, or its value is one that nothing may have.
+    /// The bytes encode no upgrade, its type isn't above the one before, or its value is one that nothing may have.
     #[error("bad upgrade {index}")]
     Bad { index: u32 },
     /// The upgrade is of the version, or of a reserve above the present one.
@@ -20,7 +20,7 @@ pub enum UpgradeFault {
     OutOfProfile { index: u32 },
 }
 
-/// The upgrade that bytes spell, if they spell one and no more.
+/// The upgrade that bytes encode, if they encode one and no more.
 fn upgrade_in(bytes: &[u8]) -> Option<LedgerUpgrade>
     ensures { result ≡ spec.upgrade_in bytes.now }
 {
@@ -57,9 +57,9 @@ fn is_bad_value(upgrade: &LedgerUpgrade) -> bool
     }
 }
 
-/// Whether what was asked for is bad behind an upgrade of a type.
-fn is_bad_behind(before: u32, asked: &Option<LedgerUpgrade>) -> bool
-    ensures { result ≡ spec.is_bad_behind before (Some asked.now) }
+/// Whether what was asked for is bad after an upgrade of a type.
+fn is_bad_after(before: u32, asked: &Option<LedgerUpgrade>) -> bool
+    ensures { result ≡ spec.is_bad_after before (Some asked.now) }
 {
     match asked {
         None => true,
@@ -76,17 +76,17 @@ fn type_at(asked: &Option<LedgerUpgrade>) -> u32
     }
 }
 
-/// The place of the first bad upgrade.
+/// The index of the first bad upgrade.
 fn first_bad(upgrades: &[ItemList<u8>]) -> Option<u32>
     requires { length upgrades.now < 2 ^ 32 }
     ensures { result ≡
-        spec.first_place (spec.is_bad_at (map spec.upgrade_in upgrades.now)) (map spec.upgrade_in upgrades.now) }
+        spec.first_index (spec.is_bad_at (map spec.upgrade_in upgrades.now)) (map spec.upgrade_in upgrades.now) }
 {
     let mut before = 0;
     let mut i = 0;
     while i < upgrades.len() {
         let asked = upgrade_in(upgrades[i].as_slice());
-        if is_bad_behind(before, &asked) {
+        if is_bad_after(before, &asked) {
             return Some(i as u32);
         }
         before = type_at(&asked);
@@ -107,10 +107,10 @@ fn is_out_of_profile(header: &LedgerHeader, asked: &Option<LedgerUpgrade>) -> bo
     }
 }
 
-/// The place of the first upgrade that isn't made here.
+/// The index of the first upgrade that isn't made here.
 fn first_out_of_profile(header: &LedgerHeader, upgrades: &[ItemList<u8>]) -> Option<u32>
     requires { length upgrades.now < 2 ^ 32 }
-    ensures { result ≡ spec.first_place
+    ensures { result ≡ spec.first_index
         (λ i. spec.is_out_of_profile header.now (slice_get (map spec.upgrade_in upgrades.now) i))
         (map spec.upgrade_in upgrades.now) }
 {
@@ -152,7 +152,7 @@ fn upgrade_all(header: &mut LedgerHeader, upgrades: &[ItemList<u8>])
     }
 }
 
-/// Upgrades a header by the spellings of upgrades, in their order, or tells the first one that is bad, or else the
+/// Upgrades a header by the encodings of upgrades, in their order, or answers the first one that is bad, or else the
 /// first one that isn't made here; the header stays then.
 pub fn apply_upgrades(
     header: &mut LedgerHeader,

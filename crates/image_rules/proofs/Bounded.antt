@@ -1,29 +1,15 @@
 -- What entries have where they are in their ranges.
-use Rattle.std.proofs.Common.{◌≡◌, ℕ, refl, ap, subst, ◌∙◌, arith}
-use Rattle.std.proofs.lemmas.Int.{ints}
-use Rattle.std.specs.Prelude.{ℤ, pos, ◌≤ℤ◌, ◌+ℤ◌}
-use Rattle.std.specs.declared.cmp.Ordering.TheVariants.{Less}
-use Rattle.ledger_types.specs.declared.asset.Asset.{Asset}
+use Rattle.image_rules.proofs.Prelude.{◌≡◌, ℕ, refl, ap, subst, ◌∙◌, ℤ, pos, Less, Asset, LedgerHeader, LedgerEntryBody}
+use Rattle.image_rules.proofs.Prelude.{LiquidityPoolEntry, asset_cmp, EntryMap, IsBodyInRange, of_asset, held_in}
+use Rattle.image_rules.proofs.Prelude.{AreInRange, AreTerms, HaveTerms, add_nothing, nonnegative_from_positive}
 use Rattle.ledger_types.specs.declared.asset.Asset.TheVariants as asset
-use Rattle.ledger_types.specs.declared.header.LedgerHeader.{LedgerHeader}
-use Rattle.ledger_types.specs.declared.entry.LedgerEntryBody.{LedgerEntryBody}
 use Rattle.ledger_types.specs.declared.entry.LedgerEntryBody.TheVariants as body
-use Rattle.ledger_types.specs.declared.liquidity_pool.LiquidityPoolEntry.{LiquidityPoolEntry}
-use Rattle.ledger_types.specs.KeyOrder.{asset_cmp}
-use Rattle.entry_map.specs.EntryMap.{EntryMap}
-use Rattle.close_rules.specs.legal_rules.Ranges.{IsBodyInRange}
-use Rattle.close_rules.specs.legal_rules.Supply.{of_asset, held_in}
-use Rattle.close_rules.specs.EntryRules.{AreInRange}
-use Rattle.image_rules.specs.Terms.{AreTerms, HaveTerms}
 
 -- ---- terms
 
-not_below : (n : ℤ) → pos 1 ≤ℤ n → pos 0 ≤ℤ n
-not_below n le = omega (arith, ints)
-
 terms_in : (id_pool : ℕ) (b : LedgerEntryBody) → IsBodyInRange id_pool b → AreTerms b
 terms_in id_pool (body.Offer offer) range =
-    record { amount = not_below offer.amount range.amount; price = record { n = range.n; d = range.d } }
+    record { amount = nonnegative_from_positive offer.amount range.amount; price = record { n = range.n; d = range.d } }
 terms_in id_pool (body.TrustLine line) range = range.range.balance
 terms_in id_pool (body.LiquidityPool pool) range = range.assets
 terms_in id_pool other range = tt
@@ -40,14 +26,11 @@ none_of (asset.Alphanum12 code issuer) asset.Native n below = absurd (cc)
 none_of first (asset.Alphanum4 code issuer) n below = refl
 none_of first (asset.Alphanum12 code issuer) n below = refl
 
-nothing_more : (a b : ℤ) → b ≡ pos 0 → (a +ℤ b) ≡ a
-nothing_more a b none = omega (arith, ints)
-
 pub lumens_of_pool : (b : LedgerEntryBody) (p : LiquidityPoolEntry) (n : ℤ) → b ≡ body.LiquidityPool p → AreTerms b
     → of_asset asset.Native p.params.asset_a p.reserve_a ≡ n → held_in asset.Native b ≡ n
 lumens_of_pool b p n is terms first =
     ap (held_in asset.Native) is
-    ∙ nothing_more (of_asset asset.Native p.params.asset_a p.reserve_a)
+    ∙ add_nothing (of_asset asset.Native p.params.asset_a p.reserve_a)
     (of_asset asset.Native p.params.asset_b p.reserve_b)
     (none_of p.params.asset_a p.params.asset_b p.reserve_b (ordered b is terms)) ∙ first
   where

@@ -1,15 +1,11 @@
 -- Counts of sums.
-use Rattle.std.proofs.Common.{◌≡◌, refl, sym, ap, subst, ◌∙◌, ℕ, ◌+◌, min, Bool, true, false, cond, Some}
-use Rattle.std.proofs.Common.{Option, None, unwrap_or, arith}
-use Rattle.std.proofs.lemmas.Int.{ints}
-use Rattle.std.specs.Prelude.{ℤ, pos, ◌+ℤ◌, if◌then◌else◌}
+use Rattle.image_rules.proofs.Prelude.{◌≡◌, refl, sym, ap, subst, ◌∙◌, ℕ, ◌+◌, min, Bool, true, false, cond, Some}
+use Rattle.image_rules.proofs.Prelude.{Option, None, unwrap_or, arith, ints, ℤ, pos, ◌+ℤ◌, if◌then◌else◌, LedgerKey}
+use Rattle.image_rules.proofs.Prelude.{key_cmp, is_key, for_key, greatest_count, CountMap, count_at, IsCountOf, Adds}
+use Rattle.image_rules.proofs.Prelude.{add_assoc, add_zero, if_zeros, same_keys}
 use Rattle.std.specs.Map.{lookup}
 use Rattle.std.specs.BTreeMap as tree
-use Rattle.ledger_types.specs.declared.key.LedgerKey.{LedgerKey}
-use Rattle.ledger_types.specs.KeyOrder.{key_cmp}
-use Rattle.entry_map.proofs.KeyMaps.{derived, derived_is, same_keys}
-use Rattle.close_rules.specs.legal_rules.EntryKeys.{is_key, for_key}
-use Rattle.image_rules.specs.Counts.{greatest_count, CountMap, count_at, IsCountOf, Adds}
+use Rattle.entry_map.proofs.KeyMaps.{derived, derived_is}
 
 -- ---- numbers
 
@@ -19,12 +15,6 @@ sum_more sum exact more is = omega (arith, ints)
 count_more : (new old exact more : ℕ) → old ≡ min exact greatest_count → new ≡ min (old + more) greatest_count
     → new ≡ min (exact + more) greatest_count
 count_more new old exact more was is = omega arith
-
-plus_nothing : (sum : ℤ) → (sum +ℤ pos 0) ≡ sum
-plus_nothing sum = omega (arith, ints)
-
-plus_both : (sum a b : ℤ) → ((sum +ℤ a) +ℤ b) ≡ (sum +ℤ (a +ℤ b))
-plus_both sum a b = omega (arith, ints)
 
 -- ---- counts in a map
 
@@ -72,7 +62,7 @@ one_added old new named k more sum true tied put was = record {
 }
 one_added old new named k more sum false apart put was = record {
   exact = was.exact;
-  is = plus_nothing sum ∙ was.is;
+  is = add_zero sum ∙ was.is;
   capped = put ∙ was.capped;
 }
 
@@ -84,15 +74,11 @@ added_for old new named more put k sum was =
 pub added_none : (counts : CountMap) (more : LedgerKey → ℤ) → ((k : LedgerKey) → more k ≡ pos 0)
     → Adds counts counts more
 added_none counts more none k sum was =
-    subst (IsCountOf (count_at counts k)) (sym (ap (λ n. sum +ℤ n) (none k) ∙ plus_nothing sum)) was
-
-no_choice : (b : Bool) → ◌≡◌ {A = ℤ} (if b then pos 0 else pos 0) (pos 0)
-no_choice true = refl
-no_choice false = refl
+    subst (IsCountOf (count_at counts k)) (sym (ap (λ n. sum +ℤ n) (none k) ∙ add_zero sum)) was
 
 nothing_for : (k : LedgerKey) (named : Option LedgerKey) → for_key k named (pos 0) ≡ pos 0
 nothing_for k None = refl
-nothing_for k (Some named) = no_choice (is_key named k)
+nothing_for k (Some named) = if_zeros (is_key named k)
 
 pub added_nothing : (counts : CountMap) (named : Option LedgerKey) (more : ℕ) → more ≡ 0
     → Adds counts counts (λ k. for_key k named (pos more))
@@ -103,7 +89,7 @@ added_nothing counts named more is =
 pub added_both : (old mid new : CountMap) (first second both : LedgerKey → ℤ)
     → ((k : LedgerKey) → both k ≡ (first k +ℤ second k)) → Adds old mid first → Adds mid new second → Adds old new both
 added_both old mid new first second both is one two k sum was =
-    subst (IsCountOf (count_at new k)) (plus_both sum (first k) (second k) ∙ ap (λ n. sum +ℤ n) (sym (is k)))
+    subst (IsCountOf (count_at new k)) (add_assoc sum (first k) (second k) ∙ ap (λ n. sum +ℤ n) (sym (is k)))
     (two k (sum +ℤ first k) (one k sum was))
 
 pub added_as : (old new : CountMap) (more same : LedgerKey → ℤ) → ((k : LedgerKey) → same k ≡ more k)

@@ -1,59 +1,39 @@
 -- That offers have distinct ids, as far as the entries were gone through.
-use Rattle.std.proofs.Common.{◌≡◌, refl, sym, ap, subst, ◌∙◌, ℕ, zero, suc, ◌+◌, ◌≤◌, Bool, true, false, not, List, []}
-use Rattle.std.proofs.Common.{◌∷◌, length, take, cond, Some, arith}
-use Rattle.std.proofs.lemmas.Int.{ints}
-use Rattle.std.specs.Prelude.{ℤ, pos, ◌+ℤ◌, ◌≤ℤ◌, if◌then◌else◌}
+use Rattle.image_rules.proofs.Prelude.{◌≡◌, refl, sym, ap, subst, ◌∙◌, ℕ, zero, suc, ◌+◌, ◌≤◌, Bool, true, false, not}
+use Rattle.image_rules.proofs.Prelude.{List, [], ◌∷◌, length, take, cond, Some, arith, ints, ℤ, pos, ◌+ℤ◌, ◌≤ℤ◌}
+use Rattle.image_rules.proofs.Prelude.{if◌then◌else◌, int_cmp_total, tied_itself, slice_get, list_any, is_eq, int_cmp}
+use Rattle.image_rules.proofs.Prelude.{entries, values, OfferEntry, LedgerEntry, LedgerEntryBody, EntryMap, Weight}
+use Rattle.image_rules.proofs.Prelude.{sum_over, total, Pairs, offer_with_in, offer_with, AreOffersApart, id_among}
+use Rattle.image_rules.proofs.Prelude.{Brings, add_nonnegative, indicator_at_most_one, int_cmp_equal}
 use Rattle.std.specs.BTreeSet.{BTreeSet, contains, Updates, IsEmpty}
 use Rattle.std.specs.BTreeMap.{is_at}
-use Rattle.std.specs.Cmp.{int_cmp_total, tied_itself, Equal-is}
-use Rattle.std.specs.List.{slice_get, list_any}
-use Rattle.std.specs.Ordering.{is_eq, int_cmp}
-use Rattle.std.specs.FinMap.{entries, values, int_cmp-IsAntisymmetric}
-use Rattle.ledger_types.specs.declared.offer.OfferEntry.{OfferEntry}
-use Rattle.ledger_types.specs.declared.entry.LedgerEntry.{LedgerEntry}
-use Rattle.ledger_types.specs.declared.entry.LedgerEntryBody.{LedgerEntryBody}
 use Rattle.ledger_types.specs.declared.entry.LedgerEntryBody.TheVariants as body
-use Rattle.entry_map.specs.EntryMap.{EntryMap}
-use Rattle.close_rules.specs.entry_sums.Sums.{Weight, sum_over, total}
-use Rattle.close_rules.proofs.entry_sums_proofs.Lists.{Pairs}
-use Rattle.close_rules.specs.legal_rules.OfferIds.{offer_with_in, offer_with, AreOffersApart}
-use Rattle.image_rules.specs.OfferSets.{id_among, Brings}
 use Rattle.image_rules.proofs.Listed.{sum_before, sum_more, sum_of_all}
+use Rattle.close_rules.proofs.legal_rules_proofs.Putting.{offer_with_in_nonnegative}
 
 -- ---- sums of what is at least 0
-
-none_first : (a b : ℤ) → pos 0 ≤ℤ a → pos 0 ≤ℤ b → pos 0 ≤ℤ (a +ℤ b)
-none_first a b low lower = omega (arith, ints)
 
 same_first : (a b c : ℤ) → b ≤ℤ c → (a +ℤ b) ≤ℤ (a +ℤ c)
 same_first a b c le = omega (arith, ints)
 
 sum_not_below : (f : Weight) (es : Pairs) → ((e : LedgerEntry) → pos 0 ≤ℤ f e) → pos 0 ≤ℤ sum_over f es
 sum_not_below f [] low = omega (arith, ints)
-sum_not_below f (p ∷ es) low = none_first (f p.1) (sum_over f es) (low p.1) (sum_not_below f es low)
+sum_not_below f (p ∷ es) low = add_nonnegative (f p.1) (sum_over f es) (low p.1) (sum_not_below f es low)
 
-front_at_most : (f : Weight) (es : Pairs) (i : ℕ) → ((e : LedgerEntry) → pos 0 ≤ℤ f e)
+prefix_at_most : (f : Weight) (es : Pairs) (i : ℕ) → ((e : LedgerEntry) → pos 0 ≤ℤ f e)
     → sum_over f (take i es) ≤ℤ sum_over f es
-front_at_most f [] zero low = omega (arith, ints)
-front_at_most f [] (suc i) low = omega (arith, ints)
-front_at_most f (p ∷ es) zero low = sum_not_below f (p ∷ es) low
-front_at_most f (p ∷ es) (suc i) low =
-    same_first (f p.1) (sum_over f (take i es)) (sum_over f es) (front_at_most f es i low)
+prefix_at_most f [] zero low = omega (arith, ints)
+prefix_at_most f [] (suc i) low = omega (arith, ints)
+prefix_at_most f (p ∷ es) zero low = sum_not_below f (p ∷ es) low
+prefix_at_most f (p ∷ es) (suc i) low =
+    same_first (f p.1) (sum_over f (take i es)) (sum_over f es) (prefix_at_most f es i low)
 
 before_at_most : (f : Weight) (m : EntryMap) (i : ℕ) → ((e : LedgerEntry) → pos 0 ≤ℤ f e)
     → sum_before f m i ≤ℤ total f m
 unfolding total
-before_at_most f m i low = front_at_most f (entries m) i low
+before_at_most f m i low = prefix_at_most f (entries m) i low
 
 -- ---- one offer more
-
-one_or_none : (b : Bool) → pos 0 ≤ℤ (if b then pos 1 else pos 0)
-one_or_none true = omega (arith, ints)
-one_or_none false = omega (arith, ints)
-
-low_with : (id : ℤ) (b : LedgerEntryBody) → pos 0 ≤ℤ offer_with_in id b
-low_with id (body.Offer offer) = one_or_none (is_eq (int_cmp offer.offer_id id))
-low_with id other = omega (arith, ints)
 
 two_at_most_one : (before all : ℤ) → before ≡ (pos 1 +ℤ pos 1) → before ≤ℤ all → all ≤ℤ pos 1 → ⊥
 two_at_most_one before all two le few = omega (arith, ints)
@@ -67,7 +47,7 @@ brought_twice m ids new i e before at twice apart =
     let f : Weight = offer_with id in
     two_at_most_one (sum_before f m (i + 1)) (total f m)
     (sum_more f m i e at ∙ ap (λ n. n +ℤ f e) (before id ∙ twice.1) ∙ ap (λ n. pos 1 +ℤ n) twice.2)
-    (before_at_most f m (i + 1) (λ x. low_with id x.body)) (apart id)
+    (before_at_most f m (i + 1) (λ x. offer_with_in_nonnegative id x.body)) (apart id)
 
 pub brought_once : (m : EntryMap) (ids new : BTreeSet ℤ) (i : ℕ) (e : LedgerEntry)
     → ((id : ℤ) → sum_before (offer_with id) m i ≡ id_among ids id) → slice_get (values m) i ≡ Some e
@@ -75,19 +55,12 @@ pub brought_once : (m : EntryMap) (ids new : BTreeSet ℤ) (i : ℕ) (e : Ledger
 brought_once m ids new i e before at brings id =
     sum_more (offer_with id) m i e at ∙ ap (λ n. n +ℤ offer_with id e) (before id) ∙ sym (brings id)
 
-most_one : (b : Bool) → (if b then pos 1 else pos 0) ≤ℤ pos 1
-most_one true = omega (arith, ints)
-most_one false = omega (arith, ints)
-
 pub apart_of_all : (m : EntryMap) (ids : BTreeSet ℤ) (n : ℕ) → length (entries m) ≤ n
     → ((id : ℤ) → sum_before (offer_with id) m n ≡ id_among ids id) → AreOffersApart m
 apart_of_all m ids n le all id =
-    subst (λ s. s ≤ℤ pos 1) (sym (all id) ∙ sum_of_all (offer_with id) m n le) (most_one (contains int_cmp ids id))
+    subst (λ s. s ≤ℤ pos 1) (sym (all id) ∙ sum_of_all (offer_with id) m n le) (indicator_at_most_one (contains int_cmp ids id))
 
 -- ---- sets
-
-pub same_id : (a b : ℤ) → is_eq (int_cmp a b) ≡ true → a ≡ b
-same_id a b tied = int_cmp-IsAntisymmetric a b ((Equal-is (int_cmp a b)).0 tied)
 
 pub none_among : (ids : BTreeSet ℤ) → IsEmpty ids → (id : ℤ) → pos 0 ≡ id_among ids id
 none_among ids none id = ap (λ (ks : List ℤ). if list_any (is_at (int_cmp id)) ks then pos 1 else pos 0) (sym none)
@@ -124,7 +97,7 @@ brought : (old new : BTreeSet ℤ) (offer : OfferEntry) (added : Bool)
     → Brings old new (body.Offer offer) added
 brought old new offer true is updates = λ id.
     one_more (contains int_cmp old id) (contains int_cmp new id) (is_eq (int_cmp offer.offer_id id)) (updates.0 id)
-    (λ tied. ap (contains int_cmp old) (sym (same_id offer.offer_id id tied))
+    (λ tied. ap (contains int_cmp old) (sym (int_cmp_equal offer.offer_id id tied))
     ∙ not_true (contains int_cmp old offer.offer_id) is)
 brought old new offer false is updates = (
   offer.offer_id,

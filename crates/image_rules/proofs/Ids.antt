@@ -1,11 +1,7 @@
 -- Ranges of entries in their two parts.
-use Rattle.std.proofs.Common.{ℕ}
-use Rattle.ledger_types.specs.declared.entry.LedgerEntryBody.{LedgerEntryBody}
+use Rattle.image_rules.proofs.Prelude.{ℕ, LedgerEntryBody, EntryMap, EachEntry, IsBodyInRange, IsEntryInRange}
+use Rattle.image_rules.proofs.Prelude.{IsBodyInRangeButId, IsEntryInRangeButId, HasPoolId}
 use Rattle.ledger_types.specs.declared.entry.LedgerEntryBody.TheVariants as body
-use Rattle.entry_map.specs.EntryMap.{EntryMap}
-use Rattle.close_rules.specs.entry_sums.Sums.{EachEntry}
-use Rattle.close_rules.specs.legal_rules.Ranges.{IsBodyInRange, IsEntryInRange}
-use Rattle.image_rules.specs.PoolRanges.{IsBodyInRangeButId, IsEntryInRangeButId, HasPoolId}
 
 joined_in : (id_pool : ℕ) (b : LedgerEntryBody) → IsBodyInRangeButId id_pool b → HasPoolId b → IsBodyInRange id_pool b
 joined_in id_pool (body.LiquidityPool pool) range named = record {

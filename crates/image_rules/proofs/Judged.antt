@@ -1,9 +1,7 @@
 -- Rules in their order.
-use Rattle.std.proofs.Common.{inl, inr, refl, List, ◌∷◌, Option, Some, None}
-use Rattle.ledger_types.specs.declared.header.LedgerHeader.{LedgerHeader}
-use Rattle.entry_map.specs.EntryMap.{EntryMap}
+use Rattle.image_rules.proofs.Prelude.{inl, inr, refl, List, ◌∷◌, Option, Some, None, LedgerHeader, EntryMap, Keeps}
+use Rattle.image_rules.proofs.Prelude.{IsFirstBroken}
 use Rattle.close_rules.specs.declared.image_fault.ImageRule.{ImageRule}
-use Rattle.close_rules.specs.EntryRules.{Keeps, IsFirstBroken}
 
 module _ (h : LedgerHeader) (m : EntryMap) (first : ImageRule) (rules : List ImageRule) where
   pub broken_first : (Keeps h m first → ⊥) → IsFirstBroken h m (first ∷ rules) (Some first)

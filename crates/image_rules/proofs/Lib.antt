@@ -1,10 +1,11 @@
 mod Listed
 mod Counting
 mod Naming
-pub mod Booked
+pub mod Aggregated
 pub mod Bounded
 mod Ids
 mod Rising
 mod Apart
 mod Judged
 pub mod Distinct
+pub mod Prelude

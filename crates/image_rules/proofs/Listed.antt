@@ -1,77 +1,41 @@
--- The entries of a map by their places.
-use Rattle.std.proofs.Common.{◌≡◌, inl, inr, refl, sym, ap, subst, ◌∙◌, ℕ, zero, suc, ◌+◌, ◌<◌, ◌≤◌, Bool}
-use Rattle.std.proofs.Common.{true, false, cond, ◌&&◌, T, [], ◌∷◌, map, length, take, Some, None, add-one, arith}
-use Rattle.std.proofs.lemmas.Bool.{cases_eq}
-use Rattle.std.proofs.lemmas.Int.{ints}
-use Rattle.std.proofs.lemmas.List.{take_all}
-use Rattle.std.specs.Prelude.{ℤ, pos, ◌+ℤ◌}
-use Rattle.std.specs.List.{slice_get}
-use Rattle.std.specs.Ordering.{is_lt, is_eq, eq_by_cmp}
-use Rattle.std.specs.declared.cmp.Ordering.{Ordering}
-use Rattle.std.specs.declared.cmp.Ordering.TheVariants.{Less, Equal, Greater}
-use Rattle.std.specs.Cmp.{tied_itself}
-use Rattle.std.specs.FinMap.{get, entries, values, entries_sorted, get-entries}
+-- The entries of a map by their indices.
+use Rattle.image_rules.proofs.Prelude as prelude
+use prelude.{◌≡◌, inl, inr, refl, sym, ap, subst, ◌∙◌, ℕ, zero, suc, ◌+◌, ◌<◌, ◌≤◌, true, false, cond, T, [], ◌∷◌, map}
+use prelude.{length, take, Some, None, add-one, arith, cases_eq, ints, take_all, ℤ, pos, ◌+ℤ◌, slice_get, is_eq}
+use prelude.{eq_by_cmp, Equal, tied_itself, get, entries, values, entries_sorted, get-entries, LedgerEntry, LedgerKey}
+use prelude.{key_of, key_cmp, keys_total, EntryMap, Weight, sum_over, total, EachEntry, Pairs, found_later}
 use Rattle.std.specs.FinMap.Entries.{find, is_sorted, below_all}
-use Rattle.ledger_types.specs.declared.entry.LedgerEntry.{LedgerEntry}
-use Rattle.ledger_types.specs.declared.key.LedgerKey.{LedgerKey}
-use Rattle.ledger_types.specs.Keys.{key_of}
-use Rattle.ledger_types.specs.KeyOrder.{key_cmp}
-use Rattle.ledger_types.proofs.KeyOrdering.{keys_total}
-use Rattle.entry_map.specs.EntryMap.{EntryMap}
-use Rattle.close_rules.specs.entry_sums.Sums.{Weight, sum_over, total, EachEntry}
-use Rattle.close_rules.proofs.entry_sums_proofs.Lists.{Pairs}
+use Rattle.ledger_types.proofs.Booleans.{first_true, is_lt_Less, second_true}
 
 -- ---- lists in the order of keys
-
-first_of_both : (a b : Bool) → T (a && b) → T a
-first_of_both true b p = tt
-first_of_both false b p = p
-
-second_of_both : (a b : Bool) → T (a && b) → T b
-second_of_both true b p = p
-second_of_both false b p = absurd p
-
-is_less : (o : Ordering) → T (is_lt o) → o ≡ Less
-is_less Less p = refl
-is_less Equal p = absurd p
-is_less Greater p = absurd p
 
 -- a key that ties with one below all is not among them
 missing : (k q : LedgerKey) (es : Pairs) → key_cmp k q ≡ Equal → T (below_all key_cmp q es) → find key_cmp k es ≡ None
 missing k q [] tied h = refl
 missing k q (e ∷ es) tied h =
     ap (λ r. cond (is_eq r) (Some e.1) (find key_cmp k es))
-    (keys_total.congr k q e.0 tied ∙ is_less _ (first_of_both _ _ h))
-    ∙ missing k q es tied (second_of_both _ _ h)
+    (keys_total.congr k q e.0 tied ∙ is_lt_Less _ (first_true _ _ h))
+    ∙ missing k q es tied (second_true _ _ h)
 
-found_later : (e : LedgerKey × LedgerEntry) (es : Pairs) (k : LedgerKey) (x : LedgerEntry)
-    → T (below_all key_cmp e.0 es) → find key_cmp k es ≡ Some x → find key_cmp k (e ∷ es) ≡ Some x
-found_later e es k x h there = elim (key_cmp k e.0) as (λ r. key_cmp k e.0 ≡ r
-    → cond (is_eq r) (Some e.1) (find key_cmp k es) ≡ Some x) [
-      | Less ↦ λ p. there
-      | Equal ↦ λ p. absurd (let none = missing k e.0 es p h in cc)
-      | Greater ↦ λ p. there
-    ] refl
-
--- the key of what stands at a place
+-- the key of what is at an index
 key_in : (es : Pairs) (i : ℕ) (e : LedgerEntry) → T (is_sorted key_cmp es)
     → slice_get (map (λ p. p.1) es) i ≡ Some e → (k : LedgerKey) × (find key_cmp k es ≡ Some e)
 key_in [] i e sorted at = absurd (cc)
 key_in (p ∷ es) zero e sorted at =
     (p.0, ap (λ r. cond (is_eq r) (Some p.1) (find key_cmp p.0 es)) (tied_itself keys_total p.0) ∙ at)
 key_in (p ∷ es) (suc i) e sorted at =
-    let rest = key_in es i e (second_of_both _ _ sorted) at in
-    (rest.0, found_later p es rest.0 e (first_of_both _ _ sorted) rest.1)
+    let rest = key_in es i e (second_true _ _ sorted) at in
+    (rest.0, found_later p es rest.0 e (first_true _ _ sorted) rest.1)
 
--- the place of what stands under a key
-place_in : (es : Pairs) (k : LedgerKey) (e : LedgerEntry) → find key_cmp k es ≡ Some e
+-- the index of what is under a key
+index_in : (es : Pairs) (k : LedgerKey) (e : LedgerEntry) → find key_cmp k es ≡ Some e
     → (i : ℕ) × (i < length es) × (slice_get (map (λ p. p.1) es) i ≡ Some e)
-place_in [] k e there = absurd (cc)
-place_in (p ∷ es) k e there =
+index_in [] k e there = absurd (cc)
+index_in (p ∷ es) k e there =
     elim (eq_by_cmp key_cmp k p.0) as (λ b. cond b (Some p.1) (find key_cmp k es) ≡ Some e
     → (i : ℕ) × (i < length (p ∷ es)) × (slice_get (map (λ q. q.1) (p ∷ es)) i ≡ Some e)) [
       | true ↦ λ is. (0, omega arith, is)
-      | false ↦ λ is. let at = place_in es k e is in let lt = at.1 in (suc at.0, omega arith, at.2)
+      | false ↦ λ is. let at = index_in es k e is in let lt = at.1 in (suc at.0, omega arith, at.2)
     ] there
 
 -- ---- maps
@@ -82,14 +46,14 @@ key_at m i e at =
     let found = key_in (entries m) i e (entries_sorted m) at in
     (found.0, get-entries m found.0 ∙ found.1)
 
--- what stands at a place stands under its own key
-pub stands_at : (m : EntryMap) (i : ℕ) (e : LedgerEntry) → EachEntry (λ k x. key_of x ≡ k) m
+-- what is at an index is under its own key
+pub exists_at : (m : EntryMap) (i : ℕ) (e : LedgerEntry) → EachEntry (λ k x. key_of x ≡ k) m
     → slice_get (values m) i ≡ Some e → get m (key_of e) ≡ Some e
-stands_at m i e keyed at =
+exists_at m i e keyed at =
     let found = key_at m i e at in
     ap (get m) (keyed found.0 e found.1) ∙ found.1
 
--- what holds of the entries before a place
+-- what holds of the entries before an index
 abbrev pub HoldsBefore : (LedgerEntry → Type 0) → EntryMap → ℕ → Type 0
 HoldsBefore P m i = (j : ℕ) (e : LedgerEntry) → j < i → slice_get (values m) j ≡ Some e → P e
 
@@ -106,7 +70,7 @@ holds_more P m i e before at here j x lt there = elim (cases_eq i j) [
 pub holds_of_all : (P : LedgerEntry → Type 0) (m : EntryMap) (n : ℕ) → length (entries m) ≤ n → HoldsBefore P m n
     → EachEntry (λ k e. P e) m
 holds_of_all P m n le all k e there =
-    let at = place_in (entries m) k e (sym (get-entries m k) ∙ there) in
+    let at = index_in (entries m) k e (sym (get-entries m k) ∙ there) in
     let lt = at.1 in
     all at.0 e (omega arith) at.2
 
@@ -131,7 +95,7 @@ more_in f (p ∷ es) zero e at = one_first (f p.1) (f e) (ap f (let same : p.1 �
 more_in f (p ∷ es) (suc i) e at = one_later (f p.1) (sum_over f (take (suc i) es)) (sum_over f (take i es)) (f e)
     (more_in f es i e at)
 
--- the sum over the entries before a place
+-- the sum over the entries before an index
 abbrev pub sum_before : Weight → EntryMap → ℕ → ℤ
 sum_before f m i = sum_over f (take i (entries m))
 

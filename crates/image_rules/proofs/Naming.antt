@@ -1,61 +1,29 @@
 -- What accounts, lines and pools are named by entries, and that nothing is counted for one that isn't.
-use Rattle.std.proofs.Common.{◌≡◌, ◌≢◌, refl, sym, ap, subst, ◌∙◌, ℕ, ◌+◌, Bool, true, false, cond, List, [], ◌∷◌}
-use Rattle.std.proofs.Common.{◌++◌, ◌<◌, map, length, take, get_or, All, Option, Some, None, arith}
-use Rattle.std.proofs.lemmas.Int.{ints}
-use Rattle.std.proofs.lemmas.List.Elements.{All-nil, All-cons, All-head, All-tail, All-append, All-map}
-use Rattle.std.proofs.lemmas.List.Sums.{length-filter}
-use Rattle.std.proofs.lemmas.List.{length-map}
+use Rattle.image_rules.proofs.Prelude as prelude
+use prelude.{◌≡◌, ◌≢◌, refl, sym, ap, subst, ◌∙◌, ℕ, ◌+◌, Bool, true, false, cond, List, [], ◌∷◌, ◌++◌, ◌<◌, map}
+use prelude.{length, take, get_or, All, Option, Some, None, arith, ints, All-nil, All-cons, All-head, All-tail}
+use prelude.{All-append, All-map, length-filter, length-map, ℤ, pos, ◌+ℤ◌, ◌↔◌, IsTrue, if◌then◌else◌, count_by}
+use prelude.{flat_map, AccountId, Hash, Asset, TrustLineAsset, Signer, AccountEntry, TrustLineEntry, OfferEntry}
+use prelude.{LedgerEntry, LedgerEntryBody, LedgerKey, key_of, key_of_body, sponsor_of, second_in, sponsorship_in}
+use prelude.{owner_of, multiplicity, is_same_account, is_there, is_key, for_key, for_account, bound_of, is_for}
+use prelude.{for_each, signer_sponsors_in, subentries_in, sponsored_in_entry, account_keys, keys_in, share_keys}
+use prelude.{pool_keys, holding_keys, needed_keys, holder, sells, buys, Pools, pool_named, needed_line, shares_in}
+use prelude.{share_lines, uses_of, uses_by, uses, View, counted, Aggregate, kind_of, itself, other_owner, own_count}
+use prelude.{counted_itself, counted_else, payers_pay, owner_is_paid, ArePayersOthers, apart_keys, add_zero, zero_add}
+use prelude.{zeros_add_to_zero, all_back, all_front}
 use Rattle.std.proofs.lemmas.List.Filters.{length-filter_more}
-use Rattle.std.specs.Prelude.{ℤ, pos, ◌+ℤ◌, ◌↔◌, IsTrue, if◌then◌else◌}
-use Rattle.std.specs.List.{count_by, filter, flat_map}
-use Rattle.ledger_types.specs.declared.ids.AccountId.{AccountId}
-use Rattle.ledger_types.specs.declared.ids.Hash.{Hash}
-use Rattle.ledger_types.specs.declared.asset.Asset.{Asset}
 use Rattle.ledger_types.specs.declared.asset.Asset.TheVariants as asset
 use Rattle.ledger_types.specs.declared.asset.PoolParams.{PoolParams}
-use Rattle.ledger_types.specs.declared.asset.TrustLineAsset.{TrustLineAsset}
 use Rattle.ledger_types.specs.declared.asset.TrustLineAsset.TheVariants as line
-use Rattle.ledger_types.specs.declared.signer.Signer.{Signer}
-use Rattle.ledger_types.specs.declared.account.AccountEntry.{AccountEntry}
 use Rattle.ledger_types.specs.declared.account.AccountEntryExtensionV2.{AccountEntryExtensionV2}
-use Rattle.ledger_types.specs.declared.trust_line.TrustLineEntry.{TrustLineEntry}
-use Rattle.ledger_types.specs.declared.offer.OfferEntry.{OfferEntry}
-use Rattle.ledger_types.specs.declared.entry.LedgerEntry.{LedgerEntry}
-use Rattle.ledger_types.specs.declared.entry.LedgerEntryBody.{LedgerEntryBody}
 use Rattle.ledger_types.specs.declared.entry.LedgerEntryBody.TheVariants as body
-use Rattle.ledger_types.specs.declared.key.LedgerKey.{LedgerKey}
 use Rattle.ledger_types.specs.declared.key.LedgerKey.TheVariants as key
-use Rattle.ledger_types.specs.Keys.{key_of, key_of_body}
-use Rattle.close_rules.proofs.entry_sums_proofs.Lookups.{apart_keys}
-use Rattle.entry_slots.specs.EntrySponsor.{sponsor_of}
-use Rattle.entry_slots.specs.AccountExtensions.{second_in, sponsorship_in, sponsorship_of}
-use Rattle.sponsor_rules.specs.Charge.{owner_of, multiplicity}
-use Rattle.sponsor_rules.specs.Payers.{is_same_account}
-use Rattle.close_rules.specs.sponsor_laws.Sums.{is_there}
-use Rattle.close_rules.specs.legal_rules.EntryKeys.{is_key, for_key, for_account}
-use Rattle.close_rules.specs.legal_rules.OfferLiabilities.{bound_of}
-use Rattle.close_rules.specs.legal_rules.Reserves.{is_for, for_each, signer_sponsors_in, subentries_in}
-use Rattle.close_rules.specs.legal_rules.Reserves.{sponsored_in_entry}
-use Rattle.close_rules.specs.legal_rules.Needs.{account_keys, keys_in, share_keys, pool_keys, holding_keys, needed_keys}
-use Rattle.close_rules.specs.legal_rules.Trades.{holder, sells, buys}
-use Rattle.close_rules.specs.legal_rules.PoolShares.{Pools, pool_named, needed_line, shares_in, share_lines, uses_of}
-use Rattle.close_rules.specs.legal_rules.PoolShares.{uses_by, uses}
-use Rattle.close_rules.specs.legal_rules.Books.{View, counted}
-use Rattle.image_rules.specs.declared.books.Book.{Book}
-use Rattle.image_rules.specs.declared.books.Book.TheVariants as book
-use Rattle.image_rules.specs.Books.{kind_of, itself, other_owner, own_count, counted_itself, counted_else}
-use Rattle.image_rules.specs.Books.{payers_pay, owner_is_paid}
-use Rattle.image_rules.specs.Signers.{ArePayersOthers}
+use Rattle.entry_slots.specs.AccountExtensions.{sponsorship_of}
+use Rattle.image_rules.specs.declared.aggregates.Aggregate.TheVariants as aggregate
+use Rattle.close_rules.proofs.legal_rules_proofs.Evaluated.{filter_of_others, for_account_of_others, for_key_of_others}
+use Rattle.close_rules.proofs.legal_rules_proofs.Evaluated.{uses_of_others}
 
--- ---- lists of keys, one behind another
-
-pub all_front : (P : LedgerKey → Type 0) (xs ys : List LedgerKey) → All P (xs ++ ys) → All P xs
-all_front P [] ys h = All-nil P
-all_front P (x ∷ xs) ys h = All-cons P x xs (All-head P x (xs ++ ys) h) (all_front P xs ys (All-tail P x (xs ++ ys) h))
-
-pub all_back : (P : LedgerKey → Type 0) (xs ys : List LedgerKey) → All P (xs ++ ys) → All P ys
-all_back P [] ys h = h
-all_back P (x ∷ xs) ys h = all_back P xs ys (All-tail P x (xs ++ ys) h)
+-- ---- lists of keys, one after another
 
 abbrev pub AllOf : (LedgerKey → Type 0) → Option AccountId → Type 0
 AllOf P o = All P (account_keys o)
@@ -150,22 +118,10 @@ both_iff P first second both xs ys two one other = (
 abbrev IsOther : LedgerKey → LedgerKey → Type 0
 IsOther k q = q ≢ k
 
-none_for_account : (k : LedgerKey) (o : Option AccountId) (n : ℕ) → All (IsOther k) (account_keys o)
-    → for_account k o n ≡ pos 0
-none_for_account k None n others = refl
-none_for_account k (Some id) n others =
-    ap (λ b. if b then pos n else pos 0)
-    (apart_keys (key.Account id) k (All-head (IsOther k) (key.Account id) [] others))
-
-none_for_key : (k : LedgerKey) (o : Option LedgerKey) (n : ℤ) → All (IsOther k) (keys_in o) → for_key k o n ≡ pos 0
-none_for_key k None n others = refl
-none_for_key k (Some named) n others =
-    ap (λ b. if b then n else pos 0) (apart_keys named k (All-head (IsOther k) named [] others))
-
 unsold : (k : LedgerKey) (pools : Pools) (b : LedgerEntryBody) → All (IsOther k) (holding_keys pools b)
     → sells k b ≡ pos 0
 unsold k pools (body.Offer offer) others =
-    none_for_key k (holder offer.seller_id offer.selling) (pos (bound_of offer).wheat)
+    for_key_of_others k (holder offer.seller_id offer.selling) (pos (bound_of offer).wheat)
     (all_front (IsOther k) (keys_in (holder offer.seller_id offer.selling))
     (keys_in (holder offer.seller_id offer.buying)) others)
 unsold k pools other others = refl
@@ -173,28 +129,15 @@ unsold k pools other others = refl
 unbought : (k : LedgerKey) (pools : Pools) (b : LedgerEntryBody) → All (IsOther k) (holding_keys pools b)
     → buys k b ≡ pos 0
 unbought k pools (body.Offer offer) others =
-    none_for_key k (holder offer.seller_id offer.buying) (pos (bound_of offer).sheep)
+    for_key_of_others k (holder offer.seller_id offer.buying) (pos (bound_of offer).sheep)
     (all_back (IsOther k) (keys_in (holder offer.seller_id offer.selling))
     (keys_in (holder offer.seller_id offer.buying)) others)
 unbought k pools other others = refl
 
-none_kept : (k : LedgerKey) (ids : List (Option AccountId)) → All (IsOther k) (flat_map account_keys ids)
-    → filter (is_for k) ids ≡ []
-none_kept k [] others = refl
-none_kept k (None ∷ ids) others = none_kept k ids others
-none_kept k (Some id ∷ ids) others =
-    let rest = flat_map account_keys ids in
-    ap (λ b. cond b (Some id ∷ filter (is_for k) ids) (filter (is_for k) ids))
-    (apart_keys (key.Account id) k (All-head (IsOther k) (key.Account id) rest others))
-    ∙ none_kept k ids (All-tail (IsOther k) (key.Account id) rest others)
-
 none_for_each : (k : LedgerKey) (ids : List (Option AccountId)) → All (IsOther k) (flat_map account_keys ids)
     → for_each k ids ≡ pos 0
 none_for_each k ids others =
-    ap pos (sym (length-filter (is_for k) ids) ∙ ap length (none_kept k ids others))
-
-both_none : (a b : ℤ) → a ≡ pos 0 → b ≡ pos 0 → (a +ℤ b) ≡ pos 0
-both_none a b first second = omega (arith, ints)
+    ap pos (sym (length-filter (is_for k) ids) ∙ ap length (filter_of_others k ids others))
 
 -- ---- pools and the lines that their shares need
 
@@ -216,20 +159,10 @@ unlined : (k : LedgerKey) (pools : Pools) (b : LedgerEntryBody) → All (IsOther
 unlined k pools (body.TrustLine t) others = unshared_in k pools t.account_id t.asset (pos 1) others
 unlined k pools other others = refl
 
-unused_of : (k : LedgerKey) (id : AccountId) (o : Option PoolParams) → All (IsOther k) (share_keys id o)
-    → uses_of k id o ≡ pos 0
-unused_of k id None others = refl
-unused_of k id (Some params) others =
-    let first = needed_line id params.asset_a in
-    let second = needed_line id params.asset_b in
-    both_none (for_key k first (pos 1)) (for_key k second (pos 1))
-    (none_for_key k first (pos 1) (all_front (IsOther k) (keys_in first) (keys_in second) others))
-    (none_for_key k second (pos 1) (all_back (IsOther k) (keys_in first) (keys_in second) others))
-
 unused_by : (k : LedgerKey) (pools : Pools) (id : AccountId) (x : TrustLineAsset)
     → All (IsOther k) (pool_keys pools id x) → uses_by pools k id x ≡ pos 0
 unused_by k pools id (line.PoolShare pool) others =
-    unused_of k id (pools pool)
+    uses_of_others k id (pools pool)
     (All-tail (IsOther k) (key.LiquidityPool pool) (share_keys id (pools pool)) others)
 unused_by k pools id other others = refl
 
@@ -238,19 +171,19 @@ unused : (k : LedgerKey) (pools : Pools) (b : LedgerEntryBody) → All (IsOther 
 unused k pools (body.TrustLine t) others = unused_by k pools t.account_id t.asset others
 unused k pools other others = refl
 
-pub uncounted : (which : Book) (v : View) (k : LedgerKey) (e : LedgerEntry) → AllNamed (IsOther k) v.pools e
+pub uncounted : (which : Aggregate) (v : View) (k : LedgerKey) (e : LedgerEntry) → AllNamed (IsOther k) v.pools e
     → counted v (kind_of which) k e ≡ pos 0
-uncounted book.Subentries v k e others = none_for_account k (owner_of e.body) (subentries_in e.body) others.owner
-uncounted book.Sponsored v k e others = none_for_account k (owner_of e.body) (sponsored_in_entry e) others.owner
-uncounted book.Sponsoring v k e others =
-    both_none (for_account k (sponsor_of e) (multiplicity e.body)) (for_each k (signer_sponsors_in e.body))
-    (none_for_account k (sponsor_of e) (multiplicity e.body) others.sponsor)
+uncounted aggregate.Subentries v k e others = for_account_of_others k (owner_of e.body) (subentries_in e.body) others.owner
+uncounted aggregate.Sponsored v k e others = for_account_of_others k (owner_of e.body) (sponsored_in_entry e) others.owner
+uncounted aggregate.Sponsoring v k e others =
+    zeros_add_to_zero (for_account k (sponsor_of e) (multiplicity e.body)) (for_each k (signer_sponsors_in e.body))
+    (for_account_of_others k (sponsor_of e) (multiplicity e.body) others.sponsor)
     (none_for_each k (signer_sponsors_in e.body) others.signers)
-uncounted book.Selling v k e others = unsold k v.pools e.body others.holding
-uncounted book.Buying v k e others = unbought k v.pools e.body others.holding
-uncounted book.Shares v k e others = unshared k v.pools e.body others.holding
-uncounted book.ShareLines v k e others = unlined k v.pools e.body others.holding
-uncounted book.Uses v k e others = unused k v.pools e.body others.holding
+uncounted aggregate.Selling v k e others = unsold k v.pools e.body others.holding
+uncounted aggregate.Buying v k e others = unbought k v.pools e.body others.holding
+uncounted aggregate.Shares v k e others = unshared k v.pools e.body others.holding
+uncounted aggregate.ShareLines v k e others = unlined k v.pools e.body others.holding
+uncounted aggregate.Uses v k e others = unused k v.pools e.body others.holding
 
 -- ---- a key that isn't an account's
 
@@ -266,7 +199,7 @@ accounts_only P all (None ∷ ids) = accounts_only P all ids
 accounts_only P all (Some id ∷ ids) =
     All-cons P (key.Account id) (flat_map account_keys ids) (all id) (accounts_only P all ids)
 
--- a key under which neither an account nor a line nor a pool stands
+-- a key under which neither an account nor a line nor a pool exists
 pub record IsElsewhere (k : LedgerKey) : Type 0 where
   pub accounts : (id : AccountId) → key.Account id ≢ k
   pub lines : (id : AccountId) (x : TrustLineAsset) → key.TrustLine id x ≢ k
@@ -325,18 +258,6 @@ pub none_named : (signers : List Signer) → flat_map account_keys (map (λ sign
 none_named [] = refl
 none_named (s ∷ signers) = none_named signers
 
-none_of_none : (p : Option AccountId → Bool) (signers : List Signer) → p None ≡ false
-    → filter p (map (λ signer. None) signers) ≡ []
-none_of_none p [] none = refl
-none_of_none p (s ∷ signers) none =
-    ap (λ b. cond b (None ∷ filter p (map (λ signer. None) signers)) (filter p (map (λ signer. None) signers))) none
-    ∙ none_of_none p signers none
-
-pub none_counted : (p : Option AccountId → Bool) (signers : List Signer) → p None ≡ false
-    → count_by p (map (λ signer. None) signers) ≡ 0
-none_counted p signers none =
-    sym (length-filter p (map (λ signer. None) signers)) ∙ ap length (none_of_none p signers none)
-
 -- ---- one more that is named
 
 one_counted : (b : Bool) → (if b then pos 1 else pos 0) ≡ pos (cond b 1 0)
@@ -382,52 +303,46 @@ sponsoring_sum k e sponsor n is same =
 
 -- ---- what an account counts for itself, and what is counted for others
 
-none_more : (a : ℤ) → a ≡ (a +ℤ pos 0)
-none_more a = omega (arith, ints)
-
-none_else : (a : ℤ) → a ≡ (pos 0 +ℤ a)
-none_else a = omega (arith, ints)
-
-nothing_more : (k : LedgerKey) (o : Option AccountId) (a : ℤ) → a ≡ (a +ℤ for_account k o 0)
-nothing_more k None a = none_more a
-nothing_more k (Some id) a = elim (is_key (key.Account id) k) as (λ b. a ≡ (a +ℤ (if b then pos 0 else pos 0))) [
-  | true ↦ none_more a
-  | false ↦ none_more a
+add_for_account_zero : (k : LedgerKey) (o : Option AccountId) (a : ℤ) → a ≡ (a +ℤ for_account k o 0)
+add_for_account_zero k None a = sym (add_zero a)
+add_for_account_zero k (Some id) a = elim (is_key (key.Account id) k) as (λ b. a ≡ (a +ℤ (if b then pos 0 else pos 0))) [
+  | true ↦ sym (add_zero a)
+  | false ↦ sym (add_zero a)
 ]
 
 owned_parts : (k : LedgerKey) (b : LedgerEntryBody) (n : ℕ) → for_account k (owner_of b) n
     ≡ (for_account k (other_owner b) n +ℤ for_account k (itself b) n)
-owned_parts k (body.Account a) n = none_else (for_account k (Some a.account_id) n)
-owned_parts k (body.TrustLine line) n = none_more (for_account k (Some line.account_id) n)
-owned_parts k (body.Offer offer) n = none_more (for_account k (Some offer.seller_id) n)
-owned_parts k (body.Data data_entry) n = none_more (for_account k (Some data_entry.account_id) n)
-owned_parts k (body.ClaimableBalance balance) n = none_more (pos 0)
-owned_parts k (body.LiquidityPool pool) n = none_more (pos 0)
+owned_parts k (body.Account a) n = sym (zero_add (for_account k (Some a.account_id) n))
+owned_parts k (body.TrustLine line) n = sym (add_zero (for_account k (Some line.account_id) n))
+owned_parts k (body.Offer offer) n = sym (add_zero (for_account k (Some offer.seller_id) n))
+owned_parts k (body.Data data_entry) n = sym (add_zero (for_account k (Some data_entry.account_id) n))
+owned_parts k (body.ClaimableBalance balance) n = sym (add_zero (pos 0))
+owned_parts k (body.LiquidityPool pool) n = sym (add_zero (pos 0))
 
-pub counted_parts : (which : Book) (v : View) (k : LedgerKey) (e : LedgerEntry)
+pub counted_parts : (which : Aggregate) (v : View) (k : LedgerKey) (e : LedgerEntry)
     → counted v (kind_of which) k e ≡ (counted_else v.pools which k e +ℤ counted_itself which k e)
-counted_parts book.Subentries v k e = owned_parts k e.body (subentries_in e.body)
-counted_parts book.Sponsored v k e = owned_parts k e.body (sponsored_in_entry e)
-counted_parts book.Sponsoring v k e =
-    nothing_more k (itself e.body) (for_account k (sponsor_of e) (multiplicity e.body)
+counted_parts aggregate.Subentries v k e = owned_parts k e.body (subentries_in e.body)
+counted_parts aggregate.Sponsored v k e = owned_parts k e.body (sponsored_in_entry e)
+counted_parts aggregate.Sponsoring v k e =
+    add_for_account_zero k (itself e.body) (for_account k (sponsor_of e) (multiplicity e.body)
     +ℤ for_each k (signer_sponsors_in e.body))
-counted_parts book.Selling v k e = nothing_more k (itself e.body) (sells k e.body)
-counted_parts book.Buying v k e = nothing_more k (itself e.body) (buys k e.body)
-counted_parts book.Shares v k e = nothing_more k (itself e.body) (shares_in k e.body)
-counted_parts book.ShareLines v k e = nothing_more k (itself e.body) (share_lines k e.body)
-counted_parts book.Uses v k e = nothing_more k (itself e.body) (uses v.pools k e.body)
+counted_parts aggregate.Selling v k e = add_for_account_zero k (itself e.body) (sells k e.body)
+counted_parts aggregate.Buying v k e = add_for_account_zero k (itself e.body) (buys k e.body)
+counted_parts aggregate.Shares v k e = add_for_account_zero k (itself e.body) (shares_in k e.body)
+counted_parts aggregate.ShareLines v k e = add_for_account_zero k (itself e.body) (share_lines k e.body)
+counted_parts aggregate.Uses v k e = add_for_account_zero k (itself e.body) (uses v.pools k e.body)
 
 -- under a key that isn't an account's others count all
-pub counted_by_others : (which : Book) (v : View) (k : LedgerKey) (e : LedgerEntry)
+pub counted_by_others : (which : Aggregate) (v : View) (k : LedgerKey) (e : LedgerEntry)
     → ((id : AccountId) → key.Account id ≢ k) → counted v (kind_of which) k e ≡ counted_else v.pools which k e
 counted_by_others which v k e other =
     counted_parts which v k e
     ∙ ap (λ n. counted_else v.pools which k e +ℤ n)
-    (none_for_account k (itself e.body) (own_count which e) (account_only (IsOther k) other (itself e.body)))
-    ∙ sym (none_more (counted_else v.pools which k e))
+    (for_account_of_others k (itself e.body) (own_count which e) (account_only (IsOther k) other (itself e.body)))
+    ∙ add_zero (counted_else v.pools which k e)
 
 -- an account counts nothing for another one
-pub none_itself : (which : Book) (k : LedgerKey) (e : LedgerEntry) → key_of e ≢ k
+pub none_itself : (which : Aggregate) (k : LedgerKey) (e : LedgerEntry) → key_of e ≢ k
     → counted_itself which k e ≡ pos 0
 none_itself which k e other = none_of e.body refl
   where

@@ -1,9 +1,6 @@
 -- Signers each of which is below the next rise.
-use Rattle.std.proofs.Common.{◌≡◌, subst, ℕ, zero, suc, ◌+◌, ◌-◌, ◌<◌, List, length, get_or, arith}
-use Rattle.std.specs.List.{AllPairs}
-use Rattle.ledger_types.specs.declared.signer.Signer.{Signer}
-use Rattle.ledger_types.proofs.KeyOrdering.{signer_keys_total}
-use Rattle.image_rules.specs.Signers.{IsBelow}
+use Rattle.image_rules.proofs.Prelude.{◌≡◌, subst, ℕ, zero, suc, ◌+◌, ◌-◌, ◌<◌, List, length, get_or, arith, AllPairs}
+use Rattle.image_rules.proofs.Prelude.{Signer, signer_keys_total, IsBelow}
 
 -- each of the first n is below the next
 abbrev pub RiseBefore : List Signer → ℕ → Type 0

@@ -1,4 +1,4 @@
--- Counts under keys, as far as 64 bits tell them.
+-- Counts under keys, as far as 64 bits hold them.
 use Rattle.std.specs.Prelude.{◌≡◌, ℕ, min, ℤ, pos, ◌+ℤ◌, unwrap_or}
 use Rattle.std.specs.BTreeMap.{BTreeMap, get}
 use Rattle.ledger_types.specs.declared.key.LedgerKey.{LedgerKey}

@@ -6,5 +6,5 @@ use Rattle.close_rules.specs.declared.image_fault.ImageRule.TheVariants as rule
 abbrev pub sum_rules : List ImageRule
 sum_rules = rule.Pools ∷ rule.Lumens ∷ []
 
-abbrev pub book_rules : List ImageRule
-book_rules = rule.Subentries ∷ rule.Sponsorship ∷ sum_rules
+abbrev pub aggregate_rules : List ImageRule
+aggregate_rules = rule.Subentries ∷ rule.Sponsorship ∷ sum_rules

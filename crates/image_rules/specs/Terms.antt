@@ -1,4 +1,4 @@
--- What entries have that are in their ranges, by which it is told what they bind and count.
+-- What entries in their ranges have, which determines what they bind and count.
 use Rattle.std.specs.Prelude.{◌≡◌, pos, ◌≤ℤ◌}
 use Rattle.std.specs.declared.cmp.Ordering.TheVariants.{Less}
 use Rattle.ledger_types.specs.declared.entry.LedgerEntryBody.{LedgerEntryBody}

@@ -27,7 +27,7 @@ fn is_authorized(entry: &Option<LedgerEntry>) -> bool
     }
 }
 
-/// Whether what stands under a key, if one is named, is authorised.
+/// Whether what exists under a key, if one is named, is authorised.
 fn is_key_authorized(entries: &EntryRow<'_>, named: Option<LedgerKey>) -> Result<bool, AllocError>
     ensures { IfOk result (λ kept.
         IsTrue kept ↔ All (λ k. IsAuthorized (line_of (get entries.now k))) (keys_in named)) }
@@ -41,7 +41,7 @@ fn is_key_authorized(entries: &EntryRow<'_>, named: Option<LedgerKey>) -> Result
     }
 }
 
-/// Whether the lines in which an offer's seller has its assets are authorised, where they stand.
+/// Whether the lines in which an offer's seller has its assets are authorised, where they exist.
 fn are_both_authorized(entries: &EntryRow<'_>, offer: &OfferEntry) -> Result<bool, AllocError>
     ensures { IfOk result (λ kept. IsTrue kept ↔ All (λ k. IsAuthorized (line_of (get entries.now k)))
         (keys_in (spec.holder offer.now.seller_id offer.now.selling)
@@ -67,8 +67,8 @@ pub fn are_all_authorized(entries: &EntryRow<'_>) -> Result<bool, AllocError>
     ensures { IfOk result (λ kept.
         IsTrue kept ↔ EachEntry (λ k e. AreLinesAuthorized entries.now e.body) entries.now) }
 {
-    for place in 0..entries.len() {
-        let authorized = are_lines_authorized(entries, &entries.entry(place).body)?;
+    for index in 0..entries.len() {
+        let authorized = are_lines_authorized(entries, &entries.entry(index).body)?;
         if !authorized {
             return Ok(false);
         }

@@ -31,8 +31,8 @@ fn is_new(destination: &AccountId, claimants: &[Claimant]) -> bool
 fn are_apart(claimants: &[Claimant]) -> bool
     ensures { IsTrue result ↔ AllPairs (λ x y. x.destination ≢ y.destination) claimants.now }
 {
-    for place in 0..claimants.len() {
-        if !is_new(&claimants[place].destination, &claimants[..place]) {
+    for index in 0..claimants.len() {
+        if !is_new(&claimants[index].destination, &claimants[..index]) {
             return false;
         }
     }

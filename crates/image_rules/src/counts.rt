@@ -34,7 +34,7 @@ fn add(tally: &mut Tally, key: LedgerKey, more: u64) -> Result<(), AllocError>
     Ok(())
 }
 
-/// Counts more for a key, if one is named. To count nothing takes no place in the tally.
+/// Counts more for a key, if one is named. To count nothing takes no slot in the tally.
 pub fn add_at(tally: &mut Tally, named: Option<LedgerKey>, more: u64) -> Result<(), AllocError>
     ensures { OnOk result (Adds tally.old tally.new (λ k. for_key k named (pos more))) }
 {

@@ -40,8 +40,8 @@ fn passes(test: EntryTest, entry: &LedgerEntry) -> bool
 pub fn do_all_pass(test: EntryTest, entries: &EntryRow<'_>) -> bool
     ensures { IsTrue result ↔ EachEntry (λ k e. Passes test e) entries.now }
 {
-    for place in 0..entries.len() {
-        if !passes(test, entries.entry(place)) {
+    for index in 0..entries.len() {
+        if !passes(test, entries.entry(index)) {
             return false;
         }
     }

@@ -4,7 +4,7 @@ ghost use Rattle.std.specs.Prelude.{◌↔◌, IsTrue, IfOk};
 ghost use Rattle.close_rules.specs.EntryRules.{AreOwned, AreLiable};
 ghost use Rattle.image_rules.specs.Terms.{HaveTerms};
 
-use crate::books::{Book, is_booked};
+use crate::aggregates::{Aggregate, is_aggregated};
 use entry_table::EntryRow;
 use std::alloc::{AllocError, Global};
 
@@ -14,7 +14,7 @@ pub fn are_liable(alloc: Global, entries: &EntryRow<'_>) -> Result<bool, AllocEr
     requires terms { HaveTerms entries.now }
     ensures { IfOk result (λ kept. IsTrue kept ↔ AreLiable entries.now) }
 {
-    let selling = is_booked(alloc, Book::Selling, entries)?;
-    let buying = is_booked(alloc, Book::Buying, entries)?;
+    let selling = is_aggregated(alloc, Aggregate::Selling, entries)?;
+    let buying = is_aggregated(alloc, Aggregate::Buying, entries)?;
     Ok(selling && buying)
 }

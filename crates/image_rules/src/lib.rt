@@ -1,11 +1,12 @@
 //! The rules of a start image that are of its entries, judged in their order.
 #![tactic(auto)]
 
+mod aggregates;
 mod authorized;
-mod books;
 mod claimables;
 mod counts;
 mod entry_tests;
+mod existing_pools;
 mod fields;
 mod holders;
 mod liabilities;
@@ -22,7 +23,6 @@ mod room;
 mod shares;
 mod signers;
 mod sponsorship;
-mod standing_pools;
 mod subentries;
 mod verdict;
 

@@ -44,8 +44,8 @@ fn lumens_of(entries: &EntryRow<'_>) -> i128
     ensures { result ≡ total (held Native) entries.now }
 {
     let mut sum = 0i128;
-    for place in 0..entries.len() {
-        sum += i128::from(lumens_in(&entries.entry(place).body));
+    for index in 0..entries.len() {
+        sum += i128::from(lumens_in(&entries.entry(index).body));
     }
     sum
 }

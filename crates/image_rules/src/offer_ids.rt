@@ -24,8 +24,8 @@ pub fn are_offers_apart(alloc: Global, entries: &EntryRow<'_>) -> Result<bool, A
     ensures { IfOk result (λ kept. IsTrue kept ↔ AreOffersApart entries.now) }
 {
     let mut ids = BTreeSet::new(alloc);
-    for place in 0..entries.len() {
-        let fresh = is_id_new(&mut ids, &entries.entry(place).body)?;
+    for index in 0..entries.len() {
+        let fresh = is_id_new(&mut ids, &entries.entry(index).body)?;
         if !fresh {
             return Ok(false);
         }

@@ -1,4 +1,4 @@
-//! Rule 8: what entries need stands, and offers have distinct ids.
+//! Rule 8: what entries need exists; that offers have distinct ids is in offer_ids.
 
 ghost use Rattle.std.specs.Prelude.{◌≢◌, ◌↔◌, ◌++◌, ◌∷◌, None, All, IsTrue, IfOk};
 ghost use Rattle.std.specs.List.{flat_map};
@@ -14,10 +14,10 @@ ghost use Rattle.close_rules.specs.legal_rules.Trades as spec;
 ghost use Rattle.close_rules.specs.legal_rules.Legal.{pools_in};
 ghost use Rattle.close_rules.specs.EntryRules.{AreOwned};
 
+use crate::existing_pools::pool_params;
 use crate::holders::{holder, needed_line};
 use crate::offer_ids::are_offers_apart;
 use crate::parts::{owner_of, sponsorship};
-use crate::standing_pools::pool_params;
 use entry_map::Base;
 use entry_slots::sponsor_in;
 use entry_table::EntryRow;
@@ -27,7 +27,7 @@ use ledger_types::{
 };
 use std::alloc::{AllocError, Global};
 
-/// Whether an account stands.
+/// Whether an account exists.
 fn has_account(entries: &EntryRow<'_>, account_id: AccountId) -> Result<bool, AllocError>
     ensures { IfOk result (λ there. IsTrue there ↔ (get entries.now (key.Account account_id) ≢ None)) }
 {
@@ -35,8 +35,8 @@ fn has_account(entries: &EntryRow<'_>, account_id: AccountId) -> Result<bool, Al
     Ok(found.is_some())
 }
 
-/// Whether an account stands, if one is named.
-fn stands(entries: &EntryRow<'_>, id: Option<AccountId>) -> Result<bool, AllocError>
+/// Whether an account exists, if one is named.
+fn exists(entries: &EntryRow<'_>, id: Option<AccountId>) -> Result<bool, AllocError>
     ensures { IfOk result (λ there. IsTrue there ↔ All (λ q. get entries.now q ≢ None) (account_keys id)) }
 {
     match id {
@@ -45,33 +45,33 @@ fn stands(entries: &EntryRow<'_>, id: Option<AccountId>) -> Result<bool, AllocEr
     }
 }
 
-/// Whether all accounts that are named stand.
-fn do_all_stand(entries: &EntryRow<'_>, ids: &[Option<AccountId>]) -> Result<bool, AllocError>
+/// Whether all accounts that are named exist.
+fn do_all_exist(entries: &EntryRow<'_>, ids: &[Option<AccountId>]) -> Result<bool, AllocError>
     ensures { IfOk result (λ there.
         IsTrue there ↔ All (λ id. All (λ q. get entries.now q ≢ None) (account_keys id)) ids.now) }
 {
     for id in ids {
-        if !stands(entries, *id)? {
+        if !exists(entries, *id)? {
             return Ok(false);
         }
     }
     Ok(true)
 }
 
-/// Whether the owner of an entry stands, where the entry does. An account is its own.
-fn does_owner_stand(entries: &EntryRow<'_>, body: &LedgerEntryBody) -> Result<bool, AllocError>
+/// Whether the owner of an entry exists, where the entry does. An account is its own.
+fn does_owner_exist(entries: &EntryRow<'_>, body: &LedgerEntryBody) -> Result<bool, AllocError>
     requires { get entries.now (key_of_body body.now) ≢ None }
     ensures { IfOk result (λ there.
         IsTrue there ↔ All (λ q. get entries.now q ≢ None) (account_keys (charge.owner_of body.now))) }
 {
     match body {
         LedgerEntryBody::Account(_) => Ok(true),
-        _ => stands(entries, owner_of(body)),
+        _ => exists(entries, owner_of(body)),
     }
 }
 
-/// Whether the sponsors of the signers in an entry stand.
-fn do_payers_stand(entries: &EntryRow<'_>, body: &LedgerEntryBody) -> Result<bool, AllocError>
+/// Whether the sponsors of the signers in an entry exist.
+fn do_payers_exist(entries: &EntryRow<'_>, body: &LedgerEntryBody) -> Result<bool, AllocError>
     ensures { IfOk result (λ there.
         IsTrue there ↔ All (λ q. get entries.now q ≢ None) (flat_map account_keys (signer_sponsors_in body.now))) }
 {
@@ -79,14 +79,14 @@ fn do_payers_stand(entries: &EntryRow<'_>, body: &LedgerEntryBody) -> Result<boo
         LedgerEntryBody::Account(account) => match sponsorship(account) {
             None => Ok(true),
             Some(sponsorship) => {
-                do_all_stand(entries, sponsorship.signer_sponsoring_ids.as_slice())
+                do_all_exist(entries, sponsorship.signer_sponsoring_ids.as_slice())
             }
         },
         _ => Ok(true),
     }
 }
 
-/// Whether something stands under a key, if one is named.
+/// Whether something exists under a key, if one is named.
 fn is_key_there(entries: &EntryRow<'_>, named: Option<LedgerKey>) -> Result<bool, AllocError>
     ensures { IfOk result (λ there. IsTrue there ↔ All (λ q. get entries.now q ≢ None) (keys_in named)) }
 {
@@ -99,7 +99,7 @@ fn is_key_there(entries: &EntryRow<'_>, named: Option<LedgerKey>) -> Result<bool
     }
 }
 
-/// Whether what an offer's seller has its assets in stands.
+/// Whether what an offer's seller has its assets in exists.
 fn are_both_there(entries: &EntryRow<'_>, offer: &OfferEntry) -> Result<bool, AllocError>
     ensures { IfOk result (λ there. IsTrue there ↔ All (λ q. get entries.now q ≢ None)
         (keys_in (spec.holder offer.now.seller_id offer.now.selling)
@@ -110,7 +110,7 @@ fn are_both_there(entries: &EntryRow<'_>, offer: &OfferEntry) -> Result<bool, Al
     Ok(sold && bought)
 }
 
-/// Whether the lines stand that an account needs for its shares of a pool.
+/// Whether the lines exist that an account needs for its shares of a pool.
 fn are_needed_there(
     entries: &EntryRow<'_>,
     id: &AccountId,
@@ -128,7 +128,7 @@ fn are_needed_there(
     }
 }
 
-/// Whether a pool stands.
+/// Whether a pool exists.
 fn has_pool(entries: &EntryRow<'_>, pool_id: Hash) -> Result<bool, AllocError>
     ensures { IfOk result (λ there. IsTrue there ↔ (get entries.now (key.LiquidityPool pool_id) ≢ None)) }
 {
@@ -136,7 +136,7 @@ fn has_pool(entries: &EntryRow<'_>, pool_id: Hash) -> Result<bool, AllocError>
     Ok(found.is_some())
 }
 
-/// Whether a pool stands, and the lines that an account needs for its shares.
+/// Whether a pool exists, and the lines that an account needs for its shares do.
 fn is_share_there(entries: &EntryRow<'_>, id: &AccountId, pool_id: Hash) -> Result<bool, AllocError>
     ensures { IfOk result (λ there. IsTrue there ↔ All (λ q. get entries.now q ≢ None)
         (key.LiquidityPool pool_id ∷ share_keys id.now (pools_in entries.now pool_id))) }
@@ -147,7 +147,7 @@ fn is_share_there(entries: &EntryRow<'_>, id: &AccountId, pool_id: Hash) -> Resu
     Ok(pool && lines)
 }
 
-/// Whether what a line needs stands, if it is one of pool shares.
+/// Whether what a line needs exists, if it is one of pool shares.
 fn are_shares_there(
     entries: &EntryRow<'_>,
     id: &AccountId,
@@ -162,7 +162,7 @@ fn are_shares_there(
     }
 }
 
-/// Whether what an entry holds or trades in stands, if it is a line of pool shares or an offer.
+/// Whether what an entry holds or trades in exists, if it is a line of pool shares or an offer.
 fn are_holders_there(entries: &EntryRow<'_>, body: &LedgerEntryBody) -> Result<bool, AllocError>
     ensures { IfOk result (λ there.
         IsTrue there ↔ All (λ q. get entries.now q ≢ None) (holding_keys (pools_in entries.now) body.now)) }
@@ -183,26 +183,26 @@ fn are_all(owner: bool, sponsor: bool, payers: bool, holders: bool) -> bool
     owner && sponsor && payers && holders
 }
 
-/// Whether what an entry needs stands.
+/// Whether what an entry needs exists.
 fn is_owned(entries: &EntryRow<'_>, entry: &LedgerEntry) -> Result<bool, AllocError>
     requires { get entries.now (key_of entry.now) ≢ None }
     ensures { IfOk result (λ kept.
         IsTrue kept ↔ All (λ q. get entries.now q ≢ None) (needed_keys (pools_in entries.now) entry.now)) }
 {
-    let owner = does_owner_stand(entries, &entry.body)?;
-    let sponsor = stands(entries, sponsor_in(&entry.ext))?;
-    let payers = do_payers_stand(entries, &entry.body)?;
+    let owner = does_owner_exist(entries, &entry.body)?;
+    let sponsor = exists(entries, sponsor_in(&entry.ext))?;
+    let payers = do_payers_exist(entries, &entry.body)?;
     let holders = are_holders_there(entries, &entry.body)?;
     Ok(are_all(owner, sponsor, payers, holders))
 }
 
-/// Whether what each entry needs stands.
+/// Whether what each entry needs exists.
 fn are_all_owned(entries: &EntryRow<'_>) -> Result<bool, AllocError>
     ensures { IfOk result (λ kept. IsTrue kept
         ↔ EachEntry (λ k e. All (λ q. get entries.now q ≢ None) (needed_keys (pools_in entries.now) e)) entries.now) }
 {
-    for place in 0..entries.len() {
-        let owned = is_owned(entries, entries.entry(place))?;
+    for index in 0..entries.len() {
+        let owned = is_owned(entries, entries.entry(index))?;
         if !owned {
             return Ok(false);
         }
@@ -210,7 +210,7 @@ fn are_all_owned(entries: &EntryRow<'_>) -> Result<bool, AllocError>
     Ok(true)
 }
 
-/// Whether what each entry needs stands, and offers have distinct ids.
+/// Whether what each entry needs exists, and offers have distinct ids.
 pub fn are_owned(alloc: Global, entries: &EntryRow<'_>) -> Result<bool, AllocError>
     ensures { IfOk result (λ kept. IsTrue kept ↔ AreOwned entries.now) }
 {

@@ -6,7 +6,7 @@ ghost use Rattle.entry_slots.specs.AccountExtensions.{second_in};
 ghost use Rattle.sponsor_rules.specs.Charge as charge;
 ghost use Rattle.close_rules.specs.sponsor_laws.Sums.{is_there};
 ghost use Rattle.close_rules.specs.legal_rules.Reserves as spec;
-ghost use Rattle.image_rules.specs.Books as books;
+ghost use Rattle.image_rules.specs.Aggregates as aggregates;
 
 use ledger_types::{AccountEntry, AccountEntryExtensionV2, AccountId, LedgerEntryBody};
 use sponsor_rules::{Charge, charge_of};
@@ -27,7 +27,7 @@ pub fn owner_of(body: &LedgerEntryBody) -> Option<AccountId>
 
 /// The owner of what isn't an account. An account is its own.
 pub fn other_owner(body: &LedgerEntryBody) -> Option<AccountId>
-    ensures { result ≡ books.other_owner body.now }
+    ensures { result ≡ aggregates.other_owner body.now }
 {
     match body {
         LedgerEntryBody::Account(_) => None,

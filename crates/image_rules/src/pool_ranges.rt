@@ -69,8 +69,8 @@ fn has_pool_id(alloc: Global, body: &LedgerEntryBody) -> Result<bool, AllocError
 pub fn have_pool_ids(alloc: Global, entries: &EntryRow<'_>) -> Result<bool, AllocError>
     ensures { IfOk result (λ kept. IsTrue kept ↔ EachEntry (λ k e. HasPoolId e.body) entries.now) }
 {
-    for place in 0..entries.len() {
-        let named = has_pool_id(alloc, &entries.entry(place).body)?;
+    for index in 0..entries.len() {
+        let named = has_pool_id(alloc, &entries.entry(index).body)?;
         if !named {
             return Ok(false);
         }

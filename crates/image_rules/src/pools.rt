@@ -5,7 +5,7 @@ ghost use Rattle.close_rules.specs.legal_rules.Bounds.{IsFilledOrEmpty};
 ghost use Rattle.close_rules.specs.EntryRules.{AreOwned, ArePoolsCounted};
 ghost use Rattle.image_rules.specs.Terms.{HaveTerms};
 
-use crate::books::{Book, is_booked};
+use crate::aggregates::{Aggregate, is_aggregated};
 use crate::entry_tests::{EntryTest, do_all_pass};
 use entry_table::EntryRow;
 use ledger_types::{LedgerEntryBody, LiquidityPoolEntry};
@@ -49,8 +49,8 @@ pub fn are_pools_counted(alloc: Global, entries: &EntryRow<'_>) -> Result<bool, 
     ensures { IfOk result (λ kept. IsTrue kept ↔ ArePoolsCounted entries.now) }
 {
     let filled = do_all_pass(EntryTest::Filled, entries);
-    let shares = is_booked(alloc, Book::Shares, entries)?;
-    let lines = is_booked(alloc, Book::ShareLines, entries)?;
-    let uses = is_booked(alloc, Book::Uses, entries)?;
+    let shares = is_aggregated(alloc, Aggregate::Shares, entries)?;
+    let lines = is_aggregated(alloc, Aggregate::ShareLines, entries)?;
+    let uses = is_aggregated(alloc, Aggregate::Uses, entries)?;
     Ok(filled && shares && lines && uses)
 }

@@ -7,8 +7,8 @@ ghost use Rattle.image_rules.specs.Terms.{AreTerms};
 ghost use Rattle.image_rules.specs.Counts.{Adds};
 
 use crate::counts::{Tally, add_at};
+use crate::existing_pools::pool_params;
 use crate::holders::needed_line;
-use crate::standing_pools::pool_params;
 use entry_table::EntryRow;
 use ledger_types::{
     AccountId, LedgerEntryBody, LedgerKey, PoolParams, TrustLineAsset, TrustLineEntry,
@@ -68,7 +68,7 @@ fn add_uses_of(tally: &mut Tally, id: &AccountId, params: &PoolParams) -> Result
     add_at(tally, needed_line(id, &params.asset_b), 1)
 }
 
-/// Counts one for each of the lines that an account needs for its shares of a pool, where the pool stands.
+/// Counts one for each of the lines that an account needs for its shares of a pool, where the pool exists.
 fn add_uses_in(
     tally: &mut Tally,
     id: &AccountId,

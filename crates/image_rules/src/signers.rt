@@ -24,8 +24,8 @@ fn is_below(lower: &Signer, upper: &Signer) -> bool
 fn do_rise(signers: &[Signer]) -> bool
     ensures { IsTrue result ↔ AllPairs IsBelow signers.now }
 {
-    for place in 1..signers.len() {
-        if !is_below(&signers[place - 1], &signers[place]) {
+    for index in 1..signers.len() {
+        if !is_below(&signers[index - 1], &signers[index]) {
             return false;
         }
     }

@@ -5,7 +5,7 @@ ghost use Rattle.close_rules.specs.legal_rules.Bounds.{DoReservesFit};
 ghost use Rattle.close_rules.specs.EntryRules.{AreOwned, AreSponsorsCounted};
 ghost use Rattle.image_rules.specs.Terms.{HaveTerms};
 
-use crate::books::{Book, is_booked};
+use crate::aggregates::{Aggregate, is_aggregated};
 use crate::entry_tests::{EntryTest, do_all_pass};
 use entry_slots::num_sponsoring;
 use entry_table::EntryRow;
@@ -31,7 +31,7 @@ pub fn are_sponsors_counted(alloc: Global, entries: &EntryRow<'_>) -> Result<boo
     ensures { IfOk result (λ kept. IsTrue kept ↔ AreSponsorsCounted entries.now) }
 {
     let fits = do_all_pass(EntryTest::Fitting, entries);
-    let sponsoring = is_booked(alloc, Book::Sponsoring, entries)?;
-    let sponsored = is_booked(alloc, Book::Sponsored, entries)?;
+    let sponsoring = is_aggregated(alloc, Aggregate::Sponsoring, entries)?;
+    let sponsored = is_aggregated(alloc, Aggregate::Sponsored, entries)?;
     Ok(fits && sponsoring && sponsored)
 }

@@ -5,7 +5,7 @@ ghost use Rattle.close_rules.specs.legal_rules.Bounds.{AreSubentriesFew};
 ghost use Rattle.close_rules.specs.EntryRules.{AreOwned, AreSubentriesCounted};
 ghost use Rattle.image_rules.specs.Terms.{HaveTerms};
 
-use crate::books::{Book, is_booked};
+use crate::aggregates::{Aggregate, is_aggregated};
 use crate::entry_tests::{EntryTest, do_all_pass};
 use entry_table::EntryRow;
 use ledger_types::LedgerEntryBody;
@@ -28,6 +28,6 @@ pub fn are_subentries_counted(alloc: Global, entries: &EntryRow<'_>) -> Result<b
     ensures { IfOk result (λ kept. IsTrue kept ↔ AreSubentriesCounted entries.now) }
 {
     let few = do_all_pass(EntryTest::Few, entries);
-    let booked = is_booked(alloc, Book::Subentries, entries)?;
-    Ok(few && booked)
+    let aggregated = is_aggregated(alloc, Aggregate::Subentries, entries)?;
+    Ok(few && aggregated)
 }

@@ -2,7 +2,7 @@
 
 ghost use Rattle.std.specs.Prelude.{IfOk};
 ghost use Rattle.close_rules.specs.EntryRules as spec;
-ghost use Rattle.image_rules.specs.RuleLists.{book_rules, sum_rules};
+ghost use Rattle.image_rules.specs.RuleLists.{aggregate_rules, sum_rules};
 ghost use Rattle.image_rules.specs.Terms.{HaveTerms};
 
 use crate::liabilities::are_liable;
@@ -36,14 +36,14 @@ fn first_of_sums(
     Ok(None)
 }
 
-/// The first of the rules from the books on that is broken, if one is.
-fn first_of_books(
+/// The first of the rules from the aggregates on that is broken, if one is.
+fn first_of_aggregates(
     header: &LedgerHeader,
     entries: &EntryRow<'_>,
 ) -> Result<Option<ImageRule>, AllocError>
     requires owned { spec.AreOwned entries.now }
     requires terms { HaveTerms entries.now }
-    ensures { IfOk result (λ broken. spec.IsFirstBroken header.now entries.now book_rules broken) }
+    ensures { IfOk result (λ broken. spec.IsFirstBroken header.now entries.now aggregate_rules broken) }
 {
     let alloc = header.scp_value.upgrades.allocator();
     let subentries = are_subentries_counted(alloc, entries)?;
@@ -77,10 +77,10 @@ fn first_in_row(
     if !liable {
         return Ok(Some(ImageRule::Liabilities));
     }
-    first_of_books(header, entries)
+    first_of_aggregates(header, entries)
 }
 
-/// The first rule of the entries behind a ledger that is broken, if one is.
+/// The first rule of the entries after a ledger that is broken, if one is.
 pub fn first_broken(
     header: &LedgerHeader,
     table: &EntryTable,

@@ -1,17 +1,13 @@
 -- Which of two image files counts.
-use Rattle.std.proofs.Common.{◌≡◌, refl, ℕ, zero, suc, ◌<◌, ◌≤◌, Bool, true, false, Option, Some, None, Ok, arith}
-use Rattle.std.proofs.lemmas.Bool.{ltb-true, ltb-false}
-use Rattle.std.specs.Prelude.{nat_lt, if◌then◌else◌}
-use Rattle.outside.specs.Disk.{Image}
-use Rattle.image_store.specs.declared.head.Head.{Head}
-use Rattle.image_store.specs.ImageFiles.{IsOpen, epoch_in, IsFormed}
-use Rattle.image_store.specs.Reading.{IsHead, TellsHead, greater_of, IsChosenHead, TellsChosen}
+use Rattle.image_store.proofs.Prelude.{◌≡◌, refl, ℕ, zero, suc, ◌<◌, ◌≤◌, Bool, true, false, Option, Some, None, Ok}
+use Rattle.image_store.proofs.Prelude.{arith, ltb-true, ltb-false, nat_lt, if◌then◌else◌, Image, Head, IsOpen, epoch_in}
+use Rattle.image_store.proofs.Prelude.{IsFormed, IsHead, ReportsHead, greater_of, IsChosenHead, ReportsChosen}
 
 -- what holds of 0 and of 1 holds of both image files
-pub of_both : (P : ℕ → Type 0) → P 0 → P 1 → (number : ℕ) → number < 2 → P number
-of_both P first second zero lt = first
-of_both P first second (suc zero) lt = second
-of_both P first second (suc (suc n)) lt = absurd (omega (arith, lt))
+pub each_below_two : (P : ℕ → Type 0) → P 0 → P 1 → (number : ℕ) → number < 2 → P number
+each_below_two P first second zero lt = first
+each_below_two P first second (suc zero) lt = second
+each_below_two P first second (suc (suc n)) lt = absurd (omega (arith, lt))
 
 module _ (c : Image) where
   abbrev Formed : ℕ → Type 0
@@ -32,8 +28,8 @@ module _ (c : Image) where
   chosen_of : (number : ℕ) (head : Head) → number < 2 → IsHead number (c number) head → Formed 0 → Formed 1
       → Below number 0 → Below number 1 → IsChosenHead c number head
   chosen_of number head lt its first second low high = record {
-    formed = of_both Formed first second;
-    chosen = record { image_file = lt; is_open = its.is_open; greatest = of_both (Below number) low high };
+    formed = each_below_two Formed first second;
+    chosen = record { image_file = lt; is_open = its.is_open; greatest = each_below_two (Below number) low high };
     reads = its;
   }
 
@@ -42,7 +38,7 @@ module _ (c : Image) where
   below_by one other a b its of_other le opened = omega (arith, le, its.epoch, of_other.epoch)
 
   both_chosen : (a b : Head) → IsHead 0 (c 0) a → IsHead 1 (c 1) b → (t : Bool) → nat_lt a.epoch b.epoch ≡ t
-      → TellsChosen c (Ok (if t then Some (1, b) else Some (0, a)))
+      → ReportsChosen c (Ok (if t then Some (1, b) else Some (0, a)))
   both_chosen a b first second true less =
       let lt = ltb-true a.epoch b.epoch less in
       chosen_of 1 b (omega arith) second (λ o. first.formed) (λ o. second.formed)
@@ -52,11 +48,11 @@ module _ (c : Image) where
       chosen_of 0 a (omega arith) first (λ o. first.formed) (λ o. second.formed) (itself 0)
       (below_by 0 1 a b first second (omega (arith, le)))
 
-  pub told_chosen : (first second : Option Head) → TellsHead 0 (c 0) (Ok first) → TellsHead 1 (c 1) (Ok second)
-      → TellsChosen c (Ok (greater_of first second))
-  told_chosen None None first second = of_both (λ number. IsOpen (c number) → ⊥) first second
-  told_chosen (Some a) None first second =
+  pub reported_chosen : (first second : Option Head) → ReportsHead 0 (c 0) (Ok first) → ReportsHead 1 (c 1) (Ok second)
+      → ReportsChosen c (Ok (greater_of first second))
+  reported_chosen None None first second = each_below_two (λ number. IsOpen (c number) → ⊥) first second
+  reported_chosen (Some a) None first second =
       chosen_of 0 a (omega arith) first (λ o. first.formed) (unformed 1 second) (itself 0) (unopened 0 1 second)
-  told_chosen None (Some b) first second =
+  reported_chosen None (Some b) first second =
       chosen_of 1 b (omega arith) second (unformed 0 first) (λ o. second.formed) (unopened 1 0 first) (itself 1)
-  told_chosen (Some a) (Some b) first second = both_chosen a b first second (nat_lt a.epoch b.epoch) refl
+  reported_chosen (Some a) (Some b) first second = both_chosen a b first second (nat_lt a.epoch b.epoch) refl

@@ -1,16 +1,8 @@
--- What is kept while a store is made, and behind it.
-use Rattle.std.proofs.Common.{◌≡◌, ◌≢◌, refl, sym, subst, ◌∙◌, ℕ, ◌<◌, ◌^◌, List, length}
-use Rattle.std.proofs.Common.{false, inl, inr, arith}
-use Rattle.ledger_types.specs.declared.ids.Hash.{Hash}
-use Rattle.outside.specs.Disk.{Image, Disk, Runs, Same, Stays, IsSafe}
-use Rattle.outside.proofs.Running.{widened, onward}
-use Rattle.xdr_header.specs.declared.image.StartImage.{StartImage}
-use Rattle.xdr_header.specs.Image.{start_image}
-use Rattle.image_store.specs.ImageFiles.{IsOpen, behind_gate}
-use Rattle.image_store.specs.Opening.{HoldsNothing, Holds}
-use Rattle.image_store.specs.State.{StoreState}
-use Rattle.image_store.specs.Calls.{IsSettled, first_kept, IsMade, IsCreated}
-use Rattle.image_store.specs.Turning.{IsSameOrNotOpen, HasTurned, IsTurning, IsTurned}
+-- What is kept while a store is made, and after that.
+use Rattle.image_store.proofs.Prelude.{◌≡◌, ◌≢◌, refl, sym, subst, ◌∙◌, ℕ, ◌<◌, ◌^◌, List, length, false, inl, inr}
+use Rattle.image_store.proofs.Prelude.{arith, Hash, Image, Disk, Runs, Same, Stays, IsSafe, widened, onward, StartImage}
+use Rattle.image_store.proofs.Prelude.{start_image, IsOpen, after_gate, HoldsNothing, Holds, StoreState, IsSettled}
+use Rattle.image_store.proofs.Prelude.{first_kept, IsMade, IsCreated, IsSameOrNotOpen, HasTurned, IsTurning, IsTurned}
 use Rattle.image_store.proofs.Turned.{by_number, no_journal, holds_new}
 
 -- ---- a sync, and reads
@@ -32,8 +24,8 @@ created_same network image old new runs =
 -- ---- an image where none is open
 
 module _ (image : StartImage) (within : start_image.within image) (sized : start_image.sized image)
-    (fits_len : length (start_image.spell image) < 256 ^ 8) (network : Hash) (long : length network.0 ≡ 32)
-    (piece : List ℕ) (is : piece ≡ behind_gate 0 network.0 (start_image.spell image)) where
+    (fits_len : length (start_image.encoding image) < 256 ^ 8) (network : Hash) (long : length network.0 ≡ 32)
+    (piece : List ℕ) (is : piece ≡ after_gate 0 network.0 (start_image.encoding image)) where
   first_holds : (d c : Image) → HoldsNothing d → HasTurned 0 piece c
       → ((k : ℕ) → k ≢ 0 → k ≢ 2 → c k ≡ d k) → Holds c (first_kept network image)
   first_holds d c nothing turned others =

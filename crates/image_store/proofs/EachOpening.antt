@@ -1,29 +1,23 @@
 -- Four files open to something.
-use Rattle.std.proofs.Common.{◌≡◌, ℕ, zero, suc, ◌+◌, ◌%◌, ◌<◌, ◌≤◌, List, [], ◌∷◌, length, slice_index, ◌⊎◌, inl, inr}
-use Rattle.std.proofs.Common.{Result, Ok, Err, refl, sym, ◌∙◌, ap, arith}
-use Rattle.std.proofs.lemmas.Bool.{cases_eq, cases_lt}
-use Rattle.xdr_core.specs.declared.fault.XdrFault.{XdrFault}
-use Rattle.xdr_core.specs.Place.{Place, start_of}
-use Rattle.xdr_header.specs.declared.image.StartImage.{StartImage}
-use Rattle.xdr_header.specs.Image.{start_image}
-use Rattle.outside.specs.Disk.{Image}
-use Rattle.gate_journal.specs.Records.{HasRecords, HasNoRecords}
-use Rattle.gate_journal.specs.declared.fault.StoreFault.{StoreFault}
+use Rattle.image_store.proofs.Prelude.{◌≡◌, ℕ, zero, suc, ◌+◌, ◌<◌, ◌≤◌, List, [], ◌∷◌, length, ◌⊎◌, inl, inr, Result}
+use Rattle.image_store.proofs.Prelude.{Ok, Err, refl, sym, ◌∙◌, ap, arith, cases_eq, cases_lt, XdrFault, Position}
+use Rattle.image_store.proofs.Prelude.{start_of, StartImage, start_image, Image, HasRecords, HasNoRecords, StoreFault}
+use Rattle.image_store.proofs.Prelude.{head_len, IsOpen, epoch_in, network_in, length_in, image_in, IsFormed, IsImage}
+use Rattle.image_store.proofs.Prelude.{Kept, AreFormed, IsChosen, IsMisformed, IsOpening, EachOpens}
+use Rattle.std.proofs.Common.{◌%◌, slice_index}
 use Rattle.gate_journal.specs.declared.fault.StoreFault.TheVariants as fault
-use Rattle.image_store.specs.ImageFiles.{head_len, IsOpen, epoch_in, network_in, length_in, image_in, IsFormed, IsImage}
-use Rattle.image_store.specs.Opening.{Kept, AreFormed, IsChosen, IsMisformed, IsOpening}
-use Rattle.image_store.specs.Laws.{EachOpens}
 use Rattle.image_store.proofs.EachFile.{each_file}
 use Rattle.image_store.proofs.OneOpening.{reading_one}
+use Rattle.image_store.proofs.Chosen.{each_below_two}
 
 -- the image that these bytes are, or that they are none
 abbrev ImageOrNone : List ℕ → Type 0
 ImageOrNone bytes = ((image : StartImage) × IsImage bytes image) ⊎ ((image : StartImage) → IsImage bytes image → ⊥)
 
--- an image file is formed if it is open, or it is open and misformed at some place
-abbrev FormOrPlace : ℕ → List ℕ → Type 0
-FormOrPlace number file =
-    (IsOpen file → IsFormed number file) ⊎ (IsOpen file × ((place : ℕ) × IsMisformed number file place))
+-- an image file is formed if it is open, or it is open and misformed at some offset
+abbrev FormOrOffset : ℕ → List ℕ → Type 0
+FormOrOffset number file =
+    (IsOpen file → IsFormed number file) ⊎ (IsOpen file × ((offset : ℕ) × IsMisformed number file offset))
 
 abbrev OpenOrShut : List ℕ → Type 0
 OpenOrShut file = IsOpen file ⊎ (IsOpen file → ⊥)
@@ -31,29 +25,29 @@ OpenOrShut file = IsOpen file ⊎ (IsOpen file → ⊥)
 abbrev Opens : Image → Type 0
 Opens c = (opening : Result Kept StoreFault) × IsOpening c opening
 
--- ---- what stands behind the head
+-- ---- what follows the head
 
-more_behind : (bytes : List ℕ) (image : StartImage) (end : Place) (first : ℕ) (rest : List ℕ)
+more_after : (bytes : List ℕ) (image : StartImage) (end : Position) (first : ℕ) (rest : List ℕ)
     → start_image.read (start_of bytes) ≡ Ok (image, end) → end.rest ≡ first ∷ rest
     → (other : StartImage) → IsImage bytes other → ⊥
-more_behind bytes image end first rest reads more other (place, again, none) =
-    let same = ap (λ (l : StartImage × Place). l.1.rest) (reading_one bytes (image, end) (other, place) reads again) in
+more_after bytes image end first rest reads more other (offset, again, none) =
+    let same = ap (λ (l : StartImage × Position). l.1.rest) (reading_one bytes (image, end) (other, offset) reads again) in
     omega (arith, ap length (sym more ∙ same ∙ none))
 
 unread : (bytes : List ℕ) (wrong : XdrFault) → start_image.read (start_of bytes) ≡ Err wrong
     → (image : StartImage) → IsImage bytes image → ⊥
 unread bytes wrong fails image (end, reads, none) = apart (sym fails ∙ reads)
   where
-    apart : ◌≡◌ {A = Result (StartImage × Place) XdrFault} (Err wrong) (Ok (image, end)) → ⊥
+    apart : ◌≡◌ {A = Result (StartImage × Position) XdrFault} (Err wrong) (Ok (image, end)) → ⊥
     apart h = cc
 
-by_end : (bytes : List ℕ) (image : StartImage) (end : Place) (rest : List ℕ)
+by_end : (bytes : List ℕ) (image : StartImage) (end : Position) (rest : List ℕ)
     → start_image.read (start_of bytes) ≡ Ok (image, end) → end.rest ≡ rest
     → ImageOrNone bytes
 by_end bytes image end [] reads none = inl (image, (end, reads, none))
-by_end bytes image end (first ∷ rest) reads more = inr (more_behind bytes image end first rest reads more)
+by_end bytes image end (first ∷ rest) reads more = inr (more_after bytes image end first rest reads more)
 
-by_reading : (bytes : List ℕ) (reading : Result (StartImage × Place) XdrFault)
+by_reading : (bytes : List ℕ) (reading : Result (StartImage × Position) XdrFault)
     → start_image.read (start_of bytes) ≡ reading
     → ImageOrNone bytes
 by_reading bytes (Ok (image, end)) reads = by_end bytes image end end.rest reads refl
@@ -67,7 +61,7 @@ each_image bytes = by_reading bytes (start_image.read (start_of bytes)) refl
 by_journal : (c : Image) (number : ℕ) (image : StartImage) → AreFormed c → IsChosen c number
     → IsImage (image_in (c number)) image
     → ((records : List (List ℕ)) × HasRecords (c (2 + number)) records)
-    ⊎ ((place : ℕ) × HasNoRecords (c (2 + number)) place)
+    ⊎ ((offset : ℕ) × HasNoRecords (c (2 + number)) offset)
     → Opens c
 by_journal c number image formed chosen reads (inl (records, has)) = (
   Ok (record {
@@ -86,8 +80,8 @@ by_journal c number image formed chosen reads (inl (records, has)) = (
     journal = has;
   },
 )
-by_journal c number image formed chosen reads (inr (place, none)) = (
-  Err (fault.BadStore (2 + number) place),
+by_journal c number image formed chosen reads (inr (offset, none)) = (
+  Err (fault.BadStore (2 + number) offset),
   inr (inr (record {
     formed = formed;
     number = number;
@@ -117,15 +111,9 @@ below_one : (P : ℕ → Type 0) → P 0 → (number : ℕ) → number < 1 → P
 below_one P first zero less = first
 below_one P first (suc number) less = absurd (omega arith)
 
--- and of both
-below_two : (P : ℕ → Type 0) → P 0 → P 1 → (number : ℕ) → number < 2 → P number
-below_two P first second zero less = first
-below_two P first second (suc zero) less = second
-below_two P first second (suc (suc number)) less = absurd (omega arith)
-
 greatest : (c : Image) (epoch : ℕ) → (IsOpen (c 0) → epoch_in (c 0) ≤ epoch) → (IsOpen (c 1) → epoch_in (c 1) ≤ epoch)
     → (other : ℕ) → other < 2 → IsOpen (c other) → epoch_in (c other) ≤ epoch
-greatest c epoch = below_two (λ n. IsOpen (c n) → epoch_in (c n) ≤ epoch)
+greatest c epoch = each_below_two (λ n. IsOpen (c n) → epoch_in (c n) ≤ epoch)
 
 first_chosen : (c : Image) → IsOpen (c 0) → (IsOpen (c 1) → epoch_in (c 1) ≤ epoch_in (c 0)) → IsChosen c 0
 first_chosen c opened most = record {
@@ -150,7 +138,7 @@ by_open c formed (inl first) (inr shut) =
     with_chosen c 0 formed (first_chosen c first (λ opened. absurd (shut opened)))
 by_open c formed (inr shut) (inl second) =
     with_chosen c 1 formed (second_chosen c second (λ opened. absurd (shut opened)))
-by_open c formed (inr first) (inr second) = (Err fault.Missing, below_two (λ n. IsOpen (c n) → ⊥) first second)
+by_open c formed (inr first) (inr second) = (Err fault.Missing, each_below_two (λ n. IsOpen (c n) → ⊥) first second)
 
 -- ---- the form of each image
 
@@ -163,8 +151,8 @@ open_or_shut file = elim (cases_lt (length file) head_len) [
   ]
 ]
 
-form_or_place : (number : ℕ) (file : List ℕ) → IsOpen file → FormOrPlace number file
-form_or_place number file opened = elim (cases_eq (epoch_in file % 2) number) [
+form_or_offset : (number : ℕ) (file : List ℕ) → IsOpen file → FormOrOffset number file
+form_or_offset number file opened = elim (cases_eq (epoch_in file % 2) number) [
   | inl parity ↦ elim (cases_eq (length file) (head_len + length_in file)) [
     | inl size ↦ inl (λ _. record { parity = parity; size = size })
     | inr other ↦ inr (opened, (41, inr (refl, parity, other)))
@@ -172,17 +160,17 @@ form_or_place number file opened = elim (cases_eq (epoch_in file % 2) number) [
   | inr other ↦ inr (opened, (1, inl (refl, other)))
 ]
 
-each_form : (number : ℕ) (file : List ℕ) → FormOrPlace number file
+each_form : (number : ℕ) (file : List ℕ) → FormOrOffset number file
 each_form number file = elim (open_or_shut file) [
-  | inl opened ↦ form_or_place number file opened
+  | inl opened ↦ form_or_offset number file opened
   | inr shut ↦ inl (λ opened. absurd (shut opened))
 ]
 
-by_form : (c : Image) → FormOrPlace 0 (c 0) → FormOrPlace 1 (c 1) → Opens c
+by_form : (c : Image) → FormOrOffset 0 (c 0) → FormOrOffset 1 (c 1) → Opens c
 by_form c (inl first) (inl second) =
-    by_open c (below_two (λ n. IsOpen (c n) → IsFormed n (c n)) first second) (open_or_shut (c 0)) (open_or_shut (c 1))
-by_form c (inl first) (inr (opened, (place, wrong))) = (
-  Err (fault.BadStore 1 place),
+    by_open c (each_below_two (λ n. IsOpen (c n) → IsFormed n (c n)) first second) (open_or_shut (c 0)) (open_or_shut (c 1))
+by_form c (inl first) (inr (opened, (offset, wrong))) = (
+  Err (fault.BadStore 1 offset),
   inl (record {
     image_file = omega arith;
     is_open = opened;
@@ -190,8 +178,8 @@ by_form c (inl first) (inr (opened, (place, wrong))) = (
     first = below_one (λ n. IsOpen (c n) → IsFormed n (c n)) first;
   }),
 )
-by_form c (inr (opened, (place, wrong))) second = (
-  Err (fault.BadStore 0 place),
+by_form c (inr (opened, (offset, wrong))) second = (
+  Err (fault.BadStore 0 offset),
   inl (record { image_file = omega arith; is_open = opened; wrong = wrong; first = λ n less. absurd (omega arith) }),
 )
 

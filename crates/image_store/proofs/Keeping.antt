@@ -1,16 +1,9 @@
 -- What a store keeps where its journal grows, and where the files of another epoch change.
-use Rattle.std.proofs.Common.{◌≡◌, ◌≢◌, refl, sym, ap, subst, ◌∙◌, ℕ, ◌+◌, ◌<◌, List, [], ◌∷◌, ◌++◌}
-use Rattle.std.proofs.Common.{false, inl, inr, arith}
-use Rattle.std.specs.Prelude.{◌%◌}
-use Rattle.outside.specs.Disk.{Image, Disk, Runs, InFile, IsSafe}
-use Rattle.outside.proofs.Running.{widened}
-use Rattle.gate_journal.specs.Records.{HasRecords}
-use Rattle.gate_journal.specs.Calls.{JournalState, HasEither}
+use Rattle.image_store.proofs.Prelude as prelude
+use prelude.{◌≡◌, ◌≢◌, refl, sym, ap, subst, ◌∙◌, ℕ, ◌+◌, ◌<◌, List, [], ◌∷◌, ◌++◌, false, inl, inr, arith, ◌%◌, Image}
+use prelude.{Disk, Runs, InFile, IsSafe, widened, HasRecords, JournalState, HasEither, IsOpen, epoch_in, network_in}
+use prelude.{image_in, IsFormed, IsImage, Kept, grown, AreFormed, IsChosen, Holds, StoreState, IsSettled, HoldsEither}
 use Rattle.gate_journal.specs.Calls as journal
-use Rattle.image_store.specs.ImageFiles.{IsOpen, epoch_in, network_in, image_in, IsFormed, IsImage}
-use Rattle.image_store.specs.Opening.{Kept, grown, AreFormed, IsChosen, Holds}
-use Rattle.image_store.specs.State.{StoreState}
-use Rattle.image_store.specs.Calls.{IsSettled, HoldsEither}
 
 -- the file of what is kept
 pub number_of : (c : Image) (kept : Kept) → (h : Holds c kept) → h.number ≡ kept.epoch % 2
@@ -82,12 +75,12 @@ pub journal_settled : (j : JournalState) (store : StoreState) (disk : Disk) (kep
     → j.file ≡ 2 + store.epoch % 2 → j.end ≡ store.end → j.failed ≡ false → IsSettled store disk kept
     → journal.IsSettled j disk kept.records
 journal_settled j store disk kept file end working s = record {
-  stands = record {
+  holds_records = record {
     kept = λ c may. ap (λ (image : Image). image j.file) (s.safe c may);
     holds = subst (λ n. HasRecords (disk.reads n) kept.records)
         (sym (file ∙ ap (λ n. 2 + n % 2) s.epoch ∙ ap (λ n. 2 + n) (sym (number_of disk.reads kept s.holds))))
         s.holds.journal;
-    place = end ∙ s.end;
+    offset = end ∙ s.end;
   };
   working = working;
 }
@@ -101,9 +94,9 @@ grown_settled j store next old new kept bytes s file is settled safe others =
     subst (λ (x : StoreState). IsSettled x new (grown kept bytes)) (sym is) (record {
       safe = safe;
       holds = with_records kept bytes j.file (file ∙ ap (λ n. 2 + n % 2) s.epoch) old.reads new.reads
-          (kept.records ++ bytes ∷ []) s.holds others settled.stands.holds;
+          (kept.records ++ bytes ∷ []) s.holds others settled.holds_records.holds;
       epoch = s.epoch;
-      end = settled.stands.place;
+      end = settled.holds_records.offset;
       network = s.network;
       working = refl;
     })

@@ -1,5 +1,5 @@
 pub mod Heads
-pub mod Whole
+pub mod Complete
 pub mod Chosen
 pub mod EachFile
 pub mod OneOpening
@@ -11,3 +11,4 @@ pub mod Rolled
 pub mod Created
 pub mod Unmounted
 pub use Rattle.gate_journal.proofs as gate_journal_proofs
+pub mod Prelude

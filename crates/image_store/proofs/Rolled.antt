@@ -1,21 +1,13 @@
--- What is kept while a store rolls to the next epoch, and behind it.
-use Rattle.std.proofs.Common.{◌≡◌, ◌≢◌, refl, sym, ap, subst, ◌∙◌, ℕ, ◌+◌, ◌-◌, ◌<◌, ◌^◌, List, [], length}
-use Rattle.std.proofs.Common.{false, inl, inr, arith}
-use Rattle.std.specs.Prelude.{◌%◌}
-use Rattle.outside.specs.Disk.{Image, Disk, Runs, IsSafe}
-use Rattle.outside.proofs.Running.{widened}
-use Rattle.xdr_header.specs.declared.image.StartImage.{StartImage}
-use Rattle.xdr_header.specs.Image.{start_image}
-use Rattle.image_store.specs.ImageFiles.{IsOpen, epoch_in, IsFormed, behind_gate}
-use Rattle.image_store.specs.Opening.{Kept, rolled, Holds}
-use Rattle.image_store.specs.State.{StoreState}
-use Rattle.image_store.specs.Calls.{IsSettled, HoldsEither}
-use Rattle.image_store.specs.Turning.{HasTurned, IsTurning, IsTurned}
+-- What is kept while a store rolls to the next epoch, and after that.
+use Rattle.image_store.proofs.Prelude.{◌≡◌, ◌≢◌, refl, sym, ap, subst, ◌∙◌, ℕ, ◌+◌, ◌-◌, ◌<◌, ◌^◌, List, [], length}
+use Rattle.image_store.proofs.Prelude.{false, inl, inr, arith, ◌%◌, Image, Disk, Runs, IsSafe, widened, StartImage}
+use Rattle.image_store.proofs.Prelude.{start_image, IsOpen, epoch_in, IsFormed, after_gate, Kept, rolled, Holds}
+use Rattle.image_store.proofs.Prelude.{StoreState, IsSettled, HoldsEither, HasTurned, IsTurning, IsTurned}
 use Rattle.image_store.proofs.Keeping.{number_of}
 use Rattle.image_store.proofs.Turned.{no_journal, holds_new, holds_still}
 
-two : (n : ℕ) → n % 2 < 2
-two n = omega arith
+mod_two_below_two : (n : ℕ) → n % 2 < 2
+mod_two_below_two n = omega arith
 
 other_parity : (n : ℕ) → (n + 1) % 2 ≢ n % 2
 other_parity n is = omega (arith, is)
@@ -24,9 +16,9 @@ small_epoch : (n : ℕ) → n < 2 ^ 63 - 1 → n + 1 < 256 ^ 8
 small_epoch n lt = omega (arith, lt)
 
 module _ (image : StartImage) (within : start_image.within image) (sized : start_image.sized image)
-    (fits_len : length (start_image.spell image) < 256 ^ 8) (store : StoreState) (old new : Disk) (kept : Kept)
+    (fits_len : length (start_image.encoding image) < 256 ^ 8) (store : StoreState) (old new : Disk) (kept : Kept)
     (s : IsSettled store old kept) (long : length store.network.0 ≡ 32) (low : store.epoch < 2 ^ 63 - 1)
-    (piece : List ℕ) (is : piece ≡ behind_gate (store.epoch + 1) store.network.0 (start_image.spell image)) where
+    (piece : List ℕ) (is : piece ≡ after_gate (store.epoch + 1) store.network.0 (start_image.encoding image)) where
   abbrev number : ℕ
   number = (store.epoch + 1) % 2
 
@@ -40,7 +32,7 @@ module _ (image : StartImage) (within : start_image.within image) (sized : start
       subst (Holds c)
       (λ i. record { epoch = s.epoch i + 1; network = s.network i; image = image; records = [] })
       (holds_new image within sized (store.epoch + 1) store.network long (small_epoch store.epoch low) fits_len number
-      (two (store.epoch + 1)) refl c (subst (λ p. HasTurned number p c) is turned)
+      (mod_two_below_two (store.epoch + 1)) refl c (subst (λ p. HasTurned number p c) is turned)
       (λ k below far opened.
       let same : c k ≡ d k = others k far (no_journal number k below) in
       let was = subst (λ file. IsOpen file) same opened in
@@ -51,7 +43,7 @@ module _ (image : StartImage) (within : start_image.within image) (sized : start
 
   either : (d c : Image) → IsTurning number piece d c → HoldsEither kept (rolled kept image) d c
   either d c t h = elim t.here [
-    | inl here ↦ inl (holds_still d c kept h number (two (store.epoch + 1)) (other d h) here t.others)
+    | inl here ↦ inl (holds_still d c kept h number (mod_two_below_two (store.epoch + 1)) (other d h) here t.others)
     | inr turned ↦ inr (rolled_holds d c h turned t.others)
   ]
 

@@ -1,19 +1,10 @@
 -- What files open to where another epoch is written.
-use Rattle.std.proofs.Common.{◌≡◌, ◌≢◌, refl, sym, ap, subst, ◌∙◌, ℕ, ◌+◌, ◌<◌, ◌≤◌, ◌^◌, List, [], ◌∷◌, length}
-use Rattle.std.proofs.Common.{true, false, inl, inr, arith}
-use Rattle.std.proofs.lemmas.Bool.{eqb-true, eq-eqb}
-use Rattle.std.proofs.lemmas.List.{append-nil}
-use Rattle.std.proofs.lemmas.List.Elements.{All-nil}
-use Rattle.std.specs.Prelude.{◌%◌, nat_eq}
-use Rattle.ledger_types.specs.declared.ids.Hash.{Hash}
-use Rattle.outside.specs.Disk.{Image}
-use Rattle.gate_journal.specs.Records.{max_record, HasRecords}
-use Rattle.xdr_header.specs.declared.image.StartImage.{StartImage}
-use Rattle.xdr_header.specs.Image.{start_image}
-use Rattle.xdr_header.proofs.ImageLaws.{start_image_laws}
-use Rattle.image_store.specs.ImageFiles.{IsOpen, epoch_in, network_in, image_in, IsFormed, IsImage, behind_gate}
-use Rattle.image_store.specs.Opening.{Kept, Holds}
-use Rattle.image_store.specs.Turning.{IsSameOrNotOpen, HasTurned}
+use Rattle.image_store.proofs.Prelude.{◌≡◌, ◌≢◌, refl, sym, ap, subst, ◌∙◌, ℕ, ◌+◌, ◌<◌, ◌≤◌, ◌^◌, List, [], ◌∷◌}
+use Rattle.image_store.proofs.Prelude.{length, true, false, inl, inr, arith, eqb-true, eq-eqb, append-nil, All-nil, ◌%◌}
+use Rattle.image_store.proofs.Prelude.{Hash, Image, max_record, HasRecords, StartImage, start_image, start_image_laws}
+use Rattle.image_store.proofs.Prelude.{IsOpen, epoch_in, network_in, image_in, IsFormed, IsImage, after_gate, Kept}
+use Rattle.image_store.proofs.Prelude.{Holds, IsSameOrNotOpen, HasTurned}
+use Rattle.std.specs.Prelude.{nat_eq}
 use Rattle.image_store.proofs.Pieces.{Says, says}
 
 -- what holds of a number and of each other one holds of all
@@ -27,23 +18,23 @@ by_number P number here others k = elim (nat_eq k number) as (λ t. nat_eq k num
 pub no_journal : (number k : ℕ) → k < 2 → k ≢ 2 + number
 no_journal number k lt is = omega (arith, lt, is)
 
--- ---- a new image, behind an open gate
+-- ---- a new image, after an open gate
 
 no_records : HasRecords (0 ∷ []) []
 no_records = (0 ∷ [], record { cut = refl; short = All-nil (λ bytes. length bytes ≤ max_record) }, λ is. absurd (cc))
 
 module _ (image : StartImage) (within : start_image.within image) (sized : start_image.sized image) (epoch : ℕ)
     (network : Hash) (long : length network.0 ≡ 32) (fits : epoch < 256 ^ 8)
-    (fits_len : length (start_image.spell image) < 256 ^ 8) (number : ℕ) (lt : number < 2)
+    (fits_len : length (start_image.encoding image) < 256 ^ 8) (number : ℕ) (lt : number < 2)
     (parity : epoch % 2 ≡ number) where
   abbrev text : List ℕ
-  text = start_image.spell image
+  text = start_image.encoding image
 
   abbrev piece : List ℕ
-  piece = behind_gate epoch network.0 text
+  piece = after_gate epoch network.0 text
 
-  reads_whole : IsImage text image
-  reads_whole = (
+  reads_complete : IsImage text image
+  reads_complete = (
     _,
     ap (λ t. start_image.read (record { at = 0; rest = t })) (sym (append-nil text))
         ∙ start_image_laws.lawful.again 0 image [] within sized,
@@ -73,7 +64,7 @@ module _ (image : StartImage) (within : start_image.within image) (sized : start
         };
         epoch = sym its.epoch_is;
         network = sym its.network_is;
-        image = subst (λ t. IsImage t image) (sym its.image_is) reads_whole;
+        image = subst (λ t. IsImage t image) (sym its.image_is) reads_complete;
         journal = subst (λ t. HasRecords t []) (sym turned.journal) no_records;
       }
 

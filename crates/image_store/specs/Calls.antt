@@ -12,7 +12,7 @@ use Rattle.image_store.specs.Opening.{Kept, Holds, HoldsNothing, IsOpening}
 use Rattle.image_store.specs.State.{StoreState}
 use Rattle.image_store.specs.declared.mounted.Mounted.{Mounted}
 
--- the store stands for what the volume keeps, whatever a crash leaves of it
+-- the store represents what the volume keeps, whatever a crash leaves of it
 pub record IsSettled (store : StoreState) (disk : Disk) (kept : Kept) : Type 0 where
   pub safe : IsSafe disk
   pub holds : Holds disk.reads kept
@@ -25,7 +25,7 @@ pub record IsSettled (store : StoreState) (disk : Disk) (kept : Kept) : Type 0 w
 abbrev pub HoldsEither : (kept next : Kept) → Image → Image → Type 0
 HoldsEither kept next d c = Holds d kept → Holds c kept ⊎ Holds c next
 
--- why `roll` fails: as `append` does, or for want of memory
+-- why `roll` fails: as `append` does, or because allocation fails
 abbrev pub IsRollFault : (failed : Bool) (before now : ℕ) → StoreFault → Type 0
 IsRollFault failed before now fault.NoMemory = failed ≡ false
 IsRollFault failed before now other = IsAppendFault failed before now other
@@ -35,11 +35,11 @@ IsRollFault failed before now other = IsAppendFault failed before now other
 abbrev pub kept_in : Mounted → Kept
 kept_in m = record { epoch = m.epoch; network = m.network; image = m.image; records = m.closes }
 
--- what `mount` tells of what is read, which stays as it is but for a fault of the device
+-- what `mount` says of what is read, which stays as it is but for a fault of the device
 abbrev pub Mounts : (old new : Disk) → Result Mounted StoreFault → Type 0
 Mounts old new (Ok m) = (new.reads ≡ old.reads) × IsSettled m.store new (kept_in m)
-Mounts old new (Err (fault.BadStore file place)) =
-    (new.reads ≡ old.reads) × IsOpening old.reads (Err (fault.BadStore file place))
+Mounts old new (Err (fault.BadStore file offset)) =
+    (new.reads ≡ old.reads) × IsOpening old.reads (Err (fault.BadStore file offset))
 Mounts old new (Err fault.Missing) = (new.reads ≡ old.reads) × IsOpening old.reads (Err fault.Missing)
 Mounts old new (Err fault.NoMemory) = new.reads ≡ old.reads
 Mounts old new (Err other) = Unit {0}

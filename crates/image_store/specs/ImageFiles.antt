@@ -3,11 +3,11 @@
 use Rattle.std.specs.Prelude.{◌≡◌, ℕ, ◌+◌, ◌%◌, ◌≤◌, List, [], ◌++◌, length, take, drop, slice_index, Ok}
 use Rattle.byteorder.specs.Endian.{big_number, big_bytes}
 use Rattle.ledger_types.specs.declared.ids.Hash.{Hash}
-use Rattle.xdr_core.specs.Place.{Place, start_of}
+use Rattle.xdr_core.specs.Position.{Position, start_of}
 use Rattle.xdr_header.specs.declared.image.StartImage.{StartImage}
 use Rattle.xdr_header.specs.Image.{start_image}
 
--- how many bytes stand ahead of the image
+-- how many bytes are before the image
 abbrev pub head_len : ℕ
 head_len = 49
 
@@ -33,10 +33,10 @@ pub record IsFormed (number : ℕ) (file : List ℕ) : Type 0 where
   pub parity : epoch_in file % 2 ≡ number
   pub size : length file ≡ head_len + length_in file
 
--- a start image and nothing behind it
+-- a start image and nothing after it
 abbrev pub IsImage : List ℕ → StartImage → Type 0
-IsImage bytes image = (end : Place) × (start_image.read (start_of bytes) ≡ Ok (image, end)) × (end.rest ≡ [])
+IsImage bytes image = (end : Position) × (start_image.read (start_of bytes) ≡ Ok (image, end)) × (end.rest ≡ [])
 
--- what is written behind the gate
-abbrev pub behind_gate : (epoch : ℕ) (network bytes : List ℕ) → List ℕ
-behind_gate epoch network bytes = big_bytes 8 epoch ++ network ++ big_bytes 8 (length bytes) ++ bytes
+-- what is written after the gate
+abbrev pub after_gate : (epoch : ℕ) (network bytes : List ℕ) → List ℕ
+after_gate epoch network bytes = big_bytes 8 epoch ++ network ++ big_bytes 8 (length bytes) ++ bytes

@@ -52,41 +52,41 @@ pub record Holds (c : Image) (kept : Kept) : Type 0 where
 -- ---- why nothing is kept, in the order in which it is judged
 
 -- the epoch's parity isn't the file's (at 1), or else the length isn't (at 41)
-abbrev pub IsMisformed : (number : ℕ) (file : List ℕ) (place : ℕ) → Type 0
-IsMisformed number file place =
-    ((place ≡ 1) × (epoch_in file % 2 ≢ number))
-    ⊎ ((place ≡ 41) × (epoch_in file % 2 ≡ number) × (length file ≢ head_len + length_in file))
+abbrev pub IsMisformed : (number : ℕ) (file : List ℕ) (offset : ℕ) → Type 0
+IsMisformed number file offset =
+    ((offset ≡ 1) × (epoch_in file % 2 ≢ number))
+    ⊎ ((offset ≡ 41) × (epoch_in file % 2 ≡ number) × (length file ≢ head_len + length_in file))
 
 -- an image is open and misformed, and none before it is
-pub record BreaksForm (c : Image) (file place : ℕ) : Type 0 where
+pub record BreaksForm (c : Image) (file offset : ℕ) : Type 0 where
   pub image_file : file < 2
   pub is_open : IsOpen (c file)
-  pub wrong : IsMisformed file (c file) place
+  pub wrong : IsMisformed file (c file) offset
   pub first : (number : ℕ) → number < file → IsOpen (c number) → IsFormed number (c number)
 
--- what stands behind the head of the chosen file is no image
-pub record BreaksImage (c : Image) (file place : ℕ) : Type 0 where
+-- what follows the head of the chosen file is no image
+pub record BreaksImage (c : Image) (file offset : ℕ) : Type 0 where
   pub formed : AreFormed c
   pub chosen : IsChosen c file
   pub wrong : (image : StartImage) → IsImage (image_in (c file)) image → ⊥
-  pub at : place ≡ head_len
+  pub at : offset ≡ head_len
 
 -- the journal of the chosen image is none
-pub record BreaksJournal (c : Image) (file place : ℕ) : Type 0 where
+pub record BreaksJournal (c : Image) (file offset : ℕ) : Type 0 where
   pub formed : AreFormed c
   pub number : ℕ
   pub chosen : IsChosen c number
   pub image : StartImage
   pub reads : IsImage (image_in (c number)) image
   pub journal : file ≡ 2 + number
-  pub wrong : HasNoRecords (c file) place
+  pub wrong : HasNoRecords (c file) offset
 
-abbrev pub HoldsNoStore : Image → (file place : ℕ) → Type 0
-HoldsNoStore c file place = BreaksForm c file place ⊎ BreaksImage c file place ⊎ BreaksJournal c file place
+abbrev pub HoldsNoStore : Image → (file offset : ℕ) → Type 0
+HoldsNoStore c file offset = BreaksForm c file offset ⊎ BreaksImage c file offset ⊎ BreaksJournal c file offset
 
 -- what four files open to
 abbrev pub IsOpening : Image → Result Kept StoreFault → Type 0
 IsOpening c (Ok kept) = Holds c kept
 IsOpening c (Err fault.Missing) = HoldsNothing c
-IsOpening c (Err (fault.BadStore file place)) = HoldsNoStore c file place
+IsOpening c (Err (fault.BadStore file offset)) = HoldsNoStore c file offset
 IsOpening c (Err other) = ⊥

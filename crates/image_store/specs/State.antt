@@ -4,7 +4,7 @@ use Rattle.ledger_types.specs.declared.ids.Hash.{Hash}
 
 pub record StoreState : Type 0 where
   pub epoch : ℕ
-  -- the place of the gate behind its records
+  -- the offset of the gate after its records
   pub end : ℕ
   pub network : Hash
   -- whether a call on the volume has failed

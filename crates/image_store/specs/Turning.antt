@@ -11,7 +11,7 @@ IsSameOrNotOpen old new = (new ≡ old) ⊎ (IsOpen new → ⊥)
 abbrev pub HasSameGate : List ℕ → List ℕ → Type 0
 HasSameGate old new = take 1 new ≡ take 1 old
 
--- and this stands behind it
+-- and this follows it
 abbrev pub HasPiece : (piece : List ℕ) → List ℕ → List ℕ → Type 0
 HasPiece piece old new = new ≡ take 1 old ++ piece
 
@@ -19,7 +19,7 @@ HasPiece piece old new = new ≡ take 1 old ++ piece
 abbrev pub IsOpened : List ℕ → List ℕ → Type 0
 IsOpened old new = new ≡ 1 ∷ drop 1 old
 
--- the image file has this behind an open gate, and the journal is one without records
+-- the image file has this after an open gate, and the journal is one without records
 pub record HasTurned (number : ℕ) (piece : List ℕ) (c : Image) : Type 0 where
   pub image : c number ≡ 1 ∷ piece
   pub journal : c (2 + number) ≡ 0 ∷ []

@@ -8,7 +8,7 @@ ghost use Rattle.image_store.specs.Reading as spec;
 use gate_journal::read_exact;
 use outside::{Failed, Volume};
 
-/// How many bytes stand ahead of an image: the gate, the epoch, the network id and the image's length.
+/// How many bytes are before an image: the gate, the epoch, the network id and the image's length.
 pub(crate) const HEAD_LEN: u64 = 49;
 
 /// A gate that is open.
@@ -17,18 +17,18 @@ pub(crate) const OPEN: u8 = 1;
 /// What the gate of an image file says.
 #[derive(Clone, Copy)]
 pub(crate) enum Gate {
-    /// The file has fewer bytes than stand ahead of an image: no image is open in it, whatever its first byte.
+    /// The file has fewer bytes than are before an image: no image is open in it, whatever its first byte.
     Short,
     /// The file is long enough, and its gate isn't open.
     Shut,
-    /// An image is open, with so many bytes behind the head.
+    /// An image is open, with so many bytes after the head.
     Open { len: u64 },
 }
 
 /// The gate of an image file.
 pub(crate) fn gate_of<V: Volume>(vol: &mut V, file: u8) -> Result<Gate, Failed>
     requires { file < 2 }
-    ensures told { V.tells → IfOk result (λ gate. spec.TellsGate ((V.disk vol.old).reads file) gate) }
+    ensures reported { V.reports → IfOk result (λ gate. spec.ReportsGate ((V.disk vol.old).reads file) gate) }
     ensures fits { IfOk result (λ gate. spec.DoesGateFit gate) }
     ensures stays { Stays (V.disk vol.old) (V.disk vol.new) }
     ensures cause { HasCause (V.faults vol.old) (V.faults vol.new) result }

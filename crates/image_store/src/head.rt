@@ -13,10 +13,10 @@ use gate_journal::{StoreFault, read_exact};
 use ledger_types::Hash;
 use outside::Volume;
 
-/// Where the epoch stands.
+/// Where the epoch is.
 const EPOCH_AT: u64 = 1;
 
-/// Where the image's length stands.
+/// Where the image's length is.
 const LENGTH_AT: u64 = 41;
 
 /// What an image file says ahead of its image.
@@ -28,7 +28,7 @@ pub(crate) struct Head {
     pub(crate) len: u64,
 }
 
-/// The number that eight bytes spell, the highest first.
+/// The number that eight bytes encode, the highest first.
 fn u64_in(bytes: &[u8]) -> u64
     requires { length bytes.now ≡ 8 }
     ensures { result ≡ big_number 8 bytes.now }
@@ -45,11 +45,11 @@ fn network_of(head: &[u8; 49]) -> Hash
     Hash(network)
 }
 
-/// What an open image file says, whose head is this, with so many bytes behind it.
+/// What an open image file says, whose head is this, with so many bytes after it.
 fn judged(file: u8, head: &[u8; 49], len: u64) -> Result<Option<Head>, StoreFault>
     requires { head_len + len < 2 ^ 64 }
     ensures fits { IfOk result (λ found. IfSome found (λ head. spec.DoesHeadFit file head)) }
-    ensures told { spec.TellsForm file head.now len result }
+    ensures reported { spec.ReportsForm file head.now len result }
 {
     let epoch = u64_in(&head[1..9]);
     if epoch % 2 != u64::from(file) {
@@ -71,11 +71,11 @@ fn judged(file: u8, head: &[u8; 49], len: u64) -> Result<Option<Head>, StoreFaul
     }))
 }
 
-/// The head of an image file, if an image is open in it. `BadStore` tells where its form is broken: its epoch's parity
+/// The head of an image file, if an image is open in it. `BadStore` says where its form is broken: its epoch's parity
 /// isn't the file's (at 1), or else its length isn't (at 41).
 pub(crate) fn head_of<V: Volume>(vol: &mut V, file: u8) -> Result<Option<Head>, StoreFault>
     requires { file < 2 }
-    ensures told { V.tells → spec.TellsHead file ((V.disk vol.old).reads file) result }
+    ensures reported { V.reports → spec.ReportsHead file ((V.disk vol.old).reads file) result }
     ensures fits { IfOk result (λ found. IfSome found (λ head. spec.DoesHeadFit file head)) }
     ensures stays { Stays (V.disk vol.old) (V.disk vol.new) }
     ensures cause { HasReadCause (V.faults vol.old) (V.faults vol.new) result }

@@ -3,7 +3,7 @@ use item_list::ItemList;
 use ledger_types::Hash;
 use xdr_header::StartImage;
 
-/// What a volume keeps, and the store that stands for it.
+/// What a volume keeps, and the store that represents it.
 #[derive(Drop)]
 pub struct Mounted {
     pub store: Store,

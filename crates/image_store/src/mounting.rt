@@ -33,7 +33,7 @@ fn greater(first: Option<Head>, second: Option<Head>) -> Option<(u8, Head)>
 
 /// The file whose image counts, and its head.
 pub(crate) fn chosen<V: Volume>(vol: &mut V) -> Result<Option<(u8, Head)>, StoreFault>
-    ensures told { V.tells → spec.TellsChosen (V.disk vol.old).reads result }
+    ensures reported { V.reports → spec.ReportsChosen (V.disk vol.old).reads result }
     ensures fits { IfOk result (λ found. IfSome found (λ (file, head). (file < 2) × spec.DoesHeadFit file head)) }
     ensures stays { Stays (V.disk vol.old) (V.disk vol.new) }
     ensures cause { HasReadCause (V.faults vol.old) (V.faults vol.new) result }
@@ -43,10 +43,10 @@ pub(crate) fn chosen<V: Volume>(vol: &mut V) -> Result<Option<(u8, Head)>, Store
     Ok(greater(first, second))
 }
 
-/// Whether bytes are an image and nothing behind it.
-fn is_whole(bytes: &[u8]) -> bool
+/// Whether bytes are an image and nothing after it.
+fn is_complete(bytes: &[u8]) -> bool
     ensures fits { IsBytes bytes.now }
-    ensures whole { spec.TellsWhole bytes.now result }
+    ensures entire { spec.ReportsComplete bytes.now result }
 {
     match ImageLength::measure(bytes) {
         Ok(end) => end == bytes.len(),
@@ -54,11 +54,11 @@ fn is_whole(bytes: &[u8]) -> bool
     }
 }
 
-/// The image that bytes are, with nothing behind it.
-fn whole_image(alloc: Global, file: u8, bytes: Vec<u8>) -> Result<StartImage, StoreFault>
-    ensures { spec.TellsBytes file bytes.items result }
+/// The image that bytes are, with nothing after it.
+fn complete_image(alloc: Global, file: u8, bytes: Vec<u8>) -> Result<StartImage, StoreFault>
+    ensures { spec.ReportsBytes file bytes.items result }
 {
-    if !is_whole(bytes.as_slice()) {
+    if !is_complete(bytes.as_slice()) {
         return Err(StoreFault::BadStore {
             file,
             place: HEAD_LEN,
@@ -71,7 +71,7 @@ fn whole_image(alloc: Global, file: u8, bytes: Vec<u8>) -> Result<StartImage, St
     }
 }
 
-/// The image behind the head of a file, of so many bytes. `BadStore` tells that it is none, at its place.
+/// The image after the head of a file, of so many bytes. `BadStore` says that it is none, at its offset.
 pub(crate) fn image_of<V: Volume>(
     alloc: Global,
     vol: &mut V,
@@ -80,11 +80,11 @@ pub(crate) fn image_of<V: Volume>(
 ) -> Result<StartImage, StoreFault>
     requires file { file < 2 }
     requires fits { head_len + len < 2 ^ 64 }
-    requires size { V.tells → length ((V.disk vol.old).reads file) ≡ head_len + len }
-    ensures told { V.tells → spec.TellsImage file ((V.disk vol.old).reads file) result }
+    requires size { V.reports → length ((V.disk vol.old).reads file) ≡ head_len + len }
+    ensures reported { V.reports → spec.ReportsImage file ((V.disk vol.old).reads file) result }
     ensures stays { Stays (V.disk vol.old) (V.disk vol.new) }
     ensures cause { HasReadCause (V.faults vol.old) (V.faults vol.new) result }
 {
     let bytes = read_bytes(alloc, vol, file, HEAD_LEN, len as usize)?;
-    whole_image(alloc, file, bytes)
+    complete_image(alloc, file, bytes)
 }

@@ -1,10 +1,10 @@
-//! What is written behind the gate of an image file.
+//! What is written after the gate of an image file.
 
 ghost use Rattle.std.specs.Prelude.{◌≡◌, ◌≤◌, ◌<◌, ◌^◌, ◌++◌, IfOk, OnOk, length, take, drop};
 ghost use Rattle.byteorder.specs.Endian.{big_bytes};
 ghost use Rattle.xdr_core.specs.Format.{IsBytes};
 ghost use Rattle.xdr_header.specs.Image.{start_image};
-ghost use Rattle.image_store.specs.ImageFiles.{behind_gate};
+ghost use Rattle.image_store.specs.ImageFiles.{after_gate};
 
 use byteorder::{BigEndian, ByteOrder};
 use ledger_types::Hash;
@@ -12,10 +12,10 @@ use std::alloc::{AllocError, Global};
 use xdr_core::Builder;
 use xdr_header::{StartImage, write_start_image};
 
-/// How many bytes stand between the gate and the image's length.
+/// How many bytes are between the gate and the image's length.
 const LENGTH_AT: usize = 40;
 
-/// How many bytes stand between the gate and the image.
+/// How many bytes are between the gate and the image.
 const IMAGE_AT: usize = 48;
 
 /// The epoch, the network id, room for a length, and the image.
@@ -28,7 +28,7 @@ fn without_length(
 ) -> Result<Vec<u8>, AllocError>
     requires { start_image.within image.now }
     ensures piece { IfOk result (λ piece. piece.items
-        ≡ (big_bytes 8 epoch ++ network.now.0) ++ big_bytes 8 0 ++ start_image.spell image.now) }
+        ≡ (big_bytes 8 epoch ++ network.now.0) ++ big_bytes 8 0 ++ start_image.encoding image.now) }
     ensures network { length network.now.0 ≡ 32 }
 {
     let mut builder = Builder::new(alloc);
@@ -39,7 +39,7 @@ fn without_length(
     Ok(builder.finish())
 }
 
-/// Puts a length in the place of what stands there.
+/// Puts a length in the place of what is there.
 fn put_length(piece: &mut [u8], len: u64)
     requires { 48 ≤ length piece.old }
     ensures put { piece.new ≡ take 40 piece.old ++ big_bytes 8 len ++ drop 48 piece.old }
@@ -58,17 +58,17 @@ fn as_bytes(piece: &[u8]) -> &[u8]
 }
 
 /// The epoch, the network id, the image's length and the image.
-pub(crate) fn behind_gate(
+pub(crate) fn after_gate(
     alloc: Global,
     epoch: u64,
     network: &Hash,
     image: &StartImage,
 ) -> Result<Vec<u8>, AllocError>
     requires { start_image.within image.now }
-    ensures piece { IfOk result (λ piece. piece.items ≡ behind_gate epoch network.now.0 (start_image.spell image.now)) }
+    ensures piece { IfOk result (λ piece. piece.items ≡ after_gate epoch network.now.0 (start_image.encoding image.now)) }
     ensures network { length network.now.0 ≡ 32 }
     ensures sized { OnOk result (start_image.sized image.now) }
-    ensures fits { OnOk result (length (start_image.spell image.now) < 256 ^ 8) }
+    ensures fits { OnOk result (length (start_image.encoding image.now) < 256 ^ 8) }
 {
     let mut piece = without_length(alloc, epoch, network, image)?;
     let len = piece.len() - IMAGE_AT;

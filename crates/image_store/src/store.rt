@@ -34,7 +34,7 @@ ghost use Rattle.image_store.specs.Reading as reading;
 use crate::gate::{Gate, gate_of};
 use crate::mounted::Mounted;
 use crate::mounting::{chosen, image_of};
-use crate::piece::behind_gate;
+use crate::piece::after_gate;
 use crate::turn::turn;
 use gate_journal::{AppendBuf, Journal, StoreFault};
 use ledger_types::Hash;
@@ -43,9 +43,9 @@ use std::alloc::Global;
 use std::marker::Model;
 use xdr_header::StartImage;
 
-/// A ledger's store on a volume. It stands for the volume that it was made on or mounted from, and needs that volume as
-/// its last call left it, unless a call on the volume has failed: from then on it answers `Failed`, until the volume is
-/// mounted anew.
+/// A ledger's store on a volume. It represents the volume that it was made on or mounted from, and needs that volume
+/// as its last call left it, unless a call on the volume has failed: from then on it answers `Failed`, until the volume
+/// is mounted anew.
 #[derive(Drop)]
 pub struct Store {
     epoch: u64,
@@ -67,7 +67,7 @@ impl Model for Store {
 
 /// Whether an image is open in one of the files.
 fn is_any_open<V: Volume>(vol: &mut V) -> Result<bool, Failed>
-    ensures told { V.tells → IfOk result (λ some. reading.TellsOpen (V.disk vol.old).reads some) }
+    ensures reported { V.reports → IfOk result (λ some. reading.ReportsOpen (V.disk vol.old).reads some) }
     ensures stays { Stays (V.disk vol.old) (V.disk vol.new) }
     ensures cause { HasCause (V.faults vol.old) (V.faults vol.new) result }
 {
@@ -83,7 +83,7 @@ fn is_any_open<V: Volume>(vol: &mut V) -> Result<bool, Failed>
 impl Store {
     /// Makes a store of an image on a volume that has none: in epoch 0, without records. It begins with a sync, and
     /// takes its memory before that. While it runs each crash leaves what was there, or no open image, or the store;
-    /// from `Ok` on, the store. `AlreadyThere` tells that an image is open.
+    /// from `Ok` on, the store. `AlreadyThere` says that an image is open.
     pub fn create<V: Volume>(
         alloc: Global,
         vol: &mut V,
@@ -91,15 +91,15 @@ impl Store {
         image: &StartImage,
     ) -> Result<Store, StoreFault>
         requires within { start_image.within image.now }
-        ensures creates { V.tells → spec.Creates network image.now (V.disk vol.old) (V.disk vol.new) result }
-        ensures runs { V.tells → Runs (spec.IsCreated network image.now) (V.disk vol.old) (V.disk vol.new) }
+        ensures creates { V.reports → spec.Creates network image.now (V.disk vol.old) (V.disk vol.new) result }
+        ensures runs { V.reports → Runs (spec.IsCreated network image.now) (V.disk vol.old) (V.disk vol.new) }
         ensures no_memory { result ≡ Err fault.NoMemory → vol.new ≡ vol.old }
         ensures safe { OnOk result (IsSafe (V.disk vol.new)) }
         ensures working { IfOk result (λ store. store.failed ≡ false) }
         ensures later { V.faults vol.old ≤ V.faults vol.new }
         ensures cause { IfErr result (λ wrong. spec.IsCreateFault (V.faults vol.old) (V.faults vol.new) wrong) }
     {
-        let Ok(piece) = behind_gate(alloc, 0, &network, image) else {
+        let Ok(piece) = after_gate(alloc, 0, &network, image) else {
             return Err(StoreFault::NoMemory);
         };
         let Ok(()) = vol.sync() else {
@@ -121,12 +121,12 @@ impl Store {
         }
     }
 
-    /// Opens what a volume keeps: the open image with the greater epoch, and the records behind it. It begins with a
-    /// sync and writes nothing. `Missing` tells that no image is open; `BadStore`, at which place of which file what is
+    /// Opens what a volume keeps: the open image with the greater epoch, and the records after it. It begins with a
+    /// sync and writes nothing. `Missing` says that no image is open; `BadStore`, at which offset of which file what is
     /// open is no store: its epoch has the other file's parity (1), its length isn't the file's (41), its image is none
     /// (49), or in its journal a gate is missing, or a record is cut short or too long.
     pub fn mount<V: Volume>(alloc: Global, vol: &mut V) -> Result<Mounted, StoreFault>
-        ensures mounts { V.tells → spec.Mounts (V.disk vol.old) (V.disk vol.new) result }
+        ensures mounts { V.reports → spec.Mounts (V.disk vol.old) (V.disk vol.new) result }
         ensures working { IfOk result (λ m. m.store.failed ≡ false) }
         ensures epoch { IfOk result (λ m. m.epoch ≡ m.store.epoch) }
         ensures short { IfOk result (λ m. All (λ bytes. length bytes ≤ max_record) m.closes) }
@@ -165,14 +165,14 @@ impl Store {
         })
     }
 
-    /// Puts a record behind the others. While it runs each crash leaves what was kept, or that with the record; from
+    /// Puts a record after the others. While it runs each crash leaves what was kept, or that with the record; from
     /// `Ok` on, that with the record. It takes no memory.
     pub fn append<V: Volume>(&mut self, vol: &mut V, buf: AppendBuf) -> Result<(), StoreFault>
-        requires { V.tells → (self.old.failed ≡ true)
+        requires { V.reports → (self.old.failed ≡ true)
             ⊎ ((kept : Kept) × spec.IsSettled self.old (V.disk vol.old) kept) }
-        ensures ok { V.tells → (kept : Kept) → spec.IsSettled self.old (V.disk vol.old) kept
+        ensures ok { V.reports → (kept : Kept) → spec.IsSettled self.old (V.disk vol.old) kept
             → OnOk result (spec.IsSettled self.new (V.disk vol.new) (grown kept buf)) }
-        ensures runs { V.tells → (kept : Kept) → spec.IsSettled self.old (V.disk vol.old) kept
+        ensures runs { V.reports → (kept : Kept) → spec.IsSettled self.old (V.disk vol.old) kept
             → Runs (spec.HoldsEither kept (grown kept buf)) (V.disk vol.old) (V.disk vol.new) }
         ensures safe { OnOk result (IsSafe (V.disk vol.new)) }
         ensures working { OnOk result (self.new.failed ≡ false) }
@@ -206,13 +206,13 @@ impl Store {
         vol: &mut V,
         image: &StartImage,
     ) -> Result<(), StoreFault>
-        requires settled { V.tells → (self.old.failed ≡ true)
+        requires settled { V.reports → (self.old.failed ≡ true)
             ⊎ ((kept : Kept) × spec.IsSettled self.old (V.disk vol.old) kept) }
         requires epoch { self.old.epoch < 2 ^ 63 - 1 }
         requires within { start_image.within image.now }
-        ensures ok { V.tells → (kept : Kept) → spec.IsSettled self.old (V.disk vol.old) kept
+        ensures ok { V.reports → (kept : Kept) → spec.IsSettled self.old (V.disk vol.old) kept
             → OnOk result (spec.IsSettled self.new (V.disk vol.new) (rolled kept image.now)) }
-        ensures runs { V.tells → (kept : Kept) → spec.IsSettled self.old (V.disk vol.old) kept
+        ensures runs { V.reports → (kept : Kept) → spec.IsSettled self.old (V.disk vol.old) kept
             → Runs (spec.HoldsEither kept (rolled kept image.now)) (V.disk vol.old) (V.disk vol.new) }
         ensures no_memory { result ≡ Err fault.NoMemory → (self.new ≡ self.old) × (vol.new ≡ vol.old) }
         ensures safe { OnOk result (IsSafe (V.disk vol.new)) }
@@ -231,7 +231,7 @@ impl Store {
             return Err(StoreFault::Failed);
         }
         let epoch = self.epoch + 1;
-        let Ok(piece) = behind_gate(alloc, epoch, &self.network, image) else {
+        let Ok(piece) = after_gate(alloc, epoch, &self.network, image) else {
             return Err(StoreFault::NoMemory);
         };
         match turn(vol, (epoch % 2) as u8, piece.as_slice()) {

@@ -19,10 +19,10 @@ const SHUT: u8 = 0;
 /// might open an image of long ago.
 fn shut<V: Volume>(vol: &mut V, file: u8) -> Result<(), Failed>
     requires { file < 2 }
-    ensures shut { V.tells → OnOk result (IsShut ((V.disk vol.new).reads file)) }
-    ensures runs { V.tells → IsSafe (V.disk vol.old)
+    ensures shut { V.reports → OnOk result (IsShut ((V.disk vol.new).reads file)) }
+    ensures runs { V.reports → IsSafe (V.disk vol.old)
         → Runs (InFile file spec.IsSameOrNotOpen) (V.disk vol.old) (V.disk vol.new) }
-    ensures others { V.tells → OnOk result (InFile file Anything (V.disk vol.old).reads (V.disk vol.new).reads) }
+    ensures others { V.reports → OnOk result (InFile file Anything (V.disk vol.old).reads (V.disk vol.new).reads) }
     ensures safe { OnOk result (IsSafe (V.disk vol.new)) }
     ensures cause { HasCause (V.faults vol.old) (V.faults vol.new) result }
 {
@@ -32,14 +32,14 @@ fn shut<V: Volume>(vol: &mut V, file: u8) -> Result<(), Failed>
     }
 }
 
-/// Puts a piece behind the gate of an image file that is shut.
+/// Puts a piece after the gate of an image file that is shut.
 fn put<V: Volume>(vol: &mut V, file: u8, piece: &[u8]) -> Result<(), Failed>
     requires file { file < 2 }
-    requires shut { V.tells → IsShut ((V.disk vol.old).reads file) }
-    requires safe { V.tells → IsSafe (V.disk vol.old) }
-    ensures put { V.tells → OnOk result (InFile file (spec.HasPiece piece.now)
+    requires shut { V.reports → IsShut ((V.disk vol.old).reads file) }
+    requires safe { V.reports → IsSafe (V.disk vol.old) }
+    ensures put { V.reports → OnOk result (InFile file (spec.HasPiece piece.now)
         (V.disk vol.old).reads (V.disk vol.new).reads) }
-    ensures runs { V.tells → Runs (InFile file spec.HasSameGate) (V.disk vol.old) (V.disk vol.new) }
+    ensures runs { V.reports → Runs (InFile file spec.HasSameGate) (V.disk vol.old) (V.disk vol.new) }
     ensures cause { HasCause (V.faults vol.old) (V.faults vol.new) result }
 {
     vol.cut(file, 1)?;
@@ -49,7 +49,7 @@ fn put<V: Volume>(vol: &mut V, file: u8, piece: &[u8]) -> Result<(), Failed>
 /// Opens the gate of an image file, and syncs.
 fn open<V: Volume>(vol: &mut V, file: u8) -> Result<(), Failed>
     requires { file < 2 }
-    ensures opened { V.tells → OnOk result (InFile file spec.IsOpened (V.disk vol.old).reads (V.disk vol.new).reads) }
+    ensures opened { V.reports → OnOk result (InFile file spec.IsOpened (V.disk vol.old).reads (V.disk vol.new).reads) }
     ensures runs { Runs (InFile file (Torn 0 1)) (V.disk vol.old) (V.disk vol.new) }
     ensures safe { OnOk result (IsSafe (V.disk vol.new)) }
     ensures cause { HasCause (V.faults vol.old) (V.faults vol.new) result }
@@ -57,15 +57,15 @@ fn open<V: Volume>(vol: &mut V, file: u8) -> Result<(), Failed>
     write_and_sync(vol, file, 0, &[OPEN])
 }
 
-/// Puts a piece behind the gate of an image file, makes its journal one without records, opens the gate, and syncs
+/// Puts a piece after the gate of an image file, makes its journal one without records, opens the gate, and syncs
 /// before and after that.
 pub(crate) fn turn<V: Volume>(vol: &mut V, file: u8, piece: &[u8]) -> Result<Journal, Failed>
     requires file { file < 2 }
-    requires safe { V.tells → IsSafe (V.disk vol.old) }
+    requires safe { V.reports → IsSafe (V.disk vol.old) }
     ensures journal { IfOk result (λ j. j ≡ record { file = 2 + file; end = 0; failed = false }) }
-    ensures turned { V.tells → OnOk result (spec.IsTurned file piece.now
+    ensures turned { V.reports → OnOk result (spec.IsTurned file piece.now
         (V.disk vol.old).reads (V.disk vol.new).reads) }
-    ensures runs { V.tells → Runs (spec.IsTurning file piece.now) (V.disk vol.old) (V.disk vol.new) }
+    ensures runs { V.reports → Runs (spec.IsTurning file piece.now) (V.disk vol.old) (V.disk vol.new) }
     ensures safe { OnOk result (IsSafe (V.disk vol.new)) }
     ensures cause { HasCause (V.faults vol.old) (V.faults vol.new) result }
 {

@@ -13,14 +13,13 @@ use std::sync::ledger::{Blank, Ledger};
 use std::thread::Threads;
 use std::{env, io};
 
-/// The words behind the program's name.
+/// The words after the program's name.
 fn words<R: Env + AllocGlobal>(rt: &R) -> io::Result<Vec<String>> {
     let words = env::args(rt)?.skip(1).collect(rt.alloc())?;
     Ok(words)
 }
 
-/// Runs the command of the words over these streams and this volume. The steps of merges are counted in a book of their
-/// own.
+/// Runs the command of the words over these streams and this volume. The steps of merges are counted apart.
 fn run<
     R: Threads + Wait + Sync + Env + AllocGlobal,
     I: Source,

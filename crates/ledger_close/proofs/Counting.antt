@@ -1,13 +1,7 @@
 -- The steps of a close, from those of its levels.
-use Rattle.std.proofs.Common.{◌≡◌, ℕ, ◌+◌, List, None, Ok, inl, inr}
-use Rattle.xdr_core.specs.Format.{IsBytes}
-use Rattle.xdr_header.specs.declared.record.CloseRecord.{CloseRecord}
-use Rattle.entry_map.specs.EntryMap.{EntryMap}
-use Rattle.entry_table.specs.entry_changes.Next.{AreNextEntries}
-use Rattle.close_rules.specs.Refusals.{record_in, record_fault}
-use Rattle.close_rules.specs.Close.{applied_in}
-use Rattle.ledger_close.specs.States.{LedgerAt}
-use Rattle.ledger_close.specs.Counted.{AreStepsTo, AreStepsWith, AreSteps}
+use Rattle.ledger_close.proofs.Prelude.{◌≡◌, ℕ, ◌+◌, List, None, Ok, inl, inr, IsBytes, CloseRecord, EntryMap}
+use Rattle.ledger_close.proofs.Prelude.{AreNextEntries, record_in, record_fault, applied_in, LedgerAt, AreStepsTo}
+use Rattle.ledger_close.proofs.Prelude.{AreStepsWith, AreSteps}
 
 pub steps_with : (l : LedgerAt) (closing : CloseRecord) (next : EntryMap) (old new : ℕ)
     → record_fault l.state closing ≡ None
@@ -15,7 +9,7 @@ pub steps_with : (l : LedgerAt) (closing : CloseRecord) (next : EntryMap) (old n
     → AreStepsTo l next old new → AreStepsWith l closing old new
 steps_with l closing next old new unrefused are (inl e) = inl e
 steps_with l closing next old new unrefused are (inr (fresh, is, few)) =
-    inr (unrefused, next, fresh, record { entries = are; told = is }, few)
+    inr (unrefused, next, fresh, record { entries = are; recorded = is }, few)
 
 pub steps_of : (l : LedgerAt) (bytes : List ℕ) (closing : CloseRecord) (old new : ℕ) → IsBytes bytes
     → record_in bytes ≡ Ok closing → AreStepsWith l closing old new → AreSteps l bytes old new

@@ -1,24 +1,16 @@
 -- The files of an image as those of levels.
-use Rattle.std.proofs.Common.{◌≡◌, ℕ, zero, suc, ◌+◌, ◌*◌, ◌<◌, ◌⊎◌, inl, inr, List, [], ◌∷◌, ◌++◌, length, map, get_or}
-use Rattle.std.proofs.Common.{take, drop, Some, None, Result, Err, refl, sym, ap, ◌∙◌, subst, arith, All, append_assoc}
-use Rattle.std.specs.List.{flat_map}
-use Rattle.std.proofs.lemmas.List.{get_or-drop, drop-drop, length-drop, map-append}
-use Rattle.std.proofs.lemmas.List.{flat_map_more, take_all, take_more, length_push}
-use Rattle.std.proofs.lemmas.List.Elements.{All-nil, All-head, All-tail, All-push}
-use Rattle.bucket_core.specs.Bucket.{Contents}
-use Rattle.bucket_core.specs.File.{file_of, HasFile}
+use Rattle.ledger_close.proofs.Prelude as prelude
+use prelude.{◌≡◌, ℕ, zero, suc, ◌+◌, ◌*◌, ◌<◌, ◌⊎◌, inl, inr, List, [], ◌∷◌, ◌++◌, length, map, get_or, take, drop}
+use prelude.{Some, None, Result, Err, refl, sym, ap, ◌∙◌, subst, arith, All, append_assoc, flat_map, get_or-drop}
+use prelude.{drop-drop, length-drop, map-append, flat_map_more, take_all, take_more, length_push, All-nil, All-head}
+use prelude.{All-tail, All-push, Contents, file_of, HasFile, Pair, pair_at, empty_pair, pair_of, LevelPair, ImageFault}
+use prelude.{AreFilesOf, IsFileOf, IsNoFile, IsFileFault, fault_of}
 use Rattle.bucket_core.specs.Faults.{first_fault, JudgedBy}
 use Rattle.bucket_core.specs.declared.fault.BucketFault.{BucketFault}
 use Rattle.bucket_core.specs.declared.fault.BucketFault.TheVariants as bucket
 use Rattle.bucket_levels.specs.Spills.{level_count}
-use Rattle.bucket_levels.specs.Pairs.{Pair, pair_at, empty_pair}
-use Rattle.bucket_levels.specs.Levels.{pair_of}
-use Rattle.bucket_levels.specs.declared.pair.LevelPair.{LevelPair}
-use Rattle.close_rules.specs.declared.image_fault.ImageFault.{ImageFault}
 use Rattle.close_rules.specs.declared.image_fault.ImageFault.TheVariants as fault
 use Rattle.close_rules.specs.declared.image_fault.ImageRule.TheVariants as rule
-use Rattle.close_rules.specs.Images.{AreFilesOf}
-use Rattle.ledger_close.specs.ImageFiles.{IsFileOf, IsNoFile, IsFileFault, fault_of}
 
 -- ---- one file
 
@@ -28,28 +20,28 @@ NoFaults = (contents : Contents) → HasFile contents → first_fault (file_of c
 
 faulty : (file : List ℕ) (wrong : BucketFault) → NoFaults → first_fault file ≡ Some wrong → (contents : Contents)
     → IsFileOf file contents → ⊥
-faulty file wrong law told contents is =
+faulty file wrong law recorded contents is =
     let none : first_fault file ≡ None =
     subst (λ (t : List ℕ). first_fault t ≡ None) (sym is.is) (law contents is.has) in
     cc
 
-told_by : (T : Type 0) (file : List ℕ) (wrong : BucketFault) → NoFaults
+shown_by : (T : Type 0) (file : List ℕ) (wrong : BucketFault) → NoFaults
     → JudgedBy {T = T} (first_fault file) (Err wrong) → IsFileFault (fault_of wrong) (IsNoFile file)
-told_by T file bucket.NoMemory law told = tt
-told_by T file (bucket.Xdr at kind) law told = faulty file (bucket.Xdr at kind) law told
-told_by T file (bucket.NoMeta at) law told = faulty file (bucket.NoMeta at) law told
-told_by T file (bucket.SecondMeta at) law told = faulty file (bucket.SecondMeta at) law told
-told_by T file (bucket.Order at) law told = faulty file (bucket.Order at) law told
+shown_by T file bucket.NoMemory law recorded = tt
+shown_by T file (bucket.Xdr at kind) law recorded = faulty file (bucket.Xdr at kind) law recorded
+shown_by T file (bucket.NoMeta at) law recorded = faulty file (bucket.NoMeta at) law recorded
+shown_by T file (bucket.SecondMeta at) law recorded = faulty file (bucket.SecondMeta at) law recorded
+shown_by T file (bucket.Order at) law recorded = faulty file (bucket.Order at) law recorded
 
 -- what a reader's fault says of the file of which it read a copy
-pub told_of : {T : Type 0} (answered : Result T BucketFault) (file copied : List ℕ) (wrong : BucketFault)
+pub shown_of : {T : Type 0} (answered : Result T BucketFault) (file copied : List ℕ) (wrong : BucketFault)
     (answer : ImageFault) → NoFaults → copied ≡ file → JudgedBy (first_fault copied) answered
     → answered ≡ Err wrong → answer ≡ fault_of wrong → IsFileFault answer (IsNoFile file)
-told_of {T = T} answered file copied wrong answer law same told failed is =
+shown_of {T = T} answered file copied wrong answer law same recorded failed is =
     subst (λ (a : ImageFault). IsFileFault a (IsNoFile file)) (sym is)
     (subst (λ (t : List ℕ). IsFileFault (fault_of wrong) (IsNoFile t)) same
-    (told_by T copied wrong law
-    (subst (λ (r : Result T BucketFault). JudgedBy {T = T} (first_fault copied) r) failed told)))
+    (shown_by T copied wrong law
+    (subst (λ (r : Result T BucketFault). JudgedBy {T = T} (first_fault copied) r) failed recorded)))
 
 pub weaker : {P Q : Type 0} (wrong : ImageFault) → (P → Q) → IsFileFault wrong P → IsFileFault wrong Q
 weaker fault.NoMemory on h = tt
@@ -75,7 +67,7 @@ HasBoth pair = HasFile pair.curr × HasFile pair.snap
 abbrev pub files_in : Pair → List (List ℕ)
 files_in pair = file_of pair.curr ∷ file_of pair.snap ∷ []
 
--- so many levels were read from the front of the files
+-- so many levels were read from the start of the files
 pub record AreRead (files : List (List ℕ)) (levels : List Pair) (n : ℕ) : Type 0 where
   pub count : length levels ≡ n
   pub have : All HasBoth levels
@@ -127,7 +119,7 @@ all_read files levels n count end read = record {
 
 -- ---- files put one by one
 
--- the files of so many levels were put behind one another
+-- the files of so many levels were put one after another
 pub record AreWritten (levels : List Pair) (files : List (List ℕ)) (n : ℕ) : Type 0 where
   pub have : All HasBoth (take n levels)
   pub are : files ≡ flat_map files_in (take n levels)
@@ -163,21 +155,21 @@ all_written levels files n count end written =
 
 -- ---- files taken one by one
 
--- a file was taken from the front of those ahead
-pub record NextFile (files after : List (List ℕ)) (place : ℕ) (file : List ℕ) : Type 0 where
-  pub is : file ≡ get_or files place file
-  pub left : after ≡ drop (place + 1) files
+-- the first of the files that are left was taken
+pub record NextFile (files after : List (List ℕ)) (index : ℕ) (file : List ℕ) : Type 0 where
+  pub is : file ≡ get_or files index file
+  pub left : after ≡ drop (index + 1) files
 
-pub file_ahead : (files ahead : List (List ℕ)) (place : ℕ) → ahead ≡ drop place files → place < length files
+pub file_ahead : (files ahead : List (List ℕ)) (index : ℕ) → ahead ≡ drop index files → index < length files
     → 0 < length ahead
-file_ahead files ahead place left below = omega (arith, ap length left, length-drop place files)
+file_ahead files ahead index left below = omega (arith, ap length left, length-drop index files)
 
-pub next_file : (files ahead after : List (List ℕ)) (place : ℕ) (file : List ℕ) → ahead ≡ drop place files
-    → file ≡ get_or ahead 0 file → after ≡ take 0 ahead ++ drop (0 + 1) ahead → NextFile files after place file
-next_file files ahead after place file left first taken = record {
-  is = first ∙ ap (λ (f : List (List ℕ)). get_or f 0 file) left ∙ get_or-drop place files 0 file
-      ∙ (let same : place + 0 ≡ place = omega arith in ap (λ (n : ℕ). get_or files n file) same);
-  left = taken ∙ ap (λ (f : List (List ℕ)). drop 1 f) left ∙ drop-drop 1 place files;
+pub next_file : (files ahead after : List (List ℕ)) (index : ℕ) (file : List ℕ) → ahead ≡ drop index files
+    → file ≡ get_or ahead 0 file → after ≡ take 0 ahead ++ drop (0 + 1) ahead → NextFile files after index file
+next_file files ahead after index file left first taken = record {
+  is = first ∙ ap (λ (f : List (List ℕ)). get_or f 0 file) left ∙ get_or-drop index files 0 file
+      ∙ (let same : index + 0 ≡ index = omega arith in ap (λ (n : ℕ). get_or files n file) same);
+  left = taken ∙ ap (λ (f : List (List ℕ)). drop 1 f) left ∙ drop-drop 1 index files;
 }
 
 -- ---- where one is no bucket's

@@ -1,43 +1,19 @@
 -- A close that is made of its parts.
-use Rattle.std.proofs.Common.{◌≡◌, ℕ, ◌+◌, ◌<◌, ◌≤◌, ℤ, Bool, true, false, List, map, Option, Some, None, Result}
-use Rattle.std.proofs.Common.{Ok, Err, refl, sym, ap, ◌∙◌, subst, arith}
-use Rattle.std.specs.Prelude.{nat_eq, if◌then◌else◌}
-use Rattle.std.specs.Option.{option_or}
-use Rattle.std.proofs.lemmas.Bool.Decides.{nat_tests}
-use Rattle.ledger_types.specs.declared.ids.Hash.{Hash}
-use Rattle.ledger_types.specs.declared.header.LedgerHeader.{LedgerHeader}
+use Rattle.ledger_close.proofs.Prelude as prelude
+use prelude.{◌≡◌, ℕ, ◌+◌, ◌<◌, ◌≤◌, ℤ, Bool, true, false, List, map, Option, Some, None, Result, Ok, Err, refl, sym, ap}
+use prelude.{◌∙◌, subst, if◌then◌else◌, option_or, Hash, LedgerHeader, IsBytes, CloseRecord, ledger_header}
+use prelude.{transaction_result_set, ledger_hash_of, results_hash_of, EntryMap, Pair, LevelsAfter, list_hash}
+use prelude.{file_total, upgrade_in, all_upgraded, finished, CloseFault, ClosingState, record_in, term_fault}
+use prelude.{upgrade_fault, PreparedClose, IsClosed, applied_in, result_set, filled_header, upgraded_header, IsClosable}
+use prelude.{Worked, filled, Leaves, IsLeveled, IsClosedBy, Answers, terms_of, state_of, less_from_unequal}
 use Rattle.ledger_types.specs.declared.header.StellarValue.{StellarValue}
-use Rattle.xdr_core.specs.Format.{IsBytes}
-use Rattle.xdr_header.specs.declared.record.CloseRecord.{CloseRecord}
-use Rattle.xdr_header.specs.Header.{ledger_header}
-use Rattle.value_hashes.specs.xdr_results.Results.{transaction_result_set}
-use Rattle.value_hashes.specs.Hashes.{ledger_hash_of, results_hash_of}
 use Rattle.op_types.specs.declared.transaction_result.TransactionResultSet.{TransactionResultSet}
 use Rattle.op_types.specs.declared.transaction_result.TransactionResultPair.{TransactionResultPair}
-use Rattle.entry_map.specs.EntryMap.{EntryMap}
-use Rattle.bucket_levels.specs.Pairs.{Pair}
-use Rattle.bucket_levels.specs.Levels.{LevelsAfter}
-use Rattle.bucket_levels.specs.Hash.{list_hash}
-use Rattle.bucket_levels.specs.Size.{file_total}
-use Rattle.header_chain.specs.Upgrades.{upgrade_in, all_upgraded}
-use Rattle.header_chain.specs.SkipList.{finished}
-use Rattle.close_rules.specs.declared.close_fault.CloseFault.{CloseFault}
 use Rattle.close_rules.specs.declared.close_fault.CloseFault.TheVariants as fault
-use Rattle.close_rules.specs.State.{ClosingState}
-use Rattle.close_rules.specs.Refusals.{record_in, term_fault, upgrade_fault}
-use Rattle.close_rules.specs.Close.{PreparedClose, IsClosed, applied_in, result_set, filled_header, upgraded_header}
-use Rattle.close_laws.specs.Legal.{IsClosable}
-use Rattle.close_laws.specs.Results.{ResultsAreSpelled}
-use Rattle.close_laws.specs.Header.{NextHeaderIsSpelled}
-use Rattle.close_laws.proofs.Digests.{hash_spelled}
+use Rattle.close_laws.specs.Results.{ResultsAreEncoded}
+use Rattle.close_laws.specs.Header.{NextHeaderIsEncoded}
+use Rattle.close_laws.proofs.Digests.{hash_encoded}
 use Rattle.ledger_close.specs.declared.heading.Given.{Given}
-use Rattle.ledger_close.specs.declared.apply.Worked.{Worked}
-use Rattle.ledger_close.specs.Heading.{filled}
-use Rattle.ledger_close.specs.Worked.{Leaves}
-use Rattle.ledger_close.specs.Leveled.{IsLeveled}
-use Rattle.ledger_close.specs.Closing.{IsClosedBy}
-use Rattle.ledger_close.specs.Answers.{Answers, terms_of}
-use Rattle.close_rules.specs.Images.{state_of}
 use Rattle.ledger_close.proofs.Parts.{fills, of_bytes}
 
 -- ---- the header
@@ -104,7 +80,7 @@ closes s closing worked step leaves leveled = record {
   network = refl;
   entries = leaves.entries;
   fresh = leveled.fresh;
-  told = record {
+  recorded = record {
     meta = leveled.meta ∙ ap (λ (h : LedgerHeader). Some h.ledger_version) (filled_in s closing);
     changes = leveled.changes;
   };
@@ -114,26 +90,23 @@ closes s closing worked step leaves leveled = record {
 
 -- ---- what can be written
 
-pub results_spelled : ResultsAreSpelled → (s : ClosingState) (closing : CloseRecord) (results : TransactionResultSet)
+pub results_encoded : ResultsAreEncoded → (s : ClosingState) (closing : CloseRecord) (results : TransactionResultSet)
     → IsClosable s closing → results.results ≡ (applied_in s closing).results → transaction_result_set.within results
-results_spelled law s closing results can is =
+results_encoded law s closing results can is =
     subst (λ pairs. transaction_result_set.within (result_set pairs)) (sym is) (law s closing can)
 
-pub header_spelled : NextHeaderIsSpelled → (s : ClosingState) (closing : CloseRecord) (step : LevelsAfter)
+pub header_encoded : NextHeaderIsEncoded → (s : ClosingState) (closing : CloseRecord) (step : LevelsAfter)
     (header : LedgerHeader) → IsClosable s closing
     → header ≡ finished (upgraded_header s closing) (list_hash step.pairs) → ledger_header.within header
-header_spelled law s closing step header can is =
+header_encoded law s closing step header can is =
     subst (λ h. ledger_header.within h) (sym is)
-    (law s closing (list_hash step.pairs) can (hash_spelled _)).within
+    (law s closing (list_hash step.pairs) can (hash_encoded _)).within
 
 -- ---- numbers
 
-not_last : (n : ℕ) → n ≤ 2147483647 → nat_eq n 2147483647 ≡ false → n < 2147483647
-not_last n le other = grind (arith, nat_tests)
-
-passed : (b : Bool) (f : CloseFault) (rest : Option CloseFault) → (if b then Some f else rest) ≡ None → b ≡ false
-passed true f rest e = absurd (cc)
-passed false f rest e = refl
+if_some_none_false : (b : Bool) (f : CloseFault) (rest : Option CloseFault) → (if b then Some f else rest) ≡ None → b ≡ false
+if_some_none_false true f rest e = absurd (cc)
+if_some_none_false false f rest e = refl
 
 no_term : (a b : Option CloseFault) → option_or a b ≡ None → a ≡ None
 no_term None b e = refl
@@ -143,8 +116,8 @@ pub seq_by_terms : (s : ClosingState) (closing : CloseRecord) → terms_of s clo
     → s.header.ledger_seq ≤ 2147483647 → s.header.ledger_seq < 2147483647
 unfolding term_fault
 seq_by_terms s closing none le =
-    not_last s.header.ledger_seq le
-    (passed _ _ _ (no_term (term_fault s closing) (upgrade_fault s closing) none))
+    less_from_unequal s.header.ledger_seq 2147483647 le
+    (if_some_none_false _ _ _ (no_term (term_fault s closing) (upgrade_fault s closing) none))
 
 -- ---- bytes
 
@@ -179,7 +152,7 @@ answered s bytes closing (Err (fault.LedgerFull total)) text reads is = (
 )
 answered s bytes closing (Err fault.NoMemory) text reads is = tt
 
--- ---- the whole
+-- ---- the entire close
 
 abbrev pub closed_with : List TransactionResultPair → Hash → LedgerHeader → EntryMap → List Pair → PreparedClose
 closed_with results network h m levels = record { results = results; state = state_of network h levels m }

@@ -1,13 +1,7 @@
--- What a close says of the state behind it.
-use Rattle.std.proofs.Common.{◌≡◌, ℕ, ◌+◌, ◌≤◌, List, length, Ok, ap, ◌∙◌, subst}
-use Rattle.bucket_core.specs.Bucket.{Contents}
-use Rattle.bucket_levels.specs.Step.{IsStep}
-use Rattle.bucket_levels.specs.Hash.{list_hash}
-use Rattle.xdr_header.specs.declared.record.CloseRecord.{CloseRecord}
-use Rattle.close_rules.specs.State.{ClosingState, IsClosingState}
-use Rattle.close_rules.specs.Close.{PreparedClose, IsClosed, IsClose}
-use Rattle.close_laws.specs.Closes.{TakenIsClosable, NextIsClosing}
-use Rattle.close_laws.proofs.NextHeader.{next_counts}
+-- What a close says of the state after it.
+use Rattle.ledger_close.proofs.Prelude.{◌≡◌, ℕ, ◌+◌, ◌≤◌, List, length, Ok, ap, ◌∙◌, subst, Contents, IsStep, list_hash}
+use Rattle.ledger_close.proofs.Prelude.{CloseRecord, ClosingState, IsClosingState, PreparedClose, IsClosed, IsClose}
+use Rattle.ledger_close.proofs.Prelude.{TakenIsClosable, NextIsClosing, next_counts}
 
 -- the number of the next ledger
 pub next_number : (s : ClosingState) (closing : CloseRecord) (closed : PreparedClose) → IsClosed s closing closed

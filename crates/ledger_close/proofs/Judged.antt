@@ -1,63 +1,37 @@
--- What parts of an image's judging say of the whole.
-use Rattle.std.proofs.Common.{◌≡◌, ◌≢◌, ℕ, ◌≤◌, inl, inr, List, [], ◌∷◌, map, Option, Some, None}
-use Rattle.std.proofs.Common.{pos, Ok, Err, refl, sym, ap, ◌∙◌, subst, arith, All, ◌*◌, length}
-use Rattle.std.specs.List.{AllByRecursion}
-use Rattle.std.specs.FinMap.{get, entries, get-entries}
-use Rattle.std.proofs.lemmas.List.{length-append}
-use Rattle.std.proofs.lemmas.List.Elements.{All-nil, All-cons, All-head, All-tail, recursion_from_All}
-use Rattle.ledger_types.specs.declared.ids.Hash.{Hash}
-use Rattle.ledger_types.specs.declared.header.LedgerHeader.{LedgerHeader}
-use Rattle.ledger_types.specs.declared.entry.LedgerEntry.{LedgerEntry}
+-- What parts of an image's judging say of all of it.
+use Rattle.ledger_close.proofs.Prelude as prelude
+use prelude.{◌≡◌, ◌≢◌, ℕ, ◌≤◌, inl, inr, List, [], ◌∷◌, map, Option, Some, None, pos, Ok, Err, refl, sym, ap, ◌∙◌}
+use prelude.{subst, arith, All, ◌*◌, length, AllByRecursion, get, entries, get-entries, length-append, All-nil}
+use prelude.{All-cons, All-head, All-tail, recursion_from_All, Hash, LedgerHeader, LedgerEntry, key_of, IsBytes, Lawful}
+use prelude.{i32, Position, start_of, StartImage, ledger_header, ledger_entry, ledger_hash_of, EntryMap}
+use prelude.{IsEntryEncodable, AreEncodable, IsLegal, Change, Init, Live, Dead, Contents, change_at, HasFile, items_of}
+use prelude.{item_of, Pair, LevelsAt, list_hash, file_total, ImageFault, ImageRule, IsClosingState, IsEncoded}
+use prelude.{max_file_total, IsFirstBroken, entry_rules, header_in, read_complete, if_complete, AreFilesOf, HasHeader}
+use prelude.{HasLevels, HasEntries, IsJudged, state_of, IsKept, JudgesImage, IsFileFault, IsHeaderJudged, DoFilesFit}
+use prelude.{Lists, AreJudged}
 use Rattle.ledger_types.specs.declared.key.LedgerKey.{LedgerKey}
 use Rattle.ledger_types.specs.declared.bucket.BucketEntry.TheVariants as item
-use Rattle.ledger_types.specs.Keys.{key_of}
-use Rattle.xdr_core.specs.Format.{IsBytes, Lawful}
-use Rattle.xdr_core.specs.Leaves.{i32}
-use Rattle.xdr_core.specs.Place.{Place, start_of}
-use Rattle.xdr_header.specs.declared.image.StartImage.{StartImage}
-use Rattle.xdr_header.specs.Header.{ledger_header}
-use Rattle.bucket_core.specs.xdr_entries.Entries.{ledger_entry}
 use Rattle.bucket_core.specs.xdr_entries.Keys.{bucket_entry}
-use Rattle.value_hashes.specs.Hashes.{ledger_hash_of}
-use Rattle.entry_map.specs.EntryMap.{EntryMap}
-use Rattle.entry_table.specs.entry_changes.Spellable.{IsEntrySpellable, AreSpellable}
-use Rattle.close_laws.specs.legal_rules.Legal.{IsLegal}
-use Rattle.bucket_core.specs.bucket_items.MarkedItem.{IsSpellable}
+use Rattle.bucket_core.specs.bucket_items.MarkedItem.{IsEncodable}
 use Rattle.bucket_core.proofs.bucket_items_proofs.Holding.{i32_len}
-use Rattle.bucket_core.specs.Bucket.{Change, Init, Live, Dead, Contents, change_at}
-use Rattle.bucket_core.specs.File.{HasFile, items_of, item_of}
 use Rattle.bucket_core.proofs.Keyed.{found_is_each}
-use Rattle.bucket_levels.specs.Pairs.{Pair}
-use Rattle.bucket_levels.specs.Levels.{LevelsAt}
-use Rattle.bucket_levels.specs.Hash.{list_hash}
-use Rattle.bucket_levels.specs.Size.{file_total}
-use Rattle.bucket_levels.specs.Meaning.{in_front, entry_after, entry_by, changes_of, files_of, StandFor}
-use Rattle.close_rules.specs.declared.image_fault.ImageFault.{ImageFault}
+use Rattle.bucket_levels.specs.Meaning.{prepended, entry_after, entry_by, changes_of, files_of, Represent}
 use Rattle.close_rules.specs.declared.image_fault.ImageFault.TheVariants as fault
-use Rattle.close_rules.specs.declared.image_fault.ImageRule.{ImageRule}
 use Rattle.close_rules.specs.declared.image_fault.ImageRule.TheVariants as rule
-use Rattle.close_rules.specs.State.{IsClosingState, IsSpelled, max_file_total}
-use Rattle.close_rules.specs.EntryRules.{IsFirstBroken, entry_rules}
-use Rattle.close_rules.specs.Images.{header_in, read_whole, if_whole, AreFilesOf, HasHeader}
-use Rattle.close_rules.specs.Images.{HasLevels, HasEntries, IsJudged, state_of}
 use Rattle.close_laws.proofs.StateImages.{number_of_levels}
-use Rattle.ledger_close.specs.States.{IsKept}
-use Rattle.ledger_close.specs.Answers.{JudgesImage}
-use Rattle.ledger_close.specs.ImageFiles.{IsFileFault}
-use Rattle.ledger_close.specs.Judging.{IsHeaderJudged, DoFilesFit, Stands, AreJudged}
 use Rattle.ledger_close.proofs.Files.{HasBoth, OneFile, levels_are_one}
 
 -- ---- the header
 
--- a header that was read, with nothing behind it
-pub whole_read : (bytes : List ℕ) (h : LedgerHeader) (p : Place) → Lawful ledger_header → IsBytes bytes
+-- a header that was read, with nothing after it
+pub complete_read : (bytes : List ℕ) (h : LedgerHeader) (p : Position) → Lawful ledger_header → IsBytes bytes
     → ledger_header.read (start_of bytes) ≡ Ok (h, p) → p.rest ≡ []
-    → (header_in bytes ≡ Some h) × IsSpelled ledger_header h
+    → (header_in bytes ≡ Some h) × IsEncoded ledger_header h
 unfolding header_in
-whole_read bytes h p law text reads end =
-    let spelled = law.takes (start_of bytes) p h text reads in (
-      ap read_whole reads ∙ ap (if_whole h) end,
-      record { within = spelled.within; sized = spelled.sized },
+complete_read bytes h p law text reads end =
+    let encoded = law.takes (start_of bytes) p h text reads in (
+      ap read_complete reads ∙ ap (if_complete h) end,
+      record { within = encoded.within; sized = encoded.sized },
     )
 
 -- ---- the files
@@ -123,83 +97,83 @@ by_rule h levels m rule.Pools hash broken = (hash, broken)
 by_rule h levels m rule.Lumens hash broken = (hash, broken)
 
 pub has_entries : (image : StartImage) (h : LedgerHeader) (levels : List Pair) (m : EntryMap)
-    → HasLevels image h levels → Stands levels m → list_hash levels ≡ h.bucket_list_hash → HasEntries image h levels m
-has_entries image h levels m has stands hash =
-    record { files = has; marks = stands.marks; hash = hash; standing = stands.standing }
+    → HasLevels image h levels → Lists levels m → list_hash levels ≡ h.bucket_list_hash → HasEntries image h levels m
+has_entries image h levels m has exists hash =
+    record { files = has; marks = exists.marks; hash = hash; existing = exists.existing }
 
 pub by_entries : (network : Hash) (image : StartImage) (h : LedgerHeader) (levels : List Pair) (m : EntryMap)
-    (wrong : ImageFault) → HasLevels image h levels → Stands levels m → AreJudged h levels m (Err wrong)
+    (wrong : ImageFault) → HasLevels image h levels → Lists levels m → AreJudged h levels m (Err wrong)
     → JudgesImage network image (Err wrong)
-by_entries network image h levels m fault.NoMemory has stands f = tt
-by_entries network image h levels m (fault.BadImage rule.ListHash) has stands f = (h, levels, has, stands.marks, f)
-by_entries network image h levels m (fault.BadImage rule.Header) has stands f =
+by_entries network image h levels m fault.NoMemory has exists f = tt
+by_entries network image h levels m (fault.BadImage rule.ListHash) has exists f = (h, levels, has, exists.marks, f)
+by_entries network image h levels m (fault.BadImage rule.Header) has exists f =
     absurd (early h m rule.Header
     ((λ e. cc), ((λ e. cc), ((λ e. cc), ((λ e. cc), ((λ e. cc), ((λ e. cc), ((λ e. cc), tt))))))) f.1)
-by_entries network image h levels m (fault.BadImage rule.Version) has stands f =
+by_entries network image h levels m (fault.BadImage rule.Version) has exists f =
     absurd (early h m rule.Version
     ((λ e. cc), ((λ e. cc), ((λ e. cc), ((λ e. cc), ((λ e. cc), ((λ e. cc), ((λ e. cc), tt))))))) f.1)
-by_entries network image h levels m (fault.BadImage rule.Fields) has stands f =
+by_entries network image h levels m (fault.BadImage rule.Fields) has exists f =
     absurd (early h m rule.Fields
     ((λ e. cc), ((λ e. cc), ((λ e. cc), ((λ e. cc), ((λ e. cc), ((λ e. cc), ((λ e. cc), tt))))))) f.1)
-by_entries network image h levels m (fault.BadImage rule.Bucket) has stands f =
+by_entries network image h levels m (fault.BadImage rule.Bucket) has exists f =
     absurd (early h m rule.Bucket
     ((λ e. cc), ((λ e. cc), ((λ e. cc), ((λ e. cc), ((λ e. cc), ((λ e. cc), ((λ e. cc), tt))))))) f.1)
-by_entries network image h levels m (fault.BadImage rule.Marks) has stands f =
+by_entries network image h levels m (fault.BadImage rule.Marks) has exists f =
     absurd (early h m rule.Marks
     ((λ e. cc), ((λ e. cc), ((λ e. cc), ((λ e. cc), ((λ e. cc), ((λ e. cc), ((λ e. cc), tt))))))) f.1)
-by_entries network image h levels m (fault.BadImage rule.Entry) has stands f =
-    (h, levels, m, has_entries image h levels m has stands f.0, f.1)
-by_entries network image h levels m (fault.BadImage rule.Owner) has stands f =
-    (h, levels, m, has_entries image h levels m has stands f.0, f.1)
-by_entries network image h levels m (fault.BadImage rule.Liabilities) has stands f =
-    (h, levels, m, has_entries image h levels m has stands f.0, f.1)
-by_entries network image h levels m (fault.BadImage rule.Subentries) has stands f =
-    (h, levels, m, has_entries image h levels m has stands f.0, f.1)
-by_entries network image h levels m (fault.BadImage rule.Sponsorship) has stands f =
-    (h, levels, m, has_entries image h levels m has stands f.0, f.1)
-by_entries network image h levels m (fault.BadImage rule.Pools) has stands f =
-    (h, levels, m, has_entries image h levels m has stands f.0, f.1)
-by_entries network image h levels m (fault.BadImage rule.Lumens) has stands f =
-    (h, levels, m, has_entries image h levels m has stands f.0, f.1)
+by_entries network image h levels m (fault.BadImage rule.Entry) has exists f =
+    (h, levels, m, has_entries image h levels m has exists f.0, f.1)
+by_entries network image h levels m (fault.BadImage rule.Owner) has exists f =
+    (h, levels, m, has_entries image h levels m has exists f.0, f.1)
+by_entries network image h levels m (fault.BadImage rule.Liabilities) has exists f =
+    (h, levels, m, has_entries image h levels m has exists f.0, f.1)
+by_entries network image h levels m (fault.BadImage rule.Subentries) has exists f =
+    (h, levels, m, has_entries image h levels m has exists f.0, f.1)
+by_entries network image h levels m (fault.BadImage rule.Sponsorship) has exists f =
+    (h, levels, m, has_entries image h levels m has exists f.0, f.1)
+by_entries network image h levels m (fault.BadImage rule.Pools) has exists f =
+    (h, levels, m, has_entries image h levels m has exists f.0, f.1)
+by_entries network image h levels m (fault.BadImage rule.Lumens) has exists f =
+    (h, levels, m, has_entries image h levels m has exists f.0, f.1)
 
--- ---- what stands in files
+-- ---- what is in files
 
 -- a file that has a change of which an entry is left
-record IsPlaced (k : LedgerKey) (e : LedgerEntry) : Type 0 where
+record IsLocated (k : LedgerKey) (e : LedgerEntry) : Type 0 where
   pub contents : Contents
   pub has : HasFile contents
   pub change : Change
   pub at : change_at contents k ≡ Some change
   pub left : entry_after change ≡ Some e
 
-placed_by : (contents : Contents) (k : LedgerKey) (e : LedgerEntry) (older : List Change) (found : Option Change)
-    → change_at contents k ≡ found → HasFile contents → (entry_by older ≡ Some e → IsPlaced k e)
-    → entry_by (in_front found older) ≡ Some e → IsPlaced k e
-placed_by contents k e older None at has behind is = behind is
-placed_by contents k e older (Some change) at has behind is =
+inserted_by : (contents : Contents) (k : LedgerKey) (e : LedgerEntry) (older : List Change) (found : Option Change)
+    → change_at contents k ≡ found → HasFile contents → (entry_by older ≡ Some e → IsLocated k e)
+    → entry_by (prepended found older) ≡ Some e → IsLocated k e
+inserted_by contents k e older None at has after is = after is
+inserted_by contents k e older (Some change) at has after is =
     record { contents = contents; has = has; change = change; at = at; left = is }
 
-placed_in : (files : List Contents) (k : LedgerKey) (e : LedgerEntry) → All HasFile files
-    → entry_by (changes_of files k) ≡ Some e → IsPlaced k e
+located_in : (files : List Contents) (k : LedgerKey) (e : LedgerEntry) → All HasFile files
+    → entry_by (changes_of files k) ≡ Some e → IsLocated k e
 unfolding changes_of
-placed_in [] k e have is = absurd (cc (is))
-placed_in (contents ∷ older) k e have is =
-    placed_by contents k e (changes_of older k) (change_at contents k) refl (All-head HasFile contents older have)
-    (λ behind. placed_in older k e (All-tail HasFile contents older have) behind) is
+located_in [] k e have is = absurd (cc (is))
+located_in (contents ∷ older) k e have is =
+    inserted_by contents k e (changes_of older k) (change_at contents k) refl (All-head HasFile contents older have)
+    (λ after. located_in older k e (All-tail HasFile contents older have) after) is
 
-all_have : (levels : List Pair) → All HasBoth levels → All HasFile (files_of levels)
-all_have [] have = All-nil HasFile
-all_have (pair ∷ rest) have =
+pub all_have_file : (levels : List Pair) → All HasBoth levels → All HasFile (files_of levels)
+all_have_file [] have = All-nil HasFile
+all_have_file (pair ∷ rest) have =
     let h = All-head HasBoth pair rest have in
-    let others = all_have rest (All-tail HasBoth pair rest have) in
+    let others = all_have_file rest (All-tail HasBoth pair rest have) in
     All-cons HasFile pair.curr (pair.snap ∷ files_of rest) h.0 (All-cons HasFile pair.snap (files_of rest) h.1 others)
 
-placed : (levels : List Pair) (m : EntryMap) (k : LedgerKey) (e : LedgerEntry) → All HasBoth levels
-    → StandFor levels m → get m k ≡ Some e → IsPlaced k e
-placed levels m k e have standing there =
-    placed_in (files_of levels) k e (all_have levels have) (sym (standing k) ∙ there)
+inserted : (levels : List Pair) (m : EntryMap) (k : LedgerKey) (e : LedgerEntry) → All HasBoth levels
+    → Represent levels m → get m k ≡ Some e → IsLocated k e
+inserted levels m k e have existing there =
+    located_in (files_of levels) k e (all_have_file levels have) (sym (existing k) ∙ there)
 
--- an entry stands under its key
+-- an entry is under its key
 keyed_by : (k : LedgerKey) (e : LedgerEntry) (contents : Contents) (change : Change) → HasFile contents
     → change_at contents k ≡ Some change → entry_after change ≡ Some e → key_of e ≡ k
 keyed_by k e contents (Init x) has at left =
@@ -208,48 +182,48 @@ keyed_by k e contents (Live x) has at left =
     let own : key_of x ≡ k = has.keyed k (Live x) at in cc
 keyed_by k e contents Dead has at left = absurd (cc (left))
 
--- and has a spelling
-change_spelled : (contents : Contents) (k : LedgerKey) (change : Change) → HasFile contents
-    → change_at contents k ≡ Some change → IsSpellable (item_of (k, change))
-change_spelled None k change has at = absurd (cc (at))
-change_spelled (Some filled) k change has at =
-    let all = recursion_from_All IsSpellable (items_of (Some filled)) has.spelled in
-    found_is_each (λ q c. IsSpellable (item_of (q, c))) (entries filled.changes) (each (entries filled.changes) all.1)
+-- and has an encoding
+change_encoded : (contents : Contents) (k : LedgerKey) (change : Change) → HasFile contents
+    → change_at contents k ≡ Some change → IsEncodable (item_of (k, change))
+change_encoded None k change has at = absurd (cc (at))
+change_encoded (Some filled) k change has at =
+    let all = recursion_from_All IsEncodable (items_of (Some filled)) has.encoded in
+    found_is_each (λ q c. IsEncodable (item_of (q, c))) (entries filled.changes) (each (entries filled.changes) all.1)
     k change (sym (get-entries filled.changes k) ∙ at)
   where
-    each : (es : List (LedgerKey × Change)) → AllByRecursion IsSpellable (map item_of es)
-        → AllByRecursion (λ e. IsSpellable (item_of (e.0, e.1))) es
+    each : (es : List (LedgerKey × Change)) → AllByRecursion IsEncodable (map item_of es)
+        → AllByRecursion (λ e. IsEncodable (item_of (e.0, e.1))) es
     each [] h = tt
     each (x ∷ xs) h = (h.0, each xs h.1)
 
-live_spelled : (e : LedgerEntry) → IsSpellable (item.Live e) → IsEntrySpellable e
+live_encoded : (e : LedgerEntry) → IsEncodable (item.Live e) → IsEntryEncodable e
 unfolding bucket_entry
-live_spelled e h = record {
+live_encoded e h = record {
   within = h.within;
   sized = h.sized;
-  short = omega (arith, h.short, length-append (i32.spell (pos 0)) (ledger_entry.spell e), i32_len (pos 0));
+  short = omega (arith, h.short, length-append (i32.encoding (pos 0)) (ledger_entry.encoding e), i32_len (pos 0));
 }
 
-init_spelled : (e : LedgerEntry) → IsSpellable (item.Init e) → IsEntrySpellable e
+init_encoded : (e : LedgerEntry) → IsEncodable (item.Init e) → IsEntryEncodable e
 unfolding bucket_entry
-init_spelled e h = record {
+init_encoded e h = record {
   within = h.within;
   sized = h.sized;
-  short = omega (arith, h.short, length-append (i32.spell (pos 2)) (ledger_entry.spell e), i32_len (pos 2));
+  short = omega (arith, h.short, length-append (i32.encoding (pos 2)) (ledger_entry.encoding e), i32_len (pos 2));
 }
 
-spelled_by : (k : LedgerKey) (e : LedgerEntry) (change : Change) → IsSpellable (item_of (k, change))
-    → entry_after change ≡ Some e → IsEntrySpellable e
-spelled_by k e (Init x) spelled left =
-    let same : x ≡ e = cc in subst IsEntrySpellable same (init_spelled x spelled)
-spelled_by k e (Live x) spelled left =
-    let same : x ≡ e = cc in subst IsEntrySpellable same (live_spelled x spelled)
-spelled_by k e Dead spelled left = absurd (cc (left))
+encoded_by : (k : LedgerKey) (e : LedgerEntry) (change : Change) → IsEncodable (item_of (k, change))
+    → entry_after change ≡ Some e → IsEntryEncodable e
+encoded_by k e (Init x) encoded left =
+    let same : x ≡ e = cc in subst IsEntryEncodable same (init_encoded x encoded)
+encoded_by k e (Live x) encoded left =
+    let same : x ≡ e = cc in subst IsEntryEncodable same (live_encoded x encoded)
+encoded_by k e Dead encoded left = absurd (cc (left))
 
-entries_spelled : (levels : List Pair) (m : EntryMap) → All HasBoth levels → StandFor levels m → AreSpellable m
-entries_spelled levels m have standing k e there =
-    let p = placed levels m k e have standing there in
-    spelled_by k e p.change (change_spelled p.contents k p.change p.has p.at) p.left
+entries_encoded : (levels : List Pair) (m : EntryMap) → All HasBoth levels → Represent levels m → AreEncodable m
+entries_encoded levels m have existing k e there =
+    let p = inserted levels m k e have existing there in
+    encoded_by k e p.change (change_encoded p.contents k p.change p.has p.at) p.left
 
 -- ---- the state
 
@@ -271,15 +245,15 @@ is_legal image h levels m has kept =
         flags = fields.flags;
       };
       keyed = λ k e there.
-          let p = placed levels m k e has.files.files.files.have has.standing there in
+          let p = inserted levels m k e has.files.files.files.have has.existing there in
           keyed_by k e p.contents p.change p.has p.at p.left;
       entries = kept.0.entries;
       authorized = kept.0.authorized;
-      standing = kept.1.0.standing;
+      existing = kept.1.0.existing;
       offers = kept.1.0.offers;
       selling = kept.1.1.0.selling;
       buying = kept.1.1.0.buying;
-      subentries = kept.1.1.1.0.booked;
+      subentries = kept.1.1.1.0.aggregated;
       few = kept.1.1.1.0.few;
       sponsoring = kept.1.1.1.1.0.sponsoring;
       sponsored = kept.1.1.1.1.0.sponsored;
@@ -292,41 +266,41 @@ is_legal image h levels m has kept =
     }
 
 is_closing : (network : Hash) (image : StartImage) (h : LedgerHeader) (levels : List Pair) (m : EntryMap)
-    → HasEntries image h levels m → IsSpelled ledger_header h → IsFirstBroken h m entry_rules None
+    → HasEntries image h levels m → IsEncoded ledger_header h → IsFirstBroken h m entry_rules None
     → IsClosingState (state_of network h levels m)
-is_closing network image h levels m has spelled kept = record {
+is_closing network image h levels m has encoded kept = record {
   legal = is_legal image h levels m has kept;
   count = has.files.files.files.count;
   marked = has.marks;
-  standing = has.standing;
+  existing = has.existing;
   hash = has.hash;
-  header = spelled;
-  entries = entries_spelled levels m has.files.files.files.have has.standing;
+  header = encoded;
+  entries = entries_encoded levels m has.files.files.files.have has.existing;
   files = has.files.files.fit;
 }
 
 -- an image that keeps all rules
-pub record IsWhole (image : StartImage) (h : LedgerHeader) (levels : List Pair) (m : EntryMap) : Type 0 where
+pub record IsComplete (image : StartImage) (h : LedgerHeader) (levels : List Pair) (m : EntryMap) : Type 0 where
   pub header : IsHeaderJudged image (Ok h)
   pub files : DoFilesFit image.files levels
-  pub stands : Stands levels m
+  pub exists : Lists levels m
   pub judged : AreJudged h levels m (Ok tt)
 
-whole_has : (image : StartImage) (h : LedgerHeader) (levels : List Pair) (m : EntryMap) → IsWhole image h levels m
+complete_has : (image : StartImage) (h : LedgerHeader) (levels : List Pair) (m : EntryMap) → IsComplete image h levels m
     → HasEntries image h levels m
-whole_has image h levels m w =
-    has_entries image h levels m (has_levels image h levels w.header.0 w.files) w.stands w.judged.0
+complete_has image h levels m w =
+    has_entries image h levels m (has_levels image h levels w.header.0 w.files) w.exists w.judged.0
 
 pub is_kept : (network digest : Hash) (image : StartImage) (h : LedgerHeader) (m : EntryMap) (levels : LevelsAt)
-    → IsWhole image h levels.pairs m → digest ≡ ledger_hash_of h → levels.seq ≡ h.ledger_seq
+    → IsComplete image h levels.pairs m → digest ≡ ledger_hash_of h → levels.seq ≡ h.ledger_seq
     → IsKept network digest h m levels.pairs levels.seq
 is_kept network digest image h m levels w hashed number = record {
-  state = is_closing network image h levels.pairs m (whole_has image h levels.pairs m w) w.header.1 w.judged.1;
+  state = is_closing network image h levels.pairs m (complete_has image h levels.pairs m w) w.header.1 w.judged.1;
   hashed = hashed;
   number = number;
 }
 
-pub whole_judged : (network : Hash) (image : StartImage) (h : LedgerHeader) (levels : List Pair) (m : EntryMap)
-    → IsWhole image h levels m → IsJudged network image (Ok (state_of network h levels m))
-whole_judged network image h levels m w =
-    (h, levels, m, whole_has image h levels m w, w.judged.1, refl)
+pub complete_judged : (network : Hash) (image : StartImage) (h : LedgerHeader) (levels : List Pair) (m : EntryMap)
+    → IsComplete image h levels m → IsJudged network image (Ok (state_of network h levels m))
+complete_judged network image h levels m w =
+    (h, levels, m, complete_has image h levels m w, w.judged.1, refl)

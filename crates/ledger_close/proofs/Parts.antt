@@ -1,30 +1,16 @@
--- What parts of a close say of the whole.
-use Rattle.std.proofs.Common.{◌≡◌, ℕ, ◌<◌, Bool, true, false, List, [], ◌∷◌, map, length, Option, Some, None}
-use Rattle.std.proofs.Common.{Result, Ok, Err, refl, ap, ◌∙◌, subst, arith, All}
-use Rattle.std.proofs.lemmas.List.Elements.{All-head, All-tail, All-from_recursion}
-use Rattle.std.specs.Prelude.{option_map, slice_get, if◌then◌else◌}
-use Rattle.std.specs.Option.{option_or}
-use Rattle.ledger_types.specs.declared.header.LedgerHeader.{LedgerHeader}
+-- What parts of a close say of all of it.
+use Rattle.ledger_close.proofs.Prelude as prelude
+use prelude.{◌≡◌, ℕ, ◌<◌, Bool, true, false, List, [], ◌∷◌, map, length, Option, Some, None, Result, Ok, Err, refl, ap}
+use prelude.{◌∙◌, subst, arith, All, All-head, All-tail, All-from_recursion, option_map, slice_get, if◌then◌else◌}
+use prelude.{option_or, LedgerHeader, CloseRecord, close_record, stellar_value, list, upgraded_if, all_upgraded}
+use prelude.{upgrade_in, first_index, is_bad_at, is_out_of_profile, Tests, first_fault, missing_index, CloseFault}
+use prelude.{ClosingState, IsEncoded, term_tests, term_fault, upgrade_fault, set_fault, record_fault, filled, FaultIs}
+use prelude.{terms_of, IsUpgradedIn, IsUpgradedBy, IsFinished, IsClosedBy, PreparedClose}
 use Rattle.ledger_types.specs.declared.header.LedgerUpgrade.TheVariants as upgrade
 use Rattle.ledger_types.specs.declared.header.LedgerUpgrade.{LedgerUpgrade}
-use Rattle.xdr_header.specs.declared.record.CloseRecord.{CloseRecord}
-use Rattle.xdr_header.specs.Records.{close_record}
-use Rattle.xdr_header.specs.Header.{stellar_value}
-use Rattle.xdr_core.specs.Combinators.{list}
 use Rattle.xdr_core.specs.declared.fault.XdrKind.{XdrKind}
-use Rattle.header_chain.specs.Upgrades.{upgraded_if, all_upgraded, upgrade_in, first_place, is_bad_at}
-use Rattle.header_chain.specs.Upgrades.{is_out_of_profile}
-use Rattle.close_laws.specs.entry_slots.Tests.{Tests, first_fault}
-use Rattle.close_laws.specs.tx_apply.Set.{missing_place}
-use Rattle.close_rules.specs.declared.close_fault.CloseFault.{CloseFault}
 use Rattle.close_rules.specs.declared.close_fault.CloseFault.TheVariants as fault
-use Rattle.close_rules.specs.State.{ClosingState, IsSpelled}
-use Rattle.close_rules.specs.Refusals.{term_tests, term_fault, upgrade_fault, set_fault, record_fault}
 use Rattle.ledger_close.specs.declared.heading.Given.{Given}
-use Rattle.ledger_close.specs.Heading.{filled}
-use Rattle.ledger_close.specs.Answers.{FaultIs, terms_of, IsUpgradedIn, IsUpgradedBy}
-use Rattle.ledger_close.specs.Closing.{IsFinished, IsClosedBy}
-use Rattle.close_rules.specs.Close.{PreparedClose}
 
 -- ---- the header
 
@@ -80,19 +66,19 @@ mapped_of_record : (make : ℕ → CloseFault) (a : Option ℕ) (f : CloseFault)
 mapped_of_record make (Some n) f known is = subst IsOfRecord (cc) (known n)
 mapped_of_record make None f known is = absurd (cc)
 
-either : (a b : Option CloseFault) (f : CloseFault) → (a ≡ Some f → IsOfRecord f) → (b ≡ Some f → IsOfRecord f)
+either_of_record : (a b : Option CloseFault) (f : CloseFault) → (a ≡ Some f → IsOfRecord f) → (b ≡ Some f → IsOfRecord f)
     → option_or a b ≡ Some f → IsOfRecord f
-either (Some x) b f p q is = p is
-either None b f p q is = q is
+either_of_record (Some x) b f p q is = p is
+either_of_record None b f p q is = q is
 
 upgrades_of_record : (s : ClosingState) (closing : CloseRecord) (f : CloseFault) → upgrade_fault s closing ≡ Some f
     → IsOfRecord f
 unfolding upgrade_fault
 upgrades_of_record s closing f is =
     let asked = map upgrade_in closing.scp_value.upgrades in
-    let bad = first_place (is_bad_at asked) asked in
-    let out_of_profile = first_place (λ i. is_out_of_profile s.header (slice_get asked i)) asked in
-    either (option_map fault.BadUpgrade bad) (option_map fault.UpgradeOutOfProfile out_of_profile) f
+    let bad = first_index (is_bad_at asked) asked in
+    let out_of_profile = first_index (λ i. is_out_of_profile s.header (slice_get asked i)) asked in
+    either_of_record (option_map fault.BadUpgrade bad) (option_map fault.UpgradeOutOfProfile out_of_profile) f
     (mapped_of_record fault.BadUpgrade bad f (λ n. tt))
     (mapped_of_record fault.UpgradeOutOfProfile out_of_profile f (λ n. tt)) is
 
@@ -100,15 +86,15 @@ set_of_record : (s : ClosingState) (closing : CloseRecord) (f : CloseFault) → 
     → IsOfRecord f
 unfolding set_fault
 set_of_record s closing f is =
-    mapped_of_record fault.FeeSourceMissing (missing_place s.entries closing.tx_set) f (λ n. tt) is
+    mapped_of_record fault.FeeSourceMissing (missing_index s.entries closing.tx_set) f (λ n. tt) is
 
 of_record : (s : ClosingState) (closing : CloseRecord) (f : CloseFault) → record_fault s closing ≡ Some f
     → IsOfRecord f
 unfolding record_fault
 of_record s closing f is =
-    either (term_fault s closing) (option_or (upgrade_fault s closing) (set_fault s closing)) f
+    either_of_record (term_fault s closing) (option_or (upgrade_fault s closing) (set_fault s closing)) f
     (terms_of_record s closing f)
-    (either (upgrade_fault s closing) (set_fault s closing) f (upgrades_of_record s closing f)
+    (either_of_record (upgrade_fault s closing) (set_fault s closing) f (upgrades_of_record s closing f)
     (set_of_record s closing f))
     is
 
@@ -211,9 +197,9 @@ any_fault (fault.FeeSourceMissing index) P h = h
 any_fault (fault.LedgerFull total) P h = h
 any_fault fault.NoMemory P h = tt
 
-second : (a b o : Option CloseFault) → a ≡ None → b ≡ o → option_or a b ≡ o
-second None b o e is = is
-second (Some x) b o e is = absurd (cc)
+option_or_second : (a b o : Option CloseFault) → a ≡ None → b ≡ o → option_or a b ≡ o
+option_or_second None b o e is = is
+option_or_second (Some x) b o e is = absurd (cc)
 
 first_is : (a b : Option CloseFault) (f : CloseFault) → a ≡ Some f → option_or a b ≡ Some f
 first_is (Some x) b f e = e
@@ -228,16 +214,16 @@ termed s closing f is =
 pub upgraded_by : (s : ClosingState) (closing : CloseRecord) (answer : Result LedgerHeader CloseFault)
     → term_fault s closing ≡ None → IsUpgradedIn s closing answer → IsUpgradedBy s closing answer
 upgraded_by s closing (Ok next) none is =
-    (second (term_fault s closing) (upgrade_fault s closing) None none is.0, is.1)
+    (option_or_second (term_fault s closing) (upgrade_fault s closing) None none is.0, is.1)
 upgraded_by s closing (Err wrong) none is =
     any_fault wrong (λ g. terms_of s closing ≡ Some g)
-    (second (term_fault s closing) (upgrade_fault s closing) (Some wrong) none is)
+    (option_or_second (term_fault s closing) (upgrade_fault s closing) (Some wrong) none is)
 
 -- a record has at most 6 upgrades
-pub upgrades_few : (closing : CloseRecord) → IsSpelled close_record closing
+pub upgrades_few : (closing : CloseRecord) → IsEncoded close_record closing
     → length closing.scp_value.upgrades < 4294967296
 unfolding close_record stellar_value list
-upgrades_few closing spelled = omega (arith, spelled.within.1.1.1.1.0.0)
+upgrades_few closing encoded = omega (arith, encoded.within.1.1.1.1.0.0)
 
 -- no fault of a record is one of its bytes
 pub of_bytes : (s : ClosingState) (closing : CloseRecord) (at : ℕ) (kind : XdrKind)

@@ -1,26 +1,15 @@
 -- What the set of a record leaves, by what applying it answered.
-use Rattle.std.proofs.Common.{◌≡◌, Option, Some, None, Ok, Err, refl, sym, ap, ◌∙◌, subst}
-use Rattle.std.specs.Prelude.{IfSome}
-use Rattle.std.specs.FinMap.{get}
-use Rattle.ledger_types.specs.declared.entry.LedgerEntry.{LedgerEntry}
-use Rattle.ledger_types.specs.Keys.{key_of}
-use Rattle.xdr_header.specs.declared.record.CloseRecord.{CloseRecord}
+use Rattle.ledger_close.proofs.Prelude.{◌≡◌, Option, Some, None, Ok, Err, refl, sym, ap, ◌∙◌, subst, IfSome, get}
+use Rattle.ledger_close.proofs.Prelude.{LedgerEntry, key_of, CloseRecord, EntryMap, IsKeyed, EachEntry, IsAnswer}
+use Rattle.ledger_close.proofs.Prelude.{set_done, fee_pool_after, missing_index, IsConserved, ClosingState, set_fault}
+use Rattle.ledger_close.proofs.Prelude.{applied_in, setting_in, FaultIs, fault_of_set, IsDone}
 use Rattle.entry_map.specs.declared.batch.Batch.{Batch}
-use Rattle.entry_map.specs.EntryMap.{EntryMap, IsKeyed}
 use Rattle.entry_map.specs.Batch.{IsBatch}
-use Rattle.entry_map.specs.Indexes.{PlaceMap, IsIndexOf}
+use Rattle.entry_map.specs.Indexes.{PositionMap, IsIndexOf}
 use Rattle.entry_map.specs.Undo.{Undo, started}
-use Rattle.image_rules.specs.entry_sums.Sums.{EachEntry}
 use Rattle.close_laws.specs.tx_apply.declared.set.SetDone.{SetDone}
 use Rattle.close_laws.specs.tx_apply.declared.fault.SetFault.{SetFault}
 use Rattle.close_laws.specs.tx_apply.declared.fault.SetFault.TheVariants as set
-use Rattle.close_laws.specs.tx_apply.Set.{IsAnswer, set_done, fee_pool_after, missing_place}
-use Rattle.close_laws.specs.tx_apply.Laws.{IsConserved}
-use Rattle.close_rules.specs.State.{ClosingState}
-use Rattle.close_rules.specs.Refusals.{set_fault}
-use Rattle.close_rules.specs.Close.{applied_in, setting_in}
-use Rattle.ledger_close.specs.Answers.{FaultIs, fault_of_set}
-use Rattle.ledger_close.specs.Heading.{IsDone}
 
 pub keyed_by : (m : EntryMap) → EachEntry (λ k e. key_of e ≡ k) m → IsKeyed m
 keyed_by m each k = at (get m k) refl
@@ -34,8 +23,8 @@ pub refused_set : (s : ClosingState) (closing : CloseRecord) (old new : Undo) (f
     → FaultIs (fault_of_set f) (λ g. set_fault s closing ≡ Some g)
 unfolding set_fault
 refused_set s closing old new (set.FeeSourceMissing index) begun answer =
-    let missing : missing_place s.entries closing.tx_set ≡ Some index =
-    ap (λ (u : Undo). missing_place u.current closing.tx_set) (sym begun) ∙ answer.0 in
+    let missing : missing_index s.entries closing.tx_set ≡ Some index =
+    ap (λ (u : Undo). missing_index u.current closing.tx_set) (sym begun) ∙ answer.0 in
     rw missing refl
 refused_set s closing old new set.NoMemory begun answer = tt
 
@@ -43,8 +32,8 @@ pub applied_set : (s : ClosingState) (closing : CloseRecord) (old new : Undo) (d
     → IsAnswer (setting_in s closing) closing.tx_set old new (Ok done) → set_fault s closing ≡ None
 unfolding set_fault
 applied_set s closing old new done begun answer =
-    let payable : missing_place s.entries closing.tx_set ≡ None =
-    ap (λ (u : Undo). missing_place u.current closing.tx_set) (sym begun) ∙ answer.0 in
+    let payable : missing_index s.entries closing.tx_set ≡ None =
+    ap (λ (u : Undo). missing_index u.current closing.tx_set) (sym begun) ∙ answer.0 in
     rw payable refl
 
 pub applied_done : (s : ClosingState) (closing : CloseRecord) (old new : Undo) (done : SetDone)
@@ -68,13 +57,13 @@ applied_keyed s closing old begun conserved =
 pub applied_batch : (s : ClosingState) (closing : CloseRecord) (old new : Undo) (done : SetDone) (batch : Batch)
     → old ≡ started s.entries → IsAnswer (setting_in s closing) closing.tx_set old new (Ok done)
     → IsBatch new.base new.current batch → IsBatch s.entries (applied_in s closing).entries batch
-applied_batch s closing old new done batch begun answer told =
-    let behind = subst (λ (u : Undo). IsBatch u.base u.current batch) answer.1.entries told in
+applied_batch s closing old new done batch begun answer recorded =
+    let after = subst (λ (u : Undo). IsBatch u.base u.current batch) answer.1.entries recorded in
     subst (λ (u : Undo). IsBatch u.base (set_done (setting_in s closing) closing.tx_set u.current).entries batch)
     begun
-    behind
+    after
 
-pub applied_index : (s : ClosingState) (closing : CloseRecord) (old new : Undo) (done : SetDone) (index : PlaceMap)
+pub applied_index : (s : ClosingState) (closing : CloseRecord) (old new : Undo) (done : SetDone) (index : PositionMap)
     → old ≡ started s.entries → IsAnswer (setting_in s closing) closing.tx_set old new (Ok done)
     → IsIndexOf new.current index → IsIndexOf (applied_in s closing).entries index
 applied_index s closing old new done index begun answer is =

@@ -14,7 +14,7 @@ use Rattle.close_rules.specs.declared.close_fault.CloseFault.{CloseFault}
 use Rattle.close_rules.specs.declared.close_fault.CloseFault.TheVariants as fault
 use Rattle.close_rules.specs.declared.image_fault.ImageFault.{ImageFault}
 use Rattle.close_rules.specs.declared.image_fault.ImageFault.TheVariants as image
-use Rattle.close_rules.specs.State.{ClosingState, IsSpelled}
+use Rattle.close_rules.specs.State.{ClosingState, IsEncoded}
 use Rattle.close_rules.specs.Refusals.{record_in, term_fault, upgrade_fault}
 use Rattle.close_rules.specs.Close.{PreparedClose, IsClose}
 use Rattle.close_rules.specs.Images.{IsJudged}
@@ -22,7 +22,7 @@ use Rattle.fee_rules.specs.Turns.{apply_order_of}
 use Rattle.ledger_close.specs.States.{LedgerAt}
 use Rattle.ledger_close.specs.declared.refusals.Judged.{Judged}
 
--- Want of memory is free; every other fault is the one that a definition names.
+-- An allocation failure is always allowed; every other fault is the one that a definition names.
 abbrev pub FaultIs : CloseFault → (CloseFault → Type 0) → Type 0
 FaultIs fault.NoMemory P = Unit {0}
 FaultIs wrong P = P wrong
@@ -31,9 +31,9 @@ FaultIs wrong P = P wrong
 abbrev pub bad_record : XdrFault → CloseFault
 bad_record wrong = fault.BadXdr wrong.at wrong.kind
 
--- the bytes were read as a record, or told to be none
+-- the bytes were read as a record, or shown to be none
 abbrev pub IsRead : List ℕ → Result CloseRecord CloseFault → Type 0
-IsRead bytes (Ok closing) = (record_in bytes ≡ Ok closing) × IsSpelled close_record closing
+IsRead bytes (Ok closing) = (record_in bytes ≡ Ok closing) × IsEncoded close_record closing
 IsRead bytes (Err (fault.BadXdr at kind)) = record_in bytes ≡ Err (record { at = at; kind = kind })
 IsRead bytes (Err fault.NoMemory) = Unit {0}
 IsRead bytes (Err other) = ⊥
@@ -65,7 +65,7 @@ abbrev pub fault_of_set : SetFault → CloseFault
 fault_of_set (set.FeeSourceMissing index) = fault.FeeSourceMissing index
 fault_of_set set.NoMemory = fault.NoMemory
 
--- the answer of a whole close
+-- the answer of a complete close
 abbrev pub Answers : ClosingState → List ℕ → Result PreparedClose CloseFault → Type 0
 Answers s bytes (Ok closed) = IsClose s bytes (Ok closed)
 Answers s bytes (Err wrong) = FaultIs wrong (λ f. IsClose s bytes (Err f))

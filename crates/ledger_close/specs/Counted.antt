@@ -21,21 +21,21 @@ abbrev pub AreStepsTo : LedgerAt → (after : EntryMap) → (old new : ℕ) → 
 AreStepsTo l after old new =
     (new ≡ old) ⊎ ((fresh : Contents) × IsFresh l.state.entries after fresh × AreFew l fresh old new)
 
--- these entries are those behind a record, and this bucket what changed up to them
-pub record IsBehind (s : ClosingState) (closing : CloseRecord) (next : EntryMap) (fresh : Contents) : Type 0 where
+-- these entries are those after a record, and this bucket what changed up to them
+pub record IsAfter (s : ClosingState) (closing : CloseRecord) (next : EntryMap) (fresh : Contents) : Type 0 where
   pub entries : AreNextEntries (s.header.ledger_seq + 1) s.entries (applied_in s closing).entries next
-  pub told : IsFresh s.entries next fresh
+  pub recorded : IsFresh s.entries next fresh
 
 -- the steps of the close of a record
 abbrev pub AreStepsWith : LedgerAt → CloseRecord → (old new : ℕ) → Type 0
 AreStepsWith l closing old new =
     (new ≡ old)
     ⊎ ((record_fault l.state closing ≡ None) × (next : EntryMap) × (fresh : Contents)
-    × IsBehind l.state closing next fresh × AreFew l fresh old new)
+    × IsAfter l.state closing next fresh × AreFew l fresh old new)
 
 -- the steps of the close of bytes, which are those of a record that is taken
 abbrev pub AreSteps : LedgerAt → List ℕ → (old new : ℕ) → Type 0
 AreSteps l bytes old new =
     (new ≡ old)
     ⊎ ((taken : IsTaken l.state bytes) × (next : EntryMap) × (fresh : Contents)
-    × IsBehind l.state taken.closing next fresh × AreFew l fresh old new)
+    × IsAfter l.state taken.closing next fresh × AreFew l fresh old new)

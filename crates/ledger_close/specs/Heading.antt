@@ -1,4 +1,4 @@
--- The header behind a close.
+-- The header after a close.
 use Rattle.std.specs.Prelude.{◌≡◌}
 use Rattle.ledger_types.specs.declared.header.LedgerHeader.{LedgerHeader}
 use Rattle.xdr_header.specs.declared.record.CloseRecord.{CloseRecord}

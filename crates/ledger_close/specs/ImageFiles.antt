@@ -17,7 +17,7 @@ pub record IsFileOf (file : List ℕ) (contents : Contents) : Type 0 where
 abbrev pub IsNoFile : List ℕ → Type 0
 IsNoFile file = (contents : Contents) → IsFileOf file contents → ⊥
 
--- Want of memory is free; a file that is no bucket's is told only where P says why.
+-- An allocation failure is always allowed; a file that is no bucket's is reported only where P says why.
 abbrev pub IsFileFault : ImageFault → Type 0 → Type 0
 IsFileFault fault.NoMemory P = Unit {0}
 IsFileFault (fault.BadImage rule.Bucket) P = P

@@ -5,14 +5,14 @@ use Rattle.xdr_header.specs.declared.image.StartImage.{StartImage}
 use Rattle.xdr_header.specs.Header.{ledger_header}
 use Rattle.entry_map.specs.EntryMap.{EntryMap}
 use Rattle.bucket_levels.specs.Pairs.{Pair}
-use Rattle.bucket_levels.specs.Meaning.{AreWellMarked, StandFor}
+use Rattle.bucket_levels.specs.Meaning.{AreWellMarked, Represent}
 use Rattle.bucket_levels.specs.Hash.{list_hash}
 use Rattle.bucket_levels.specs.Size.{file_total}
 use Rattle.close_rules.specs.declared.image_fault.ImageFault.{ImageFault}
 use Rattle.close_rules.specs.declared.image_fault.ImageFault.TheVariants as fault
 use Rattle.close_rules.specs.declared.image_fault.ImageRule.{ImageRule}
 use Rattle.close_rules.specs.declared.image_fault.ImageRule.TheVariants as rule
-use Rattle.close_rules.specs.State.{IsSpelled, max_file_total}
+use Rattle.close_rules.specs.State.{IsEncoded, max_file_total}
 use Rattle.close_rules.specs.EntryRules.{IsFirstBroken, entry_rules}
 use Rattle.close_rules.specs.Images.{header_in, HasHeader, AreFilesOf, BreaksVersion, BreaksFields}
 
@@ -21,14 +21,14 @@ broken rule = fault.BadImage rule
 
 -- the header was read, and can be written
 abbrev pub IsHeaderRead : List ℕ → Result LedgerHeader ImageFault → Type 0
-IsHeaderRead bytes (Ok h) = (header_in bytes ≡ Some h) × IsSpelled ledger_header h
+IsHeaderRead bytes (Ok h) = (header_in bytes ≡ Some h) × IsEncoded ledger_header h
 IsHeaderRead bytes (Err fault.NoMemory) = Unit {0}
 IsHeaderRead bytes (Err (fault.BadImage rule.Header)) = header_in bytes ≡ None
 IsHeaderRead bytes (Err other) = ⊥
 
 -- the first three rules were judged
 abbrev pub IsHeaderJudged : StartImage → Result LedgerHeader ImageFault → Type 0
-IsHeaderJudged image (Ok h) = HasHeader image h × IsSpelled ledger_header h
+IsHeaderJudged image (Ok h) = HasHeader image h × IsEncoded ledger_header h
 IsHeaderJudged image (Err fault.NoMemory) = Unit {0}
 IsHeaderJudged image (Err (fault.BadImage rule.Header)) = header_in image.header ≡ None
 IsHeaderJudged image (Err (fault.BadImage rule.Version)) = BreaksVersion image
@@ -42,10 +42,10 @@ pub record DoFilesFit (files : List (List ℕ)) (levels : List Pair) : Type 0 wh
 
 -- ---- entries
 
--- well marked levels, and the entries that they stand for
-pub record Stands (levels : List Pair) (m : EntryMap) : Type 0 where
+-- well marked levels, and the entries that they represent
+pub record Lists (levels : List Pair) (m : EntryMap) : Type 0 where
   pub marks : AreWellMarked levels
-  pub standing : StandFor levels m
+  pub existing : Represent levels m
 
 abbrev pub IsMarksFault : List Pair → ImageFault → Type 0
 IsMarksFault levels fault.NoMemory = Unit {0}

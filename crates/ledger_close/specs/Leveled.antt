@@ -1,4 +1,4 @@
--- The levels behind a close.
+-- The levels after a close.
 use Rattle.std.specs.Prelude.{◌≡◌, ◌+◌, ℕ, Some}
 use Rattle.entry_map.specs.EntryMap.{EntryMap}
 use Rattle.bucket_core.specs.Bucket.{Contents, version_of}

@@ -17,7 +17,7 @@ use Rattle.close_rules.specs.State.{ClosingState, IsClosingState}
 use Rattle.close_rules.specs.Close.{PreparedClose}
 use Rattle.close_rules.specs.Images.{state_of}
 
--- how states and closes are told apart
+-- how states and closes are distinguished
 abbrev pub state_code : Coded ClosingState
 state_code =
     code_by (Hash × (LedgerHeader × (EntryMap × List Pair)))
@@ -30,7 +30,7 @@ closed_code =
     code_by (List TransactionResultPair × ClosingState) (coded× (coded_list pair.the_row.coded) state_code)
     (λ c. (c.results, c.state)) (λ (results, state). record { results = results; state = state }) (λ _. refl)
 
--- the state behind a ledger, and what is there of the merge that is pending into each of its levels
+-- the state after a ledger, and what is there of the merge that is pending into each of its levels
 pub record LedgerAt : Type 0 where
   pub state : ClosingState
   pub pending : List PendingAt

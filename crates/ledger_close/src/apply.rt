@@ -4,7 +4,7 @@ ghost use Rattle.std.specs.Prelude.{◌≡◌, ◌<◌, ◌≤◌, length};
 ghost use Rattle.xdr_header.specs.Records.{close_record};
 ghost use Rattle.fee_rules.specs.Turns.{apply_order_of};
 ghost use Rattle.close_laws.specs.op_form.Sequences.{last_seq};
-ghost use Rattle.close_rules.specs.State.{IsSpelled};
+ghost use Rattle.close_rules.specs.State.{IsEncoded};
 ghost use Rattle.ledger_close.specs.Answers as answer;
 ghost use Rattle.ledger_close.specs.Worked as spec;
 
@@ -15,7 +15,7 @@ use entry_map::{Batch, Entries};
 use entry_table::EntryTable;
 use xdr_header::CloseRecord;
 
-/// What a set leaves: its results with the fee pool and the ids, the entries behind the close, and what of them is
+/// What a set leaves: its results with the fee pool and the ids, the entries after the close, and what of them is
 /// another than it was.
 #[derive(Drop)]
 pub(crate) struct Worked {
@@ -37,7 +37,7 @@ fn fault_of(fault: SetFault) -> CloseFault
 impl Ledger {
     /// Applies the set of a record, in its order, to the ledger's entries, which stay as they are.
     pub(crate) fn apply(&self, closing: &CloseRecord, order: &[u32]) -> Result<Worked, CloseFault>
-        requires spelled { IsSpelled close_record closing.now }
+        requires encoded { IsEncoded close_record closing.now }
         requires seq { self.now.state.header.ledger_seq < last_seq }
         requires few { length closing.now.tx_set.txs ≤ 16777216 }
         requires order { order.now ≡ apply_order_of closing.now.tx_set }

@@ -73,7 +73,7 @@ fn read_pair(curr: ItemList<u8>, snap: ItemList<u8>) -> Result<LevelPair, ImageF
     }
 }
 
-/// Puts the files of a level behind those of others.
+/// Puts the files of a level after those of others.
 fn push_pair(pairs: &mut Vec<LevelPair>, pair: LevelPair) -> Result<(), AllocError>
     ensures { OnOk result (pairs.new.items ≡ pairs.old.items ++ pair ∷ []) }
 {
@@ -111,7 +111,7 @@ pub(crate) fn do_files_fit(pairs: &[LevelPair]) -> bool
     bucket_levels::file_total(pairs) <= MAX_FILE_TOTAL
 }
 
-/// Puts a copy of a bucket's file behind others.
+/// Puts a copy of a bucket's file after others.
 fn push_file(
     alloc: Global,
     files: &mut Vec<ItemList<u8>>,

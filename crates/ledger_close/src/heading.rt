@@ -1,4 +1,4 @@
-//! The header behind a close.
+//! The header after a close.
 
 ghost use Rattle.std.specs.Prelude.{◌≡◌, ◌<◌, IfOk, map};
 ghost use Rattle.xdr_header.specs.declared.record.CloseRecord.{CloseRecord as ARecord};
@@ -42,7 +42,7 @@ fn fill(header: &mut LedgerHeader, given: Given)
 }
 
 impl Ledger {
-    /// The header behind a close of a record with this value, from the upgraded header.
+    /// The header after a close of a record with this value, from the upgraded header.
     pub(crate) fn head(
         &self,
         alloc: Global,

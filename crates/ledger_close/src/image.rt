@@ -16,7 +16,7 @@ use crate::buckets::{copy_files, do_files_fit, read_pairs};
 use crate::ledger::Ledger;
 use bucket_core::laws::a_file_is_of_one_bucket;
 use bucket_levels::{LevelPair, Levels};
-use close_laws::images::images_stand_for_states;
+use close_laws::images::images_represent_states;
 use close_rules::{ImageFault, ImageRule};
 use entry_table::EntryTable;
 use image_rules::{are_fields_in_range, first_broken};
@@ -26,7 +26,7 @@ use level_entries::level_entries;
 use std::alloc::{AllocError, Global};
 use value_hashes::ledger_hash;
 use xdr_core::{Builder, Cursor, ReadFault};
-use xdr_header::laws::reading_and_spelling_agree;
+use xdr_header::laws::reading_and_encoding_agree;
 use xdr_header::{StartImage, read_ledger_header, write_ledger_header};
 
 /// The fault of an image that breaks a rule.
@@ -36,12 +36,12 @@ const fn broken(rule: ImageRule) -> ImageFault
     ImageFault::BadImage { rule }
 }
 
-/// The header that bytes spell, if they spell one and no more.
+/// The header that bytes encode, if they encode one and no more.
 #[tactic(auto, unfolding(close_rules::specs::Images::header_in))]
 fn read_header(alloc: Global, bytes: &[u8]) -> Result<LedgerHeader, ImageFault>
     ensures { judging.IsHeaderRead bytes.now result }
 {
-    reading_and_spelling_agree();
+    reading_and_encoding_agree();
     let mut ahead = Cursor::new(bytes);
     let header = match read_ledger_header(alloc, &mut ahead) {
         Ok(header) => header,
@@ -91,10 +91,10 @@ fn judge_files(alloc: Global, files: ItemList<ItemList<u8>>) -> Result<Vec<Level
     Ok(pairs)
 }
 
-/// The entries that levels stand for, by the rule on marks.
+/// The entries that levels represent, by the rule on marks.
 fn judge_marks(alloc: Global, pairs: &[LevelPair]) -> Result<EntryTable, ImageFault>
     requires { length pairs.now ≡ level_count }
-    ensures ok { IfOk result (λ entries. judging.Stands (map pair_of pairs.now) entries) }
+    ensures ok { IfOk result (λ entries. judging.Lists (map pair_of pairs.now) entries) }
     ensures bad { IfErr result (λ wrong. judging.IsMarksFault (map pair_of pairs.now) wrong) }
 {
     match level_entries(alloc, pairs)? {
@@ -110,7 +110,7 @@ fn is_same_hash(a: &Hash, b: &Hash) -> bool
     a.0.as_slice() == b.0.as_slice()
 }
 
-/// The rules behind that one: the hash of the levels, and the rules of entries.
+/// The rules after that one: the hash of the levels, and the rules of entries.
 fn judge_entries(
     header: &LedgerHeader,
     levels: &Levels,
@@ -127,10 +127,10 @@ fn judge_entries(
     }
 }
 
-/// The spelling of a header.
+/// The encoding of a header.
 fn header_bytes(alloc: Global, header: &LedgerHeader) -> Result<ItemList<u8>, AllocError>
     requires { ledger_header.within header.now }
-    ensures { IfOk result (λ bytes. bytes ≡ ledger_header.spell header.now) }
+    ensures { IfOk result (λ bytes. bytes ≡ ledger_header.encoding header.now) }
 {
     let mut builder = Builder::new(alloc);
     write_ledger_header(header, &mut builder)?;
@@ -138,7 +138,7 @@ fn header_bytes(alloc: Global, header: &LedgerHeader) -> Result<ItemList<u8>, Al
 }
 
 impl Ledger {
-    /// The ledger behind a start image, on the network with this id; or the first rule that the image breaks. No job of
+    /// The ledger of a start image, on the network with this id; or the first rule that the image breaks. No job of
     /// the merges that are pending is drawn, and none is ready.
     pub fn from_image(image: StartImage, network: Hash) -> Result<Ledger, ImageFault>
         ensures judges { answer.JudgesImage network image result }
@@ -179,7 +179,7 @@ impl Ledger {
         ensures within { IfOk result (λ image. start_image.within image) }
         ensures judged { IfOk result (λ image. IsJudged self.now.state.network image (Ok self.now.state)) }
     {
-        images_stand_for_states();
+        images_represent_states();
         let header = header_bytes(alloc, &self.header)?;
         let files = copy_files(alloc, &self.levels)?;
         Ok(StartImage { header, files })

@@ -7,7 +7,7 @@ ghost use Rattle.close_laws.specs.op_form.Sequences.{last_seq};
 ghost use Rattle.bucket_levels.specs.Pending.{AreRenewed};
 ghost use Rattle.close_rules.specs.Close.{IsClose};
 
-use crate::prepare::Prepared;
+use crate::prepared::Prepared;
 use bucket_levels::Levels;
 use close_laws::closes::{next_is_closing, taken_is_closable};
 use entry_map::{Base, OfferIndex};
@@ -16,7 +16,7 @@ use ledger_types::{Hash, LedgerEntry, LedgerHeader, LedgerKey};
 use std::alloc::AllocError;
 use std::marker::Model;
 
-/// A ledger behind its last close: its header, its entries, and the files of its levels. Contracts see these, with the
+/// A ledger after its last close: its header, its entries, and the files of its levels. Contracts see these, with the
 /// network that its transactions are signed for, and what is there of the merge that is pending into each level.
 #[derive(Drop)]
 pub struct Ledger {

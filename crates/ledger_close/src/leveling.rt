@@ -1,9 +1,9 @@
-//! The levels behind a close.
+//! The levels after a close.
 
 ghost use Rattle.std.specs.Prelude.{◌<◌, IfOk};
 ghost use Rattle.entry_map.specs.EntryMap.{EntryMap, IsKeyed};
 ghost use Rattle.entry_table.specs.entry_changes.Next.{IsExactBatch};
-ghost use Rattle.entry_table.specs.entry_changes.Spellable.{AreSpellable};
+ghost use Rattle.entry_table.specs.entry_changes.Encodable.{AreEncodable};
 ghost use Rattle.close_laws.specs.op_form.Sequences.{last_seq};
 ghost use Rattle.ledger_close.specs.Counted.{AreStepsTo};
 ghost use Rattle.ledger_close.specs.Leveled.{IsLeveled};
@@ -26,8 +26,8 @@ impl Ledger {
         steps: &mut Steps<L>,
     ) -> Result<LevelStep, AllocError>
         requires seq { self.now.state.header.ledger_seq < last_seq }
-        requires spellable { (after : EntryMap) × IsExactBatch self.now.state.entries after batch.now
-            × AreSpellable after }
+        requires encodable { (after : EntryMap) × IsExactBatch self.now.state.entries after batch.now
+            × AreEncodable after }
         ensures levels { (after : EntryMap) → IsExactBatch self.now.state.entries after batch.now → IsKeyed after
             → IfOk result (IsLeveled self.now.state version after) }
         ensures steps { (after : EntryMap) → IsExactBatch self.now.state.entries after batch.now → IsKeyed after

@@ -3,16 +3,16 @@
 
 mod apply;
 mod buckets;
-mod closing;
 mod heading;
 mod image;
 mod ledger;
 mod leveling;
 mod merges;
 mod prepare;
+mod prepared;
 mod refusals;
 
 pub use close_laws;
 pub use close_rules::{CloseFault, ImageFault, ImageRule};
 pub use ledger::Ledger;
-pub use prepare::Prepared;
+pub use prepared::Prepared;

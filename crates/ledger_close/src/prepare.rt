@@ -1,62 +1,124 @@
-//! A close, before the ledger takes it.
+//! Preparing the close of a record: it is judged and worked out, and the ledger stays as it is.
 
-ghost use Rattle.std.specs.Prelude.{◌≡◌};
-ghost use Rattle.value_hashes.specs.Hashes.{ledger_hash_of};
+ghost use Rattle.std.specs.Prelude.{◌≡◌, ◌≤◌, ◌<◌, None, length, map};
+ghost use Rattle.xdr_header.specs.Records.{close_record};
+ghost use Rattle.header_chain.specs.Upgrades.{upgrade_in, all_upgraded};
+ghost use Rattle.close_rules.specs.State.{IsEncoded};
+ghost use Rattle.close_rules.specs.Refusals.{record_fault};
+ghost use Rattle.ledger_close.specs.Answers as answer;
+ghost use Rattle.ledger_close.specs.Closing as spec;
+ghost use Rattle.ledger_close.specs.Counted.{AreStepsWith, AreSteps};
+ghost use Rattle.ledger_close.specs.Worked.{Leaves};
 
-use bucket_levels::LevelStep;
-use entry_table::EntryTable;
-use ledger_types::{Hash, LedgerHeader};
-use op_types::TransactionResultSet;
-use std::marker::Model;
+use crate::apply::Worked;
+use crate::ledger::Ledger;
+use crate::prepared::Prepared;
+use crate::refusals::{Judged, read_record};
+use close_laws::entries::{entries_stay_encodable, next_is_legal};
+use close_laws::header::next_header_is_encoded;
+use close_laws::results::results_are_encoded;
+use close_rules::CloseFault;
+use ledger_types::LedgerHeader;
+use outside::Steps;
+use std::alloc::Global;
+use std::sync::ledger::Ledger as Count;
+use value_hashes::ledger_hash;
+use xdr_header::CloseRecord;
 
-/// A close that is made and not yet taken: its results, and the state behind it. Contracts see these.
-#[derive(Drop)]
-pub struct Prepared {
-    pub(crate) network: Hash,
-    pub(crate) results: TransactionResultSet,
-    pub(crate) header: LedgerHeader,
-    // The hash of the header.
-    pub(crate) digest: Hash,
-    pub(crate) entries: EntryTable,
-    pub(crate) step: LevelStep,
-}
+/// The most bytes of the files of a ledger's levels.
+const MAX_FILE_TOTAL: u128 = 536870912;
 
-impl Model for Prepared {
-    ghost use Rattle.close_rules.specs.Close.{PreparedClose};
-    ghost use Rattle.close_rules.specs.Images.{state_of};
-    ghost use Rattle.ledger_close.specs.States.{closed_code, IsReady};
-
-    ghost Value = { PreparedClose };
-
-    ghost coded = { closed_code };
-
-    ghost view = { λ p. record {
-      results = p.results.results;
-      state = state_of p.network p.header p.step.pairs p.entries;
-    } };
-
-    ghost invariant = { λ p. IsReady p.digest p.header p.step };
-}
-
-impl Prepared {
-    /// The header behind the close.
-    pub fn header(&self) -> &LedgerHeader
-        ensures { result.now ≡ self.now.state.header }
-    {
-        &self.header
+impl Ledger {
+    /// Where the ledger takes its memory.
+    fn allocator(&self) -> Global {
+        self.levels.pair(0).curr.allocator()
     }
 
-    /// The hash of that header, SHA-256 (FIPS 180-4) of its XDR.
-    pub fn header_hash(&self) -> Hash
-        ensures { result ≡ ledger_hash_of self.now.state.header }
+    /// The close of a record that isn't refused for what it is, whose set was applied.
+    fn finish_close<L: Count>(
+        &self,
+        next: LedgerHeader,
+        closing: CloseRecord,
+        worked: Worked,
+        steps: &mut Steps<L>,
+    ) -> Result<Prepared, CloseFault>
+        requires encoded { IsEncoded close_record closing }
+        requires few { length closing.tx_set.txs ≤ 16777216 }
+        requires unrefused { record_fault self.now.state closing ≡ None }
+        requires next { next ≡ all_upgraded self.now.state.header (map upgrade_in closing.scp_value.upgrades) }
+        requires worked { Leaves self.now.state closing worked }
+        ensures finished { spec.IsFinished self.now.state closing result }
+        ensures steps { AreStepsWith self.now closing steps.old steps.new }
     {
-        self.digest
+        // read, so that the contract can speak of the entire ledger
+        let _ = &self.network;
+        entries_stay_encodable();
+        next_is_legal();
+        results_are_encoded();
+        next_header_is_encoded();
+        let alloc = self.allocator();
+        let step = self.level(alloc, next.ledger_version, &worked.batch, steps)?;
+        let bytes = step.file_total();
+        if bytes > MAX_FILE_TOTAL {
+            return Err(CloseFault::LedgerFull { bytes });
+        }
+        let Worked {
+            done,
+            entries,
+            batch: _,
+        } = worked;
+        let header = self.head(alloc, next, closing.scp_value, &done, &step)?;
+        let digest = ledger_hash(alloc, &header)?;
+        Ok(Prepared {
+            network: self.network,
+            results: done.results,
+            header,
+            digest,
+            entries,
+            step,
+        })
     }
 
-    /// The results of the set, in the order in which its transactions were applied.
-    pub fn results(&self) -> &TransactionResultSet
-        ensures { result.now.results ≡ self.now.results }
+    /// The close of a record.
+    fn close<L: Count>(
+        &self,
+        closing: CloseRecord,
+        steps: &mut Steps<L>,
+    ) -> Result<Prepared, CloseFault>
+        requires encoded { IsEncoded close_record closing }
+        requires few { length closing.tx_set.txs ≤ 16777216 }
+        ensures closed { spec.IsClosedBy self.now.state closing result }
+        ensures steps { AreStepsWith self.now closing steps.old steps.new }
     {
-        &self.results
+        // read, so that the contract can speak of the entire ledger
+        let _ = &self.network;
+        let Judged { next, order } = match self.judge_terms(&closing) {
+            Ok(judged) => judged,
+            Err(fault) => return Err(fault),
+        };
+        let worked = match self.apply(&closing, order.as_slice()) {
+            Ok(worked) => worked,
+            Err(fault) => return Err(fault),
+        };
+        self.finish_close(next, closing, worked, steps)
+    }
+
+    /// Prepares the close of a record, which are these bytes, at most 16777216: its results, and the state after it;
+    /// or the first fault of the record. The ledger stays as it is. Where levels are merged, the steps rise by at
+    /// most the items of the files that are; else they stay.
+    pub fn prepare<L: Count>(
+        &self,
+        bytes: &[u8],
+        steps: &mut Steps<L>,
+    ) -> Result<Prepared, CloseFault>
+        requires { length bytes.now ≤ 16777216 }
+        ensures answers { answer.Answers self.now.state bytes.now result }
+        ensures steps { AreSteps self.now bytes.now steps.old steps.new }
+    {
+        let closing = match read_record(self.allocator(), bytes) {
+            Ok(closing) => closing,
+            Err(fault) => return Err(fault),
+        };
+        self.close(closing, steps)
     }
 }

@@ -3,7 +3,7 @@
 ghost use Rattle.std.specs.Prelude.{◌≡◌, ◌<◌, ◌≤◌, ◌^◌, length};
 ghost use Rattle.value_hashes.specs.Hashes.{ledger_hash_of};
 ghost use Rattle.fee_rules.specs.SetHash.{hash_of_set};
-ghost use Rattle.close_rules.specs.State.{ClosingState, IsSpelled};
+ghost use Rattle.close_rules.specs.State.{ClosingState, IsEncoded};
 ghost use Rattle.xdr_header.specs.Records.{close_record};
 ghost use Rattle.close_laws.specs.op_form.Sequences.{last_seq};
 ghost use Rattle.close_rules.specs.Refusals as spec;
@@ -16,7 +16,7 @@ use header_chain::{UpgradeFault, apply_upgrades};
 use ledger_types::{Hash, LedgerHeader};
 use std::alloc::Global;
 use xdr_core::{Cursor, ReadFault, XdrFault};
-use xdr_header::laws::reading_and_spelling_agree;
+use xdr_header::laws::reading_and_encoding_agree;
 use xdr_header::{CloseRecord, read_close_record};
 
 /// The fault of bytes that are no record.
@@ -34,7 +34,7 @@ fn bad_xdr(fault: XdrFault) -> CloseFault
 pub(crate) fn read_record(alloc: Global, bytes: &[u8]) -> Result<CloseRecord, CloseFault>
     ensures { answer.IsRead bytes.now result }
 {
-    reading_and_spelling_agree();
+    reading_and_encoding_agree();
     let mut ahead = Cursor::new(bytes);
     let closing = match read_close_record(alloc, &mut ahead) {
         Ok(closing) => closing,
@@ -123,18 +123,18 @@ pub(crate) struct Judged {
 impl Ledger {
     /// What a record that isn't refused by its terms asks for, or what it is refused for by them.
     pub(crate) fn judge_terms(&self, closing: &CloseRecord) -> Result<Judged, CloseFault>
-        requires { IsSpelled close_record closing.now }
+        requires { IsEncoded close_record closing.now }
         ensures { answer.IsJudgedBy self.now.state closing.now result }
     {
         let alloc = closing.tx_set.txs.allocator();
-        let SetOrder { set_hash, places } = set_order(alloc, &closing.tx_set)?;
+        let SetOrder { set_hash, indices } = set_order(alloc, &closing.tx_set)?;
         if let Some(fault) = term_fault(&self.header, &self.digest, closing, &set_hash) {
             return Err(fault);
         }
         match upgraded(self.header.copy()?, closing) {
             Ok(next) => Ok(Judged {
                 next,
-                order: places,
+                order: indices,
             }),
             Err(fault) => Err(fault),
         }

@@ -1,4 +1,4 @@
--- Bytes compare as the numbers that they spell do, and 32 bytes as their four words do.
+-- Bytes compare as the numbers that they encode do, and 32 bytes as their four words do.
 use Rattle.std.proofs.Common.{◌≡◌, refl, sym, ap, subst, ◌∙◌, arith, nat_cmp}
 use Rattle.std.proofs.Common.{ℕ, zero, suc, ◌+◌, ◌*◌, ◌≤◌, ◌<◌, List, [], ◌∷◌, length, get_or, take, drop}
 use Rattle.std.proofs.Common.{length-drop, drop-drop, drop_of_length-le, get_or-drop, length-take-le}
@@ -9,6 +9,7 @@ use Rattle.std.specs.Cmp.{ranks, nat_cmp_is}
 use Rattle.std.specs.Simd.Lanes.{chunk}
 use Rattle.std.specs.Slice.Scan.{big_endian}
 use Rattle.ledger_types.specs.KeyOrder.{bytes_cmp}
+use Rattle.ledger_types.proofs.Booleans.{then_Equal, then_of_Equal}
 
 abbrev Bytes : List ℕ → Type 0
 Bytes xs = (k : ℕ) → get_or xs k 0 < 256
@@ -85,15 +86,7 @@ decides Less s other = refl
 decides Equal s other = absurd (other refl)
 decides Greater s other = refl
 
-passes : (r s : Ordering) → r ≡ Equal → ordering_then r s ≡ s
-passes r s e = ap (λ t. ordering_then t s) e
-
 -- ---- 32 bytes
-
-then_equal : (r : Ordering) → ordering_then r Equal ≡ r
-then_equal Less = refl
-then_equal Equal = refl
-then_equal Greater = refl
 
 module _ (xs ys : List ℕ) where
   abbrev pub word_cmp : ℕ → Ordering
@@ -110,7 +103,7 @@ module _ (xs ys : List ℕ) where
       from 24 (omega arith) (omega arith)
       ∙ (λ k. ordering_then (word_cmp 24)
       (bytes_cmp (drop_of_length-le xs {i = 32} (omega arith) k) (drop_of_length-le ys {i = 32} (omega arith) k)))
-      ∙ then_equal (word_cmp 24)
+      ∙ then_Equal (word_cmp 24)
 
   pub four_words : length xs ≡ 32 → length ys ≡ 32
       → bytes_cmp xs ys
@@ -127,10 +120,10 @@ module _ (xs ys : List ℕ) where
     Tied i = word_cmp i ≡ Equal
 
     pub by_second : Tied 0 → (Tied 8 → ⊥) → bytes_cmp xs ys ≡ word_cmp 8
-    by_second e other = four_words p q ∙ passes _ _ e ∙ decides _ _ other
+    by_second e other = four_words p q ∙ then_of_Equal _ _ e ∙ decides _ _ other
 
     pub by_third : Tied 0 → Tied 8 → (Tied 16 → ⊥) → bytes_cmp xs ys ≡ word_cmp 16
-    by_third e h other = four_words p q ∙ passes _ _ e ∙ passes _ _ h ∙ decides _ _ other
+    by_third e h other = four_words p q ∙ then_of_Equal _ _ e ∙ then_of_Equal _ _ h ∙ decides _ _ other
 
     pub by_last : Tied 0 → Tied 8 → Tied 16 → bytes_cmp xs ys ≡ word_cmp 24
-    by_last e h k = four_words p q ∙ passes _ _ e ∙ passes _ _ h ∙ passes _ _ k
+    by_last e h k = four_words p q ∙ then_of_Equal _ _ e ∙ then_of_Equal _ _ h ∙ then_of_Equal _ _ k

@@ -26,7 +26,7 @@ pub(crate) fn bytes_order(a: &[u8; 32], b: &[u8; 32]) -> Ordering
     word_order(a, b, 24)
 }
 
-// How the eight bytes from `at` on compare: as the numbers that they spell, the first byte being the highest.
+// How the eight bytes from `at` on compare: as the numbers that they encode, the first byte being the highest.
 fn word_order(a: &[u8; 32], b: &[u8; 32], at: usize) -> Ordering
     requires { at + 8 ≤ 32 }
     ensures { result ≡ bytes_cmp (chunk at 8 a.now) (chunk at 8 b.now) }

@@ -1,23 +1,10 @@
 -- Accounts that stay in range with other counts and signers.
-use Rattle.std.proofs.Common.{◌≡◌, ◌≢◌, refl, sym, ap, subst, ◌∙◌, ℕ, ◌+◌, ◌-◌, ◌≤◌, List, Option, Some, None}
-use Rattle.std.proofs.Common.{arith}
-use Rattle.std.specs.Prelude.{pos, ◌+ℤ◌, ◌≤ℤ◌}
-use Rattle.hash_ids.specs.ledger_types.declared.price.Liabilities.{Liabilities}
-use Rattle.hash_ids.specs.ledger_types.declared.signer.Signer.{Signer}
-use Rattle.hash_ids.specs.ledger_types.declared.account.AccountEntry.{AccountEntry}
-use Rattle.hash_ids.specs.ledger_types.declared.account.AccountEntryExtensionV2.{AccountEntryExtensionV2}
-use Rattle.valid_values.specs.Texts.{is_valid_text}
-use Rattle.sponsor_laws.specs.entry_slots.AccountExtensions.{second_in, sponsored_in, sponsoring_in, sponsorship_in}
-use Rattle.sponsor_laws.specs.entry_slots.AccountExtensions.{account_liabilities}
-use Rattle.sponsor_laws.specs.entry_slots.AccountExtensions.{num_sponsoring}
-use Rattle.sponsor_laws.specs.entry_slots.EntrySponsor.{sponsor_of}
-use Rattle.sponsor_laws.specs.reserve_rules.Reserve.{greatest_i64, IsInRange}
-use Rattle.sponsor_laws.specs.sponsor_rules.declared.count.Count.{Count}
+use Rattle.legal_rules.proofs.Prelude.{◌≡◌, ◌≢◌, refl, sym, ap, subst, ◌∙◌, ℕ, ◌+◌, ◌-◌, ◌≤◌, Some, None, arith, pos}
+use Rattle.legal_rules.proofs.Prelude.{◌+ℤ◌, ◌≤ℤ◌, Liabilities, AccountEntry, is_valid_text, second_in}
+use Rattle.legal_rules.proofs.Prelude.{account_liabilities, num_sponsoring, sponsor_of, greatest_i64, IsInRange, Count}
+use Rattle.legal_rules.proofs.Prelude.{count_in, with_new_count, signer_sponsors, AreAccountFlags, AreSignersInRange}
+use Rattle.legal_rules.proofs.Prelude.{IsAccountInRange, IsEntryLegal, same_sponsoring}
 use Rattle.sponsor_laws.specs.sponsor_rules.declared.count.Count.TheVariants as count
-use Rattle.sponsor_laws.specs.sponsor_rules.Counting.{count_in, with_new_count}
-use Rattle.sponsor_laws.specs.Sums.{signer_sponsors}
-use Rattle.legal_rules.specs.Ranges.{AreAccountFlags, AreSignersInRange, IsAccountInRange}
-use Rattle.legal_rules.specs.Owing.{IsEntryLegal}
 use Rattle.legal_rules.proofs.Steps.{KeepsRange}
 
 -- ---- accounts that are alike in all but counts and signers
@@ -68,17 +55,6 @@ keeps_as id_pool a b same signers few fits e was = record {
 }
 
 -- ---- counts
-
--- what no extension says is 0
-pub same_sponsored : (signers : List Signer) (o : Option AccountEntryExtensionV2)
-    → (sponsorship_in signers o).num_sponsored ≡ sponsored_in o
-same_sponsored signers None = refl
-same_sponsored signers (Some ext) = refl
-
-pub same_sponsoring : (signers : List Signer) (o : Option AccountEntryExtensionV2)
-    → (sponsorship_in signers o).num_sponsoring ≡ sponsoring_in o
-same_sponsoring signers None = refl
-same_sponsoring signers (Some ext) = refl
 
 -- what a count may be
 abbrev pub MayBe : Count → ℕ → AccountEntry → Type 0

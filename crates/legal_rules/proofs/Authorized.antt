@@ -1,32 +1,16 @@
 -- Lines that carry neither flag of authorisation are bound by no offer, and the lines of offers carry one.
-use Rattle.std.proofs.Common.{◌≡◌, refl, sym, ap, subst, ◌∙◌, ℕ, true, false, [], ◌∷◌, ◌++◌, All}
-use Rattle.std.proofs.Common.{Option, Some}
-use Rattle.std.proofs.Common.{None, arith}
-use Rattle.std.proofs.lemmas.Int.{ints}
-use Rattle.std.proofs.lemmas.List.Elements.{All-append, All-head, All-tail}
-use Rattle.std.specs.Prelude.{ℤ, pos, ◌≤ℤ◌, if◌then◌else◌}
-use Rattle.std.specs.FinMap.{get}
-use Rattle.hash_ids.specs.ledger_types.declared.entry.LedgerEntry.{LedgerEntry}
-use Rattle.hash_ids.specs.ledger_types.declared.entry.LedgerEntryBody.{LedgerEntryBody}
+use Rattle.legal_rules.proofs.Prelude as prelude
+use prelude.{◌≡◌, refl, sym, ap, subst, ◌∙◌, ℕ, true, false, [], ◌∷◌, ◌++◌, All, Option, Some, None, All-append}
+use prelude.{All-head, All-tail, ℤ, pos, ◌≤ℤ◌, if◌then◌else◌, get, LedgerEntry, LedgerEntryBody, LedgerKey, EntryMap}
+use prelude.{line_in, line_of, total, EachEntry, total_none, part_at_most, is_key, for_key, holder, sells, buys}
+use prelude.{Selling, Buying, counted, stated, stated_at, IsBodyInRange, IsEntryInRange, keys_in, view, IsAggregated}
+use prelude.{IsAuthorized, AreLinesAuthorized, IsBoundRightly, natural_positive, same_keys}
 use Rattle.hash_ids.specs.ledger_types.declared.entry.LedgerEntryBody.TheVariants as body
-use Rattle.hash_ids.specs.ledger_types.declared.key.LedgerKey.{LedgerKey}
-use Rattle.entry_sums.specs.entry_map.EntryMap.{EntryMap}
-use Rattle.entry_sums.proofs.entry_map_proofs.KeyMaps.{same_keys}
-use Rattle.sponsor_laws.specs.entry_slots.Lines.{line_in, line_of}
-use Rattle.entry_sums.specs.Sums.{total, EachEntry}
-use Rattle.entry_sums.proofs.Summing.{total_none, part_at_most}
-use Rattle.legal_rules.specs.EntryKeys.{is_key, for_key}
-use Rattle.legal_rules.specs.Trades.{holder, sells, buys}
-use Rattle.legal_rules.specs.Books.{Selling, Buying, counted, stated, stated_at}
-use Rattle.legal_rules.specs.Ranges.{IsBodyInRange, IsEntryInRange}
-use Rattle.legal_rules.specs.Needs.{keys_in}
-use Rattle.legal_rules.specs.Legal.{view, IsBooked, IsAuthorized, AreLinesAuthorized}
-use Rattle.legal_rules.specs.Owing.{IsBoundRightly}
 use Rattle.legal_rules.proofs.Lows.{counted_low}
 use Rattle.legal_rules.proofs.Needed.{for_itself, keys_all}
-use Rattle.legal_rules.proofs.Numbers.{natural_some}
+use Rattle.legal_rules.proofs.Numbers.{at_least_one_states_some}
 
--- ---- from lines to books
+-- ---- from lines to aggregates
 
 -- no offer counts for a line that isn't authorised
 not_for : (k : LedgerKey) (o : Option LedgerKey) (n : ℤ) → ((named : LedgerKey) → o ≡ Some named → named ≡ k → ⊥)
@@ -69,8 +53,8 @@ module _ (m : EntryMap) (authorized : EachEntry (λ q x. AreLinesAuthorized m x.
       (second_passes Passes (holder o.seller_id o.selling) (holder o.seller_id o.buying) named all is) same)
   not_bought other all = refl
 
-module _ (m : EntryMap) (authorized : EachEntry (λ q x. AreLinesAuthorized m x.body) m) (selling : IsBooked Selling m)
-    (buying : IsBooked Buying m) where
+module _ (m : EntryMap) (authorized : EachEntry (λ q x. AreLinesAuthorized m x.body) m) (selling : IsAggregated Selling m)
+    (buying : IsAggregated Buying m) where
   by_body : (k : LedgerKey) (e : LedgerEntry) (b : LedgerEntryBody) → get m k ≡ Some e → e.body ≡ b → IsBoundRightly b
   by_body k e (body.TrustLine t) there is = λ none.
       let apart : IsAuthorized (line_of (get m k)) → ⊥ = λ passes. subst (λ x. IsAuthorized (line_in x)) is
@@ -87,23 +71,20 @@ module _ (m : EntryMap) (authorized : EachEntry (λ q x. AreLinesAuthorized m x.
   pub bound_rightly : EachEntry (λ k e. IsBoundRightly e.body) m
   bound_rightly k e there = by_body k e e.body there refl
 
--- ---- from books to lines
-
-some_stated : (n all states : ℤ) → pos 1 ≤ℤ n → n ≤ℤ all → states ≡ all → states ≡ pos 0 → ⊥
-some_stated n all states some le same none = omega (arith, ints)
+-- ---- from aggregates to lines
 
 module _ (id_pool : ℕ) (m : EntryMap) (entries : EachEntry (λ k e. IsEntryInRange id_pool e) m)
-    (bound : EachEntry (λ k e. IsBoundRightly e.body) m) (selling : IsBooked Selling m)
-    (buying : IsBooked Buying m) where
+    (bound : EachEntry (λ k e. IsBoundRightly e.body) m) (selling : IsAggregated Selling m)
+    (buying : IsAggregated Buying m) where
   abbrev IsPassed : LedgerKey → Type 0
   IsPassed q = IsAuthorized (line_of (get m q))
 
-  -- a line that something counts for in one of the two books
+  -- a line that something counts for in one of the two aggregates
   sold_passes : (k q : LedgerKey) (x : LedgerEntry) → get m q ≡ Some x → pos 1 ≤ℤ sells k x.body → IsPassed k
   sold_passes k q x at some = by_entry (get m k) refl
     where
       by_line : (e : LedgerEntry) (b : LedgerEntryBody) → get m k ≡ Some e → e.body ≡ b → IsAuthorized (line_in b)
-      by_line e (body.TrustLine t) there is = λ none. some_stated (sells k x.body)
+      by_line e (body.TrustLine t) there is = λ none. at_least_one_states_some (sells k x.body)
           (total (counted (view m) Selling k) m)
           (stated_at Selling (get m k)) some (part_at_most (counted (view m) Selling k) m q x
           (λ r y has. counted_low id_pool (view m) Selling k y (entries r y has)) at) (selling k)
@@ -119,7 +100,7 @@ module _ (id_pool : ℕ) (m : EntryMap) (entries : EachEntry (λ k e. IsEntryInR
   bought_passes k q x at some = by_entry (get m k) refl
     where
       by_line : (e : LedgerEntry) (b : LedgerEntryBody) → get m k ≡ Some e → e.body ≡ b → IsAuthorized (line_in b)
-      by_line e (body.TrustLine t) there is = λ none. some_stated (buys k x.body) (total (counted (view m) Buying k) m)
+      by_line e (body.TrustLine t) there is = λ none. at_least_one_states_some (buys k x.body) (total (counted (view m) Buying k) m)
           (stated_at Buying (get m k)) some (part_at_most (counted (view m) Buying k) m q x
           (λ r y has. counted_low id_pool (view m) Buying k y (entries r y has)) at) (buying k)
           (ap (stated_at Buying) there ∙ ap (stated Buying) is
@@ -135,9 +116,9 @@ module _ (id_pool : ℕ) (m : EntryMap) (entries : EachEntry (λ k e. IsEntryInR
   by_offer (body.Offer o) range sold bought = All-append IsPassed (keys_in (holder o.seller_id o.selling))
       (keys_in (holder o.seller_id o.buying))
       (keys_all IsPassed (holder o.seller_id o.selling) (λ k is. sold k
-      (for_itself k (holder o.seller_id o.selling) _ is (natural_some _ range.wheat))))
+      (for_itself k (holder o.seller_id o.selling) _ is (natural_positive _ range.wheat))))
       (keys_all IsPassed (holder o.seller_id o.buying) (λ k is. bought k
-      (for_itself k (holder o.seller_id o.buying) _ is (natural_some _ range.sheep))))
+      (for_itself k (holder o.seller_id o.buying) _ is (natural_positive _ range.sheep))))
   by_offer other range sold bought = tt
 
   pub lines_authorized : EachEntry (λ k e. AreLinesAuthorized m e.body) m

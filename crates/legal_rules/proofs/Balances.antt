@@ -1,44 +1,24 @@
 -- A claimable balance that is added or removed.
-use Rattle.std.proofs.Common.{◌≡◌, ◌≢◌, refl, ap, subst, ◌∙◌, ℕ, ◌≤◌, Option, Some, None, Ok}
-use Rattle.std.proofs.Common.{arith}
-use Rattle.std.proofs.lemmas.Int.{ints}
-use Rattle.std.specs.Prelude.{ℤ, pos, neg_ℤ, ◌+ℤ◌, ◌≤ℤ◌}
-use Rattle.std.specs.FinMap.{get}
-use Rattle.hash_ids.specs.ledger_types.declared.ids.AccountId.{AccountId}
-use Rattle.hash_ids.specs.ledger_types.declared.claimable_balance.ClaimableBalanceEntry.{ClaimableBalanceEntry}
-use Rattle.hash_ids.specs.ledger_types.declared.entry.LedgerEntry.{LedgerEntry}
-use Rattle.hash_ids.specs.ledger_types.declared.entry.LedgerEntryBody.{LedgerEntryBody}
+use Rattle.legal_rules.proofs.Prelude as prelude
+use prelude.{◌≡◌, ◌≢◌, refl, ap, subst, ◌∙◌, ℕ, ◌≤◌, Option, Some, None, Ok, arith, ints, ℤ, pos, neg_ℤ, ◌+ℤ◌, ◌≤ℤ◌}
+use prelude.{get, AccountId, ClaimableBalanceEntry, LedgerEntry, LedgerEntryBody, LedgerKey, key_of, key_of_body}
+use prelude.{EntryMap, put, erase, HasAccount, sponsor_of, with_sponsor, Ctx, map_after_adding_balance, charge_of}
+use prelude.{multiplicity, multiplicity_in, owner_of, owner_in, map_after_charging, map_after_releasing, payer_tests_at}
+use prelude.{done_by, payer_passed, total, is_key, Kind, Sponsoring, View, held, offer_with, offer_with_in}
+use prelude.{IsBodyInRange, IsPaidRightly, AreSubentriesFew, DoReservesFit, IsFilledOrEmpty, weight, Owed}
+use prelude.{IsBoundRightly, IsEntryLegal, IsLegalOwing, AreReservesSettled}
 use Rattle.hash_ids.specs.ledger_types.declared.entry.LedgerEntryBody.TheVariants as body
-use Rattle.hash_ids.specs.ledger_types.declared.key.LedgerKey.{LedgerKey}
 use Rattle.hash_ids.specs.ledger_types.declared.key.LedgerKey.TheVariants as key
-use Rattle.hash_ids.specs.ledger_types.Keys.{key_of, key_of_body}
-use Rattle.entry_sums.specs.entry_map.EntryMap.{EntryMap, put, erase}
-use Rattle.sponsor_laws.specs.entry_slots.Accounts.{HasAccount}
-use Rattle.sponsor_laws.specs.entry_slots.EntrySponsor.{sponsor_of, with_sponsor}
 use Rattle.sponsor_laws.specs.sponsor_rules.declared.charge.Charge.TheVariants as charge
-use Rattle.sponsor_laws.specs.sponsor_rules.declared.context.Ctx.{Ctx}
-use Rattle.sponsor_laws.specs.sponsor_rules.Adding.{map_after_adding_balance}
-use Rattle.sponsor_laws.specs.sponsor_rules.Charge.{charge_of, multiplicity, multiplicity_in, owner_of, owner_in}
-use Rattle.sponsor_laws.specs.sponsor_rules.Paying.{map_after_charging, map_after_releasing}
-use Rattle.sponsor_laws.specs.sponsor_rules.Payers.{payer_tests_at}
-use Rattle.sponsor_laws.proofs.Bounds.{done_by, payer_passed}
-use Rattle.entry_sums.specs.Sums.{total}
-use Rattle.legal_rules.specs.EntryKeys.{is_key}
-use Rattle.legal_rules.specs.Books.{Kind, Sponsoring, View}
-use Rattle.legal_rules.specs.Supply.{held}
-use Rattle.legal_rules.specs.OfferIds.{offer_with, offer_with_in}
-use Rattle.legal_rules.specs.Ranges.{IsBodyInRange, IsPaidRightly}
-use Rattle.legal_rules.specs.Bounds.{AreSubentriesFew, DoReservesFit, IsFilledOrEmpty}
-use Rattle.legal_rules.specs.Owing.{weight, Owed, IsBoundRightly, IsEntryLegal, IsLegalOwing}
 use Rattle.legal_rules.proofs.Adding.{room_of}
 use Rattle.legal_rules.proofs.Needed.{paid_counts}
-use Rattle.legal_rules.specs.EntryLaws.{AreReservesSettled}
 use Rattle.legal_rules.proofs.PaidFor.{payer_has}
 use Rattle.legal_rules.proofs.Payers.{HasRoom, beside_none, exchanged}
 use Rattle.legal_rules.proofs.Putting.{IsNoPool, put_legal, erase_legal}
-use Rattle.legal_rules.proofs.Sponsors.{unsponsored, paid_books, payer_books, unowned_books, sponsor_weighs}
+use Rattle.legal_rules.proofs.Sponsors.{unsponsored, paid_aggregates, payer_aggregates, unowned_aggregates, sponsor_weighs}
 use Rattle.legal_rules.proofs.Steps.{legal_as}
 use Rattle.legal_rules.proofs.Numbers.{nothing_less}
+use Rattle.legal_rules.proofs.Numbers.{sum_kept}
 
 -- ---- what a claimable balance is
 
@@ -86,16 +66,13 @@ summed w u p q is none same = omega (arith, ints)
 
 -- it counts for its payer alone
 balance_weighs : (v : View) (e : LedgerEntry) (n : ℕ) → charge_of e.body ≡ charge.Payer n → (kind : Kind)
-    (k : LedgerKey) → weight v kind k e ≡ payer_books n (sponsor_of e) kind k
+    (k : LedgerKey) → weight v kind k e ≡ payer_aggregates n (sponsor_of e) kind k
 balance_weighs v e n is kind k = summed _ (weight v kind k (unsponsored e)) _ _ (sponsor_weighs v e kind k)
     (bare_by v e e.body n is kind k)
-    ((λ i. paid_books (multiplicity_in (is i)) (owner_in (is i)) (sponsor_of e) kind k)
-    ∙ unowned_books n (sponsor_of e) kind k)
+    ((λ i. paid_aggregates (multiplicity_in (is i)) (owner_in (is i)) (sponsor_of e) kind k)
+    ∙ unowned_aggregates n (sponsor_of e) kind k)
 
 -- ---- adding
-
-added : (o p w : ℤ) → w ≡ p → (((o +ℤ pos 0) +ℤ neg_ℤ p) +ℤ w) ≡ o
-added o p w is = omega (arith, ints)
 
 apart_plus : (a b new old : ℤ) → b ≡ pos 0 → new ≡ old → old ≤ℤ pos 1 → (new +ℤ b) ≤ℤ pos 1
 apart_plus a b new old none same le = omega (arith, ints)
@@ -106,13 +83,13 @@ pub balance_added : (v : View) (id_pool : ℕ) (owed : Owed) (sum : ℤ) (ctx : 
     → get m (key_of entry) ≡ None → IsBodyInRange id_pool entry.body → HasAccount m payer
     → map_after_adding_balance ctx entry payer n m ≡ Ok new
     → IsLegalOwing v id_pool owed (sum +ℤ held v.asset entry) new
-balance_added v id_pool owed sum ctx entry payer n m new legal is free range stands done =
+balance_added v id_pool owed sum ctx entry payer n m new legal is free range exists done =
     let b = balance_by entry.body n is in
     let now = map_after_charging n (Some payer) m in
     let e = with_sponsor (Some payer) entry in
     let over = payer_passed ctx m payer n (put now e) new done in
     let changed = exchanged v id_pool sum n None (Some payer) owed m legal (λ x none. absurd (cc))
-    (λ x same. let ids : payer ≡ x = cc in subst (HasRoom n m) ids (room_of m payer n stands over)) in
+    (λ x same. let ids : payer ≡ x = cc in subst (HasRoom n m) ids (room_of m payer n exists over)) in
     subst (IsLegalOwing v id_pool owed (sum +ℤ held v.asset entry)) (done_by (payer_tests_at ctx m payer n) (put now e)
     new done)
     (legal_as v (IsEntryLegal id_pool) _ owed _ _ (put now e)
@@ -126,7 +103,7 @@ balance_added v id_pool owed sum ctx entry payer n m new legal is free range sta
     }) b.no_pool
     (λ id. apart_plus (pos 0) (offer_with id e) (total (offer_with id) now) (total (offer_with id) m) (b.no_offer id)
     (changed.offers id) (legal.offers id)))
-    (λ kind k. added (owed kind k) (payer_books n (Some payer) kind k) (weight v kind k e)
+    (λ kind k. sum_kept (owed kind k) (payer_aggregates n (Some payer) kind k) (weight v kind k e)
     (balance_weighs v e n is kind k)) refl)
 
 -- ---- removing
@@ -152,4 +129,4 @@ balance_removed v id_pool owed sum m k e n legal settled there is =
     legal_as v (IsEntryLegal id_pool) _ owed _ _ (erase now k)
     (erase_legal v (IsEntryLegal id_pool) _ sum now changed.legal k e still
     (λ id same. b.no_pool id (legal.keyed k e there ∙ same)))
-    (λ kind q. removed (owed kind q) (payer_books n s kind q) (weight v kind q e) (balance_weighs v e n is kind q)) refl
+    (λ kind q. removed (owed kind q) (payer_aggregates n s kind q) (weight v kind q e) (balance_weighs v e n is kind q)) refl

@@ -1,37 +1,18 @@
--- Changes of the whole state break rules.
-use Rattle.std.proofs.Common.{◌≡◌, refl, sym, ap, subst, ◌∙◌, true, false, List, [], ◌∷◌, Some, None}
-use Rattle.std.proofs.Common.{ℕ, ◌≤◌, inl, inr, arith}
-use Rattle.std.proofs.lemmas.Int.{ints}
+-- Changes of the entire state break rules.
+use Rattle.legal_rules.proofs.Prelude as prelude
+use prelude.{◌≡◌, refl, sym, ap, subst, ◌∙◌, true, false, List, [], ◌∷◌, Some, None, ℕ, ◌≤◌, inl, inr, arith, ints}
+use prelude.{tied_itself, All-head, ℤ, pos, ◌+ℤ◌, ◌≤ℤ◌, ◌<ℤ◌, is_eq, int_cmp, get, LedgerEntry, LedgerHeader, LedgerKey}
+use prelude.{key_of, same_itself, line_of, Kind, Subentries, Sponsoring, Sponsored, Selling, Buying, Shares, ShareLines}
+use prelude.{Uses, counted, stated_at, liabilities, wheat_stays, IsLegal, IsAuthorized, held, offer_with, own_data}
+use prelude.{own_promise, two_sales, full_list, full_header, full_entries, RulesBind, entry_by, owner, sponsor}
+use prelude.{stranger, dollars, note, promise, pool, sale, owner_account, state_of, overfull_owner, owner_signed_by}
+use prelude.{lost_signer, lost_promise, lost_pool, lost_dollars, lost_sale, sponsor_account, account_ext, line_ext}
+use prelude.{pool_id, put_there, one_not_at_most_zero}
 use Rattle.std.proofs.lemmas.Cmp.{int_cmp_total}
-use Rattle.std.specs.Cmp.{tied_itself}
-use Rattle.std.proofs.lemmas.List.Elements.{All-head}
-use Rattle.std.specs.Prelude.{ℤ, pos, ◌+ℤ◌, ◌≤ℤ◌, ◌<ℤ◌}
-use Rattle.std.specs.Ordering.{is_eq, int_cmp}
-use Rattle.std.specs.FinMap.{get}
-use Rattle.hash_ids.specs.ledger_types.declared.entry.LedgerEntry.{LedgerEntry}
 use Rattle.hash_ids.specs.ledger_types.declared.entry.LedgerEntryBody.TheVariants as body
-use Rattle.hash_ids.specs.ledger_types.declared.header.LedgerHeader.{LedgerHeader}
-use Rattle.hash_ids.specs.ledger_types.declared.key.LedgerKey.{LedgerKey}
 use Rattle.hash_ids.specs.ledger_types.declared.key.LedgerKey.TheVariants as key
 use Rattle.hash_ids.specs.ledger_types.declared.asset.Asset.TheVariants as asset
-use Rattle.hash_ids.specs.ledger_types.Keys.{key_of}
-use Rattle.entry_sums.proofs.entry_map_proofs.KeyMaps.{same_itself}
-use Rattle.sponsor_laws.specs.entry_slots.Lines.{line_of}
-use Rattle.entry_sums.proofs.Lookups.{put_there}
-use Rattle.legal_rules.specs.Books.{Kind, Subentries, Sponsoring, Sponsored, Selling, Buying, Shares, ShareLines, Uses}
-use Rattle.legal_rules.specs.Books.{counted, stated_at}
-use Rattle.offer_exchange.specs.Exchange.{liabilities, wheat_stays}
-use Rattle.legal_rules.specs.Legal.{IsLegal, IsAuthorized}
-use Rattle.legal_rules.specs.Supply.{held}
-use Rattle.legal_rules.specs.OfferIds.{offer_with}
-use Rattle.legal_rules.specs.WholeStates.{own_data, own_promise, two_sales}
-use Rattle.legal_rules.specs.WholeStates.{whole_list, whole_header, whole_entries, RulesBind, entry_by, owner}
-use Rattle.legal_rules.specs.WholeStates.{sponsor, stranger, dollars, note, promise, pool, sale, owner_account}
-use Rattle.legal_rules.specs.WholeStates.{state_of, crowded_owner, owner_signed_by, lost_signer, lost_promise}
-use Rattle.legal_rules.specs.WholeStates.{lost_pool}
-use Rattle.legal_rules.specs.WholeStates.{lost_dollars, lost_sale}
-use Rattle.legal_rules.specs.WholeStates.{sponsor_account, account_ext, line_ext, pool_id}
-use Rattle.legal_rules.proofs.Evaluated.{book_in, lumens_in, get_in, total_in, value, stands_in, view_in}
+use Rattle.legal_rules.proofs.Evaluated.{book_in, lumens_in, get_in, total_in, value, exists_in, view_in}
 
 differ : (a b : ℤ) → is_eq (int_cmp a b) ≡ false → a ≡ b → ⊥
 differ a b apart same =
@@ -42,7 +23,7 @@ differ a b apart same =
 module _ (h : LedgerHeader) (es : List LedgerEntry) where
   -- a number that isn't the sum
   unbooked : (kind : Kind) (k : LedgerKey)
-      → is_eq (int_cmp (stated_at kind (stands_in es k)) (value (counted (view_in asset.Native es) kind k) es)) ≡ false
+      → is_eq (int_cmp (stated_at kind (exists_in es k)) (value (counted (view_in asset.Native es) kind k) es)) ≡ false
       → IsLegal h (state_of es) → ⊥
   unbooked kind k apart legal = differ _ _ apart (book_in h es legal kind k)
 
@@ -51,135 +32,135 @@ module _ (h : LedgerHeader) (es : List LedgerEntry) where
   lost_lumens apart legal = differ _ _ apart (lumens_in h es legal)
 
 abbrev data_of_no_account_list : List LedgerEntry
-data_of_no_account_list = entry_by None (body.Data (record note { account_id = stranger })) ∷ whole_list
+data_of_no_account_list = entry_by None (body.Data (record note { account_id = stranger })) ∷ full_list
 
-data_of_no_account : IsLegal whole_header (state_of data_of_no_account_list) → ⊥
-data_of_no_account = unbooked whole_header data_of_no_account_list Subentries (key.Account stranger) refl
+data_of_no_account : IsLegal full_header (state_of data_of_no_account_list) → ⊥
+data_of_no_account = unbooked full_header data_of_no_account_list Subentries (key.Account stranger) refl
 
 abbrev a_line_that_sells_less_than_its_offer_list : List LedgerEntry
 a_line_that_sells_less_than_its_offer_list =
-    entry_by None (body.TrustLine (record dollars { ext = line_ext (pos 9) (pos 1) })) ∷ whole_list
+    entry_by None (body.TrustLine (record dollars { ext = line_ext (pos 9) (pos 1) })) ∷ full_list
 
-a_line_that_sells_less_than_its_offer : IsLegal whole_header (state_of a_line_that_sells_less_than_its_offer_list) → ⊥
+a_line_that_sells_less_than_its_offer : IsLegal full_header (state_of a_line_that_sells_less_than_its_offer_list) → ⊥
 unfolding liabilities wheat_stays
 a_line_that_sells_less_than_its_offer =
-    unbooked whole_header a_line_that_sells_less_than_its_offer_list Selling
+    unbooked full_header a_line_that_sells_less_than_its_offer_list Selling
     (key_of (entry_by None (body.TrustLine dollars))) refl
 
 abbrev an_account_that_buys_less_than_its_offer_list : List LedgerEntry
 an_account_that_buys_less_than_its_offer_list =
     entry_by (Some sponsor)
-    (body.Account (record owner_account { ext = account_ext (pos 0) (pos 0) 6 0 (Some sponsor ∷ []) })) ∷ whole_list
+    (body.Account (record owner_account { ext = account_ext (pos 0) (pos 0) 6 0 (Some sponsor ∷ []) })) ∷ full_list
 
-an_account_that_buys_less_than_its_offer : IsLegal whole_header
+an_account_that_buys_less_than_its_offer : IsLegal full_header
     (state_of an_account_that_buys_less_than_its_offer_list) → ⊥
 unfolding liabilities wheat_stays
 an_account_that_buys_less_than_its_offer =
-    unbooked whole_header an_account_that_buys_less_than_its_offer_list Buying (key.Account owner) refl
+    unbooked full_header an_account_that_buys_less_than_its_offer_list Buying (key.Account owner) refl
 
 abbrev an_account_that_sells_without_offer_list : List LedgerEntry
 an_account_that_sells_without_offer_list =
     entry_by (Some sponsor)
-    (body.Account (record owner_account { ext = account_ext (pos 20) (pos 1) 6 0 (Some sponsor ∷ []) })) ∷ whole_list
+    (body.Account (record owner_account { ext = account_ext (pos 20) (pos 1) 6 0 (Some sponsor ∷ []) })) ∷ full_list
 
-an_account_that_sells_without_offer : IsLegal whole_header (state_of an_account_that_sells_without_offer_list) → ⊥
+an_account_that_sells_without_offer : IsLegal full_header (state_of an_account_that_sells_without_offer_list) → ⊥
 unfolding liabilities wheat_stays
 an_account_that_sells_without_offer =
-    unbooked whole_header an_account_that_sells_without_offer_list Selling (key.Account owner) refl
+    unbooked full_header an_account_that_sells_without_offer_list Selling (key.Account owner) refl
 
 abbrev a_subentry_too_few_list : List LedgerEntry
 a_subentry_too_few_list = entry_by (Some sponsor) (body.Account (record owner_account { num_sub_entries = 5 }))
-    ∷ whole_list
+    ∷ full_list
 
-a_subentry_too_few : IsLegal whole_header (state_of a_subentry_too_few_list) → ⊥
-a_subentry_too_few = unbooked whole_header a_subentry_too_few_list Subentries (key.Account owner) refl
+a_subentry_too_few : IsLegal full_header (state_of a_subentry_too_few_list) → ⊥
+a_subentry_too_few = unbooked full_header a_subentry_too_few_list Subentries (key.Account owner) refl
 
 abbrev a_sponsored_reserve_too_few_list : List LedgerEntry
 a_sponsored_reserve_too_few_list =
     entry_by (Some sponsor)
-    (body.Account (record owner_account { ext = account_ext (pos 20) (pos 0) 5 0 (Some sponsor ∷ []) })) ∷ whole_list
+    (body.Account (record owner_account { ext = account_ext (pos 20) (pos 0) 5 0 (Some sponsor ∷ []) })) ∷ full_list
 
-a_sponsored_reserve_too_few : IsLegal whole_header (state_of a_sponsored_reserve_too_few_list) → ⊥
-a_sponsored_reserve_too_few = unbooked whole_header a_sponsored_reserve_too_few_list Sponsored (key.Account owner) refl
+a_sponsored_reserve_too_few : IsLegal full_header (state_of a_sponsored_reserve_too_few_list) → ⊥
+a_sponsored_reserve_too_few = unbooked full_header a_sponsored_reserve_too_few_list Sponsored (key.Account owner) refl
 
 abbrev an_owner_that_sponsors_nothing_list : List LedgerEntry
 an_owner_that_sponsors_nothing_list =
     entry_by (Some sponsor)
-    (body.Account (record owner_account { ext = account_ext (pos 20) (pos 0) 6 1 (Some sponsor ∷ []) })) ∷ whole_list
+    (body.Account (record owner_account { ext = account_ext (pos 20) (pos 0) 6 1 (Some sponsor ∷ []) })) ∷ full_list
 
-an_owner_that_sponsors_nothing : IsLegal whole_header (state_of an_owner_that_sponsors_nothing_list) → ⊥
+an_owner_that_sponsors_nothing : IsLegal full_header (state_of an_owner_that_sponsors_nothing_list) → ⊥
 an_owner_that_sponsors_nothing =
-    unbooked whole_header an_owner_that_sponsors_nothing_list Sponsoring (key.Account owner) refl
+    unbooked full_header an_owner_that_sponsors_nothing_list Sponsoring (key.Account owner) refl
 
 abbrev a_sponsoring_reserve_too_few_list : List LedgerEntry
 a_sponsoring_reserve_too_few_list =
-    entry_by None (body.Account (record sponsor_account { ext = account_ext (pos 0) (pos 0) 0 7 [] })) ∷ whole_list
+    entry_by None (body.Account (record sponsor_account { ext = account_ext (pos 0) (pos 0) 0 7 [] })) ∷ full_list
 
-a_sponsoring_reserve_too_few : IsLegal whole_header (state_of a_sponsoring_reserve_too_few_list) → ⊥
+a_sponsoring_reserve_too_few : IsLegal full_header (state_of a_sponsoring_reserve_too_few_list) → ⊥
 a_sponsoring_reserve_too_few =
-    unbooked whole_header a_sponsoring_reserve_too_few_list Sponsoring (key.Account sponsor) refl
+    unbooked full_header a_sponsoring_reserve_too_few_list Sponsoring (key.Account sponsor) refl
 
 abbrev an_unused_line_of_shares_list : List LedgerEntry
 an_unused_line_of_shares_list = entry_by None (body.TrustLine (record dollars { ext = line_ext (pos 10) (pos 0) }))
-    ∷ whole_list
+    ∷ full_list
 
-an_unused_line_of_shares : IsLegal whole_header (state_of an_unused_line_of_shares_list) → ⊥
+an_unused_line_of_shares : IsLegal full_header (state_of an_unused_line_of_shares_list) → ⊥
 an_unused_line_of_shares =
-    unbooked whole_header an_unused_line_of_shares_list Uses (key_of (entry_by None (body.TrustLine dollars)))
+    unbooked full_header an_unused_line_of_shares_list Uses (key_of (entry_by None (body.TrustLine dollars)))
     (rw (same_itself (key.LiquidityPool pool_id)) refl)
 
 abbrev shares_that_nobody_has_list : List LedgerEntry
 shares_that_nobody_has_list = entry_by None (body.LiquidityPool (record pool { total_pool_shares = pos 49 }))
-    ∷ whole_list
+    ∷ full_list
 
-shares_that_nobody_has : IsLegal whole_header (state_of shares_that_nobody_has_list) → ⊥
+shares_that_nobody_has : IsLegal full_header (state_of shares_that_nobody_has_list) → ⊥
 shares_that_nobody_has =
-    unbooked whole_header shares_that_nobody_has_list Shares (key.LiquidityPool pool_id)
+    unbooked full_header shares_that_nobody_has_list Shares (key.LiquidityPool pool_id)
     (rw (same_itself (key.LiquidityPool pool_id)) refl)
 
-abbrev two_lines_where_one_stands_list : List LedgerEntry
-two_lines_where_one_stands_list =
-    entry_by None (body.LiquidityPool (record pool { pool_shares_trust_line_count = pos 2 })) ∷ whole_list
+abbrev two_lines_where_one_exists_list : List LedgerEntry
+two_lines_where_one_exists_list =
+    entry_by None (body.LiquidityPool (record pool { pool_shares_trust_line_count = pos 2 })) ∷ full_list
 
-two_lines_where_one_stands : IsLegal whole_header (state_of two_lines_where_one_stands_list) → ⊥
-two_lines_where_one_stands =
-    unbooked whole_header two_lines_where_one_stands_list ShareLines (key.LiquidityPool pool_id)
+two_lines_where_one_exists : IsLegal full_header (state_of two_lines_where_one_exists_list) → ⊥
+two_lines_where_one_exists =
+    unbooked full_header two_lines_where_one_exists_list ShareLines (key.LiquidityPool pool_id)
     (rw (same_itself (key.LiquidityPool pool_id)) refl)
 
-a_signer_whose_sponsor_is_no_account : IsLegal whole_header (state_of lost_signer) → ⊥
-a_signer_whose_sponsor_is_no_account = unbooked whole_header lost_signer Sponsoring (key.Account stranger) refl
+a_signer_whose_sponsor_is_no_account : IsLegal full_header (state_of lost_signer) → ⊥
+a_signer_whose_sponsor_is_no_account = unbooked full_header lost_signer Sponsoring (key.Account stranger) refl
 
-a_claimable_balance_whose_sponsor_is_no_account : IsLegal whole_header (state_of lost_promise) → ⊥
+a_claimable_balance_whose_sponsor_is_no_account : IsLegal full_header (state_of lost_promise) → ⊥
 a_claimable_balance_whose_sponsor_is_no_account =
-    unbooked whole_header lost_promise Sponsoring (key.Account stranger) refl
+    unbooked full_header lost_promise Sponsoring (key.Account stranger) refl
 
-shares_of_no_pool : IsLegal whole_header (state_of lost_pool) → ⊥
+shares_of_no_pool : IsLegal full_header (state_of lost_pool) → ⊥
 shares_of_no_pool =
-    unbooked whole_header lost_pool Shares (key.LiquidityPool pool_id)
+    unbooked full_header lost_pool Shares (key.LiquidityPool pool_id)
     (rw (same_itself (key.LiquidityPool pool_id)) refl)
 
-shares_without_a_line_that_they_need : IsLegal whole_header (state_of lost_dollars) → ⊥
+shares_without_a_line_that_they_need : IsLegal full_header (state_of lost_dollars) → ⊥
 shares_without_a_line_that_they_need =
-    unbooked whole_header lost_dollars Uses (key_of (entry_by None (body.TrustLine dollars)))
+    unbooked full_header lost_dollars Uses (key_of (entry_by None (body.TrustLine dollars)))
     (rw (same_itself (key.LiquidityPool pool_id)) refl)
 
-an_offer_without_its_line : IsLegal whole_header (state_of lost_sale) → ⊥
+an_offer_without_its_line : IsLegal full_header (state_of lost_sale) → ⊥
 an_offer_without_its_line legal =
-    legal.standing (key.Offer owner (pos 1)) (entry_by None (body.Offer sale))
+    legal.existing (key.Offer owner (pos 1)) (entry_by None (body.Offer sale))
     (get_in lost_sale (key.Offer owner (pos 1))) 1 (key.Account owner) (omega arith)
     (get_in lost_sale (key_of (entry_by None (body.TrustLine dollars))))
 
-a_lumen_too_few : IsLegal (record whole_header { total_coins = pos 1374 }) whole_entries → ⊥
-a_lumen_too_few = lost_lumens (record whole_header { total_coins = pos 1374 }) whole_list refl
+a_lumen_too_few : IsLegal (record full_header { total_coins = pos 1374 }) full_entries → ⊥
+a_lumen_too_few = lost_lumens (record full_header { total_coins = pos 1374 }) full_list refl
 
-lumens_without_the_reserves_of_pools : IsLegal (record whole_header { total_coins = pos 1335 }) whole_entries → ⊥
-lumens_without_the_reserves_of_pools = lost_lumens (record whole_header { total_coins = pos 1335 }) whole_list refl
+lumens_without_the_reserves_of_pools : IsLegal (record full_header { total_coins = pos 1335 }) full_entries → ⊥
+lumens_without_the_reserves_of_pools = lost_lumens (record full_header { total_coins = pos 1335 }) full_list refl
 
-lumens_without_claimable_balances : IsLegal (record whole_header { total_coins = pos 1345 }) whole_entries → ⊥
-lumens_without_claimable_balances = lost_lumens (record whole_header { total_coins = pos 1345 }) whole_list refl
+lumens_without_claimable_balances : IsLegal (record full_header { total_coins = pos 1345 }) full_entries → ⊥
+lumens_without_claimable_balances = lost_lumens (record full_header { total_coins = pos 1345 }) full_list refl
 
-lumens_without_the_fee_pool : IsLegal (record whole_header { total_coins = pos 1370 }) whole_entries → ⊥
-lumens_without_the_fee_pool = lost_lumens (record whole_header { total_coins = pos 1370 }) whole_list refl
+lumens_without_the_fee_pool : IsLegal (record full_header { total_coins = pos 1370 }) full_entries → ⊥
+lumens_without_the_fee_pool = lost_lumens (record full_header { total_coins = pos 1370 }) full_list refl
 
 one_low : 1 ≤ 0 → ⊥
 one_low le = omega arith
@@ -187,28 +168,25 @@ one_low le = omega arith
 ids_low : 30064771073 ≤ 30064771072 → ⊥
 ids_low le = omega arith
 
-id_low : pos 1 ≤ℤ pos 0 → ⊥
-id_low le = omega (arith, ints)
-
 two_low : pos 2 ≤ℤ pos 1 → ⊥
 two_low le = omega (arith, ints)
 
 versions : ◌≡◌ {A = ℕ} 19 18 → ⊥
 versions same = omega arith
 
--- what stands first
+-- what is first
 first_there : (e : LedgerEntry) (es : List LedgerEntry) → get (state_of (e ∷ es)) (key_of e) ≡ Some e
 first_there e es = put_there (state_of es) e
 
-two_offers_of_one_id : IsLegal whole_header (state_of two_sales) → ⊥
+two_offers_of_one_id : IsLegal full_header (state_of two_sales) → ⊥
 two_offers_of_one_id legal = two_low (subst (λ n. n ≤ℤ pos 1) (total_in (offer_with (pos 1)) two_sales)
     (legal.offers (pos 1)))
 
-data_paid : IsLegal whole_header (state_of own_data) → ⊥
+data_paid : IsLegal full_header (state_of own_data) → ⊥
 data_paid legal = (legal.entries (key.Data owner (120 ∷ [])) (entry_by (Some owner) (body.Data note))
     (get_in own_data (key.Data owner (120 ∷ [])))).paid (λ none. cc) refl
 
-unpaid : IsLegal whole_header (state_of own_promise) → ⊥
+unpaid : IsLegal full_header (state_of own_promise) → ⊥
 unpaid legal = (legal.entries (key_of (entry_by None (body.ClaimableBalance promise)))
     (entry_by None (body.ClaimableBalance promise))
     (get_in own_promise (key_of (entry_by None (body.ClaimableBalance promise))))).paid refl
@@ -216,27 +194,27 @@ unpaid legal = (legal.entries (key_of (entry_by None (body.ClaimableBalance prom
 many_subentries : 1001 ≤ 1000 → ⊥
 many_subentries le = omega arith
 
-more_than_1000_subentries : IsLegal whole_header (state_of (crowded_owner ∷ whole_list)) → ⊥
+more_than_1000_subentries : IsLegal full_header (state_of (overfull_owner ∷ full_list)) → ⊥
 more_than_1000_subentries legal =
-    many_subentries (legal.few (key_of crowded_owner) crowded_owner (first_there crowded_owner whole_list))
+    many_subentries (legal.few (key_of overfull_owner) overfull_owner (first_there overfull_owner full_list))
 
 many_signers : 21 ≤ 20 → ⊥
 many_signers le = omega arith
 
-more_than_20_signers : IsLegal whole_header (state_of (owner_signed_by 21 ∷ whole_list)) → ⊥
+more_than_20_signers : IsLegal full_header (state_of (owner_signed_by 21 ∷ full_list)) → ⊥
 more_than_20_signers legal =
     many_signers (legal.entries (key_of (owner_signed_by 21)) (owner_signed_by 21)
-    (first_there (owner_signed_by 21) whole_list)).body.signers.few
+    (first_there (owner_signed_by 21) full_list)).body.signers.few
 
 abbrev open_line : LedgerEntry
 open_line = entry_by None (body.TrustLine (record dollars { flags = 4 }))
 
-unauthorised : IsLegal whole_header (state_of (open_line ∷ whole_list)) → ⊥
+unauthorised : IsLegal full_header (state_of (open_line ∷ full_list)) → ⊥
 unauthorised legal =
-    let at : get (state_of (open_line ∷ whole_list)) (key.Offer owner (pos 1)) ≡ Some (entry_by None (body.Offer sale))
-    = get_in (open_line ∷ whole_list) (key.Offer owner (pos 1)) in
-    subst (λ o. IsAuthorized (line_of o)) (first_there open_line whole_list)
-    (All-head (λ k. IsAuthorized (line_of (get (state_of (open_line ∷ whole_list)) k))) (key_of open_line)
+    let at : get (state_of (open_line ∷ full_list)) (key.Offer owner (pos 1)) ≡ Some (entry_by None (body.Offer sale))
+    = get_in (open_line ∷ full_list) (key.Offer owner (pos 1)) in
+    subst (λ o. IsAuthorized (line_of o)) (first_there open_line full_list)
+    (All-head (λ k. IsAuthorized (line_of (get (state_of (open_line ∷ full_list)) k))) (key_of open_line)
     (key.Account owner ∷ [])
     (legal.authorized (key.Offer owner (pos 1)) (entry_by None (body.Offer sale)) at)) refl
 
@@ -246,8 +224,8 @@ emptied = entry_by None (body.LiquidityPool (record pool { reserve_b = pos 0 }))
 nothing_above : pos 0 <ℤ pos 0 → ⊥
 nothing_above lt = omega (arith, ints)
 
-half_a_pool : IsLegal whole_header (state_of (emptied ∷ whole_list)) → ⊥
-half_a_pool legal = elim (legal.filled (key_of emptied) emptied (first_there emptied whole_list)) [
+half_a_pool : IsLegal full_header (state_of (emptied ∷ full_list)) → ⊥
+half_a_pool legal = elim (legal.filled (key_of emptied) emptied (first_there emptied full_list)) [
   | inl full ↦ nothing_above full.1
   | inr none ↦ differ (pos 40) (pos 0) refl none.0
 ]
@@ -257,15 +235,15 @@ rules_bind = record {
   another_protocol = λ legal. versions legal.header.version;
   no_base_reserve = λ legal. one_low legal.header.base_reserve;
   more_ids_than_ledgers_draw = λ legal. ids_low legal.header.id_pool;
-  an_offer_above_the_pool_of_ids = λ legal. id_low (legal.entries (key.Offer owner (pos 1))
-      (entry_by None (body.Offer sale)) (get_in whole_list (key.Offer owner (pos 1)))).body.id_high;
+  an_offer_above_the_pool_of_ids = λ legal. one_not_at_most_zero (legal.entries (key.Offer owner (pos 1))
+      (entry_by None (body.Offer sale)) (get_in full_list (key.Offer owner (pos 1)))).body.id_high;
   a_line_of_an_offer_without_authorisation = unauthorised;
   data_that_its_owner_sponsors = data_paid;
   more_than_20_signers = more_than_20_signers;
   a_claimable_balance_without_sponsor = unpaid;
   a_pool_with_a_sponsor =
       λ legal. absurd (let none = (legal.entries _ (entry_by (Some sponsor) (body.LiquidityPool pool))
-      (first_there (entry_by (Some sponsor) (body.LiquidityPool pool)) whole_list)).paid in cc);
+      (first_there (entry_by (Some sponsor) (body.LiquidityPool pool)) full_list)).paid in cc);
   two_offers_of_one_id = two_offers_of_one_id;
   data_of_no_account = data_of_no_account;
   a_signer_whose_sponsor_is_no_account = a_signer_whose_sponsor_is_no_account;
@@ -283,7 +261,7 @@ rules_bind = record {
   a_sponsoring_reserve_too_few = a_sponsoring_reserve_too_few;
   an_unused_line_of_shares = an_unused_line_of_shares;
   shares_that_nobody_has = shares_that_nobody_has;
-  two_lines_where_one_stands = two_lines_where_one_stands;
+  two_lines_where_one_exists = two_lines_where_one_exists;
   half_a_pool = half_a_pool;
   a_lumen_too_few = a_lumen_too_few;
   lumens_without_the_reserves_of_pools = lumens_without_the_reserves_of_pools;

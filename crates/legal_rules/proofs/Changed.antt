@@ -1,59 +1,27 @@
 -- One account, one line or one pool that is changed in its place.
-use Rattle.std.proofs.Common.{◌≡◌, ◌≢◌, refl, sym, ap, subst, ◌∙◌, ℕ, ◌+◌, ◌≤◌, Bool, true, false, Option}
-use Rattle.std.proofs.Common.{Some, None, arith}
-use Rattle.std.proofs.lemmas.Int.{ints}
-use Rattle.std.specs.Prelude.{ℤ, pos, ◌+ℤ◌, ◌-ℤ◌, ◌≤ℤ◌, if◌then◌else◌}
-use Rattle.std.specs.Ordering.{int_eq}
-use Rattle.std.specs.List.{count_by}
-use Rattle.std.specs.FinMap.{get}
-use Rattle.hash_ids.specs.ledger_types.declared.ids.Hash.{Hash}
-use Rattle.hash_ids.specs.ledger_types.declared.price.Liabilities.{Liabilities}
-use Rattle.hash_ids.specs.ledger_types.declared.account.AccountEntry.{AccountEntry}
-use Rattle.hash_ids.specs.ledger_types.declared.trust_line.TrustLineEntry.{TrustLineEntry}
-use Rattle.hash_ids.specs.ledger_types.declared.trust_line.TrustLineEntryExtensionV1.{TrustLineEntryExtensionV1}
+use Rattle.legal_rules.proofs.Prelude as prelude
+use prelude.{◌≡◌, ◌≢◌, refl, sym, ap, subst, ◌∙◌, ℕ, ◌+◌, ◌≤◌, Bool, true, false, Option, Some, None, arith, ints, ℤ}
+use prelude.{pos, ◌+ℤ◌, ◌-ℤ◌, ◌≤ℤ◌, if◌then◌else◌, int_eq, count_by, get, Hash, Liabilities, AccountEntry}
+use prelude.{TrustLineEntry, TrustLineEntryExtensionV1, LiquidityPoolEntry, LedgerEntry, LedgerEntryBody, LedgerKey}
+use prelude.{key_of_body, EntryMap, put, sponsor_of, line_liabilities, line_liabilities_in, line_second_in}
+use prelude.{use_count_in, use_count, with_use_count, with_use_count_in, with_use_count_of, no_liabilities, pool_in}
+use prelude.{pool_of, pool_at, with_pool, with_pool_in, with_pool_of, is_there, is_key, for_key, for_account, is_for}
+use prelude.{pool_named, uses_by, Kind, Subentries, Sponsoring, Sponsored, Selling, Buying, Shares, ShareLines, Uses}
+use prelude.{View, counted, of_line, is_eq, asset_cmp, PoolParams, of_asset, held_in, IsPoolInRange, IsFilledOrEmpty}
+use prelude.{weight, Owed, nothing_owed, in_aggregate, plus, IsEntryLegal, IsLegalOwing, add_sub_self, add_zero}
+use prelude.{int_eq_true}
 use Rattle.hash_ids.specs.ledger_types.declared.trust_line.TrustLineEntryExtensionV2.{TrustLineEntryExtensionV2}
-use Rattle.hash_ids.specs.ledger_types.declared.liquidity_pool.LiquidityPoolEntry.{LiquidityPoolEntry}
-use Rattle.hash_ids.specs.ledger_types.declared.entry.LedgerEntry.{LedgerEntry}
-use Rattle.hash_ids.specs.ledger_types.declared.entry.LedgerEntryBody.{LedgerEntryBody}
 use Rattle.hash_ids.specs.ledger_types.declared.entry.LedgerEntryBody.TheVariants as body
-use Rattle.hash_ids.specs.ledger_types.declared.key.LedgerKey.{LedgerKey}
 use Rattle.hash_ids.specs.ledger_types.declared.key.LedgerKey.TheVariants as key
-use Rattle.hash_ids.specs.ledger_types.Keys.{key_of_body}
-use Rattle.entry_sums.specs.entry_map.EntryMap.{EntryMap, put}
-use Rattle.sponsor_laws.specs.entry_slots.EntrySponsor.{sponsor_of}
-use Rattle.sponsor_laws.specs.entry_slots.LineExtensions.{line_liabilities, line_liabilities_in, line_second_in}
-use Rattle.sponsor_laws.specs.entry_slots.LineExtensions.{use_count_in}
-use Rattle.sponsor_laws.specs.entry_slots.LineExtensions.{use_count}
-use Rattle.sponsor_laws.specs.entry_slots.LineExtensions.{with_use_count, with_use_count_in, with_use_count_of}
-use Rattle.sponsor_laws.specs.entry_slots.AccountExtensions.{no_liabilities}
-use Rattle.sponsor_laws.specs.entry_slots.Pools.{pool_in, pool_of, pool_at, with_pool, with_pool_in, with_pool_of}
-use Rattle.sponsor_laws.specs.Sums.{is_there}
-use Rattle.legal_rules.specs.EntryKeys.{is_key, for_key, for_account}
-use Rattle.legal_rules.specs.Reserves.{is_for}
-use Rattle.legal_rules.specs.PoolShares.{pool_named, uses_by}
-use Rattle.legal_rules.specs.Books.{Kind, Subentries, Sponsoring, Sponsored, Selling, Buying, Shares, ShareLines, Uses}
-use Rattle.legal_rules.specs.Books.{View, counted}
-use Rattle.legal_rules.specs.Supply.{of_line}
-use Rattle.legal_rules.specs.ChangeLaws.{KeepsBooks, AccountChanged, KeepsLineBooks, in_shares, LineChanged}
+use Rattle.legal_rules.specs.ChangeLaws.{KeepsAggregates, AccountChanged, KeepsLineAggregates, in_shares, LineChanged}
 use Rattle.legal_rules.specs.ChangeLaws.{UsesCounted}
-use Rattle.std.specs.Prelude.{if◌then◌else◌}
-use Rattle.std.specs.Ordering.{is_eq}
-use Rattle.hash_ids.specs.ledger_types.KeyOrder.{asset_cmp}
-use Rattle.hash_ids.specs.ledger_types.declared.asset.PoolParams.{PoolParams}
-use Rattle.legal_rules.specs.Supply.{of_asset, held_in}
-use Rattle.sponsor_laws.specs.entry_slots.Pools.{pool_at, with_pool}
-use Rattle.legal_rules.specs.Ranges.{IsPoolInRange}
-use Rattle.legal_rules.specs.Bounds.{IsFilledOrEmpty}
 use Rattle.legal_rules.specs.ChangeLaws.{KeepsParams, PoolChanged}
-use Rattle.legal_rules.specs.Owing.{weight, Owed, nothing_owed, in_book, plus, IsEntryLegal}
-use Rattle.legal_rules.specs.Owing.{IsLegalOwing}
-use Rattle.legal_rules.proofs.Numbers.{plus_nothing, kept_sum}
-use Rattle.legal_rules.proofs.Liable.{int_same, IsLineMove, with_line_body, with_line_legal, line_entry}
+use Rattle.legal_rules.proofs.Liable.{IsLineMove, with_line_body, with_line_legal, line_entry}
 use Rattle.legal_rules.proofs.Steps.{with_body, with_account_legal, replace_legal, legal_as}
 
 -- ---- accounts
 
-module _ (a b : AccountEntry) (h : KeepsBooks a b) where
+module _ (a b : AccountEntry) (h : KeepsAggregates a b) where
   own : (k : LedgerKey) → is_key (key.Account b.account_id) k ≡ is_key (key.Account a.account_id) k
   own k = ap (λ i. is_key (key.Account i) k) h.id
 
@@ -74,10 +42,10 @@ module _ (a b : AccountEntry) (h : KeepsBooks a b) where
   same_weight v Uses k e i = pos 0 -ℤ (if own k i then pos 0 else pos 0)
 
 pub account_changed : AccountChanged
-account_changed v id_pool owed sum m id f a legal stands keeps range =
+account_changed v id_pool owed sum m id f a legal exists keeps range =
     legal_as v (IsEntryLegal id_pool) _ owed _ _ _
-    (with_account_legal v (IsEntryLegal id_pool) owed nothing_owed sum m id f a legal stands
-    (record { id = keeps.id; books = λ view kind k e. same_weight a (f a) keeps view kind k e ∙ sym (plus_nothing _) })
+    (with_account_legal v (IsEntryLegal id_pool) owed nothing_owed sum m id f a legal exists
+    (record { id = keeps.id; aggregates = λ view kind k e. same_weight a (f a) keeps view kind k e ∙ sym (add_zero _) })
     (λ e was. record {
       range = record {
         body = range;
@@ -87,7 +55,7 @@ account_changed v id_pool owed sum m id f a legal stands keeps range =
       few = subst (λ n. n ≤ 1000) (sym keeps.subentries) was.few;
       fits = subst (λ n. n ≤ 4294967295) (λ i. sym keeps.subentries i + sym keeps.sponsoring i) was.fits;
       filled = tt;
-    })) (λ kind k. plus_nothing (owed kind k)) refl
+    })) (λ kind k. add_zero (owed kind k)) refl
 
 -- ---- lines
 
@@ -101,7 +69,7 @@ more_shares (Some q) k new old s = by_test (is_key q k)
     by_test true = omega (arith, ints)
     by_test false = omega (arith, ints)
 
-module _ (t u : TrustLineEntry) (h : KeepsLineBooks t u) where
+module _ (t u : TrustLineEntry) (h : KeepsLineAggregates t u) where
   abbrev line_key : TrustLineEntry → LedgerKey
   line_key x = key.TrustLine x.account_id x.asset
 
@@ -133,15 +101,15 @@ module _ (t u : TrustLineEntry) (h : KeepsLineBooks t u) where
       ≡ (weight v kind k (with_line_body e t) +ℤ in_shares t.asset (u.balance -ℤ t.balance) kind k)
   more_line v Shares k e = more_shares (pool_named t.asset) k u.balance t.balance
       (if is_key (line_key t) k then pos 0 else pos 0)
-  more_line v kind k e = sym (plus_nothing _)
+  more_line v kind k e = sym (add_zero _)
 
   pub line_move : IsLineMove (in_shares t.asset (u.balance -ℤ t.balance)) t u
-  line_move = record { id = h.id; asset = h.asset; books = λ v kind k e. same_line v kind k e ∙ more_line v kind k e }
+  line_move = record { id = h.id; asset = h.asset; aggregates = λ v kind k e. same_line v kind k e ∙ more_line v kind k e }
 
 pub line_changed : LineChanged
-line_changed v id_pool owed sum m id asset f t legal stands keeps range bound =
+line_changed v id_pool owed sum m id asset f t legal exists keeps range bound =
     legal_as v (IsEntryLegal id_pool) _ _ _ _ _
-    (with_line_legal v id_pool owed _ sum m id asset f t legal stands (line_move t (f t) keeps)
+    (with_line_legal v id_pool owed _ sum m id asset f t legal exists (line_move t (f t) keeps)
     (λ e was. record {
       range = record {
         body = range;
@@ -158,12 +126,12 @@ line_changed v id_pool owed sum m id asset f t legal stands keeps range bound =
 
 first_count : (b : Bool) (n : ℤ) → int_eq n (pos 0) ≡ b → use_count_in (line_second_in (if b then None
     else Some (record { liabilities = no_liabilities; ext = Some (record { liquidity_pool_use_count = n }) }))) ≡ n
-first_count true n h = sym (int_same n (pos 0) h)
+first_count true n h = sym (int_eq_true n (pos 0) h)
 first_count false n h = refl
 
 second_count : (b : Bool) (n : ℤ) → int_eq n (pos 0) ≡ b
     → use_count_in (if b then None else Some (record { liquidity_pool_use_count = n })) ≡ n
-second_count true n h = sym (int_same n (pos 0) h)
+second_count true n h = sym (int_eq_true n (pos 0) h)
 second_count false n h = refl
 
 counted_of : (n : ℤ) (ext : Option TrustLineEntryExtensionV2) → use_count_in (with_use_count_of n ext) ≡ n
@@ -201,14 +169,14 @@ module _ (n : ℤ) (t : TrustLineEntry) where
   abbrev t_key : LedgerKey
   t_key = key.TrustLine t.account_id t.asset
 
-  use_books : (v : View) (kind : Kind) (k : LedgerKey) (e : LedgerEntry) → weight v kind k (with_line_body e w)
-      ≡ (weight v kind k (with_line_body e t) +ℤ in_book Uses t_key (use_count t -ℤ n) kind k)
-  use_books v Selling k e = (λ i. pos 0 -ℤ (if is_key t_key k then (now i).selling else pos 0)) ∙ sym (plus_nothing _)
-  use_books v Buying k e = (λ i. pos 0 -ℤ (if is_key t_key k then (now i).buying else pos 0)) ∙ sym (plus_nothing _)
-  use_books v Uses k e =
+  use_aggregates : (v : View) (kind : Kind) (k : LedgerKey) (e : LedgerEntry) → weight v kind k (with_line_body e w)
+      ≡ (weight v kind k (with_line_body e t) +ℤ in_aggregate Uses t_key (use_count t -ℤ n) kind k)
+  use_aggregates v Selling k e = (λ i. pos 0 -ℤ (if is_key t_key k then (now i).selling else pos 0)) ∙ sym (add_zero _)
+  use_aggregates v Buying k e = (λ i. pos 0 -ℤ (if is_key t_key k then (now i).buying else pos 0)) ∙ sym (add_zero _)
+  use_aggregates v Uses k e =
       (λ i. counted v Uses k (with_line_body e t) -ℤ (if is_key t_key k then counted_in n t.ext i else pos 0))
       ∙ uses_less (is_key t_key k) (counted v Uses k (with_line_body e t)) (use_count t) n
-  use_books v kind k e = sym (plus_nothing _)
+  use_aggregates v kind k e = sym (add_zero _)
 
   use_keeps : (id_pool : ℕ) → pos 0 ≤ℤ n → (e : LedgerEntry) → IsEntryLegal id_pool (with_line_body e t)
       → IsEntryLegal id_pool (with_line_body e w)
@@ -243,15 +211,15 @@ module _ (n : ℤ) (t : TrustLineEntry) where
       }
 
 pub uses_counted : UsesCounted
-uses_counted v id_pool owed sum m id asset n t legal stands low =
-    let found = line_entry m id asset t stands in
+uses_counted v id_pool owed sum m id asset n t legal exists low =
+    let found = line_entry m id asset t exists in
     let same : key.TrustLine t.account_id t.asset ≡ key.TrustLine id asset = sym (ap key_of_body found.1.is)
     ∙ legal.keyed (key.TrustLine id asset) found.0 found.1.there in
     legal_as v (IsEntryLegal id_pool) _ _ _ sum _
-    (with_line_legal v id_pool owed _ sum m id asset (with_use_count n) t legal stands
-    (record { id = refl; asset = refl; books = use_books n t }) (use_keeps n t id_pool low))
-    (λ kind k. ap (λ q. owed kind k +ℤ in_book Uses q (use_count t -ℤ n) kind k) same)
-    (kept_sum sum (of_line v.asset t.asset t.balance))
+    (with_line_legal v id_pool owed _ sum m id asset (with_use_count n) t legal exists
+    (record { id = refl; asset = refl; aggregates = use_aggregates n t }) (use_keeps n t id_pool low))
+    (λ kind k. ap (λ q. owed kind k +ℤ in_aggregate Uses q (use_count t -ℤ n) kind k) same)
+    (add_sub_self sum (of_line v.asset t.asset t.balance))
 
 -- ---- pools
 
@@ -277,7 +245,7 @@ pool_entry m id p h = let found = pool_entry_of (get m (key.LiquidityPool id)) p
 abbrev pub with_pool_body : LedgerEntry → LiquidityPoolEntry → LedgerEntry
 with_pool_body e p = record e { body = body.LiquidityPool p }
 
-with_pool_is : (m : EntryMap) (id : Hash) (f : LiquidityPoolEntry → LiquidityPoolEntry) (p : LiquidityPoolEntry)
+pub with_pool_is : (m : EntryMap) (id : Hash) (f : LiquidityPoolEntry → LiquidityPoolEntry) (p : LiquidityPoolEntry)
     (e : LedgerEntry) → IsPoolEntry m id p e → with_pool m id f ≡ put m (with_pool_body e (f p))
 unfolding with_pool
 with_pool_is m id f p e here = ap (with_pool_of m f) here.there ∙ ap (with_pool_in m e f) here.is
@@ -297,36 +265,36 @@ module _ (p q : LiquidityPoolEntry) (h : KeepsParams p q) where
   ours k i = is_key (key.LiquidityPool (h.id i)) k
 
   abbrev Fallen : Owed
-  Fallen = plus (in_book Shares (key.LiquidityPool p.pool_id) (p.total_pool_shares -ℤ q.total_pool_shares))
-      (in_book ShareLines (key.LiquidityPool p.pool_id) (p.pool_shares_trust_line_count -ℤ
+  Fallen = plus (in_aggregate Shares (key.LiquidityPool p.pool_id) (p.total_pool_shares -ℤ q.total_pool_shares))
+      (in_aggregate ShareLines (key.LiquidityPool p.pool_id) (p.pool_shares_trust_line_count -ℤ
       q.pool_shares_trust_line_count))
 
-  pool_books : (v : View) (e : LedgerEntry) (kind : Kind) (k : LedgerKey)
+  pool_aggregates : (v : View) (e : LedgerEntry) (kind : Kind) (k : LedgerKey)
       → weight v kind k (with_pool_body e q) ≡ (weight v kind k (with_pool_body e p) +ℤ Fallen kind k)
-  pool_books v e Shares k = (λ i. pos 0 -ℤ (if ours k i then q.total_pool_shares else pos 0))
+  pool_aggregates v e Shares k = (λ i. pos 0 -ℤ (if ours k i then q.total_pool_shares else pos 0))
       ∙ states_less (is_key (key.LiquidityPool p.pool_id) k) p.total_pool_shares q.total_pool_shares
-  pool_books v e ShareLines k = (λ i. pos 0 -ℤ (if ours k i then q.pool_shares_trust_line_count else pos 0))
+  pool_aggregates v e ShareLines k = (λ i. pos 0 -ℤ (if ours k i then q.pool_shares_trust_line_count else pos 0))
       ∙ counts_less (is_key (key.LiquidityPool p.pool_id) k) p.pool_shares_trust_line_count
       q.pool_shares_trust_line_count
-  pool_books v e Subentries k = (λ i. pos 0 -ℤ (if ours k i then pos 0 else pos 0)) ∙ sym (plus_nothing _)
-  pool_books v e Sponsored k = (λ i. pos 0 -ℤ (if ours k i then pos 0 else pos 0)) ∙ sym (plus_nothing _)
-  pool_books v e Sponsoring k = (λ i. counted v Sponsoring k (with_pool_body e p) -ℤ
+  pool_aggregates v e Subentries k = (λ i. pos 0 -ℤ (if ours k i then pos 0 else pos 0)) ∙ sym (add_zero _)
+  pool_aggregates v e Sponsored k = (λ i. pos 0 -ℤ (if ours k i then pos 0 else pos 0)) ∙ sym (add_zero _)
+  pool_aggregates v e Sponsoring k = (λ i. counted v Sponsoring k (with_pool_body e p) -ℤ
       (if ours k i then pos 0 else pos 0))
-      ∙ sym (plus_nothing _)
-  pool_books v e Selling k = (λ i. pos 0 -ℤ (if ours k i then pos 0 else pos 0)) ∙ sym (plus_nothing _)
-  pool_books v e Buying k = (λ i. pos 0 -ℤ (if ours k i then pos 0 else pos 0)) ∙ sym (plus_nothing _)
-  pool_books v e Uses k = (λ i. pos 0 -ℤ (if ours k i then pos 0 else pos 0)) ∙ sym (plus_nothing _)
+      ∙ sym (add_zero _)
+  pool_aggregates v e Selling k = (λ i. pos 0 -ℤ (if ours k i then pos 0 else pos 0)) ∙ sym (add_zero _)
+  pool_aggregates v e Buying k = (λ i. pos 0 -ℤ (if ours k i then pos 0 else pos 0)) ∙ sym (add_zero _)
+  pool_aggregates v e Uses k = (λ i. pos 0 -ℤ (if ours k i then pos 0 else pos 0)) ∙ sym (add_zero _)
 
 -- the same, by what the pool holds of the asset at hand
 pub pool_changed_by : (v : View) (id_pool : ℕ) (owed : Owed) (sum : ℤ) (m : EntryMap) (id : Hash)
     (f : LiquidityPoolEntry → LiquidityPoolEntry) (p : LiquidityPoolEntry) → IsLegalOwing v id_pool owed sum m
     → pool_at m id ≡ Some p → KeepsParams p (f p) → IsPoolInRange (f p) → IsFilledOrEmpty (body.LiquidityPool (f p))
     → IsLegalOwing v id_pool
-    (plus owed (plus (in_book Shares (key.LiquidityPool id) (p.total_pool_shares -ℤ (f p).total_pool_shares))
-    (in_book ShareLines (key.LiquidityPool id) (p.pool_shares_trust_line_count -ℤ (f p).pool_shares_trust_line_count))))
+    (plus owed (plus (in_aggregate Shares (key.LiquidityPool id) (p.total_pool_shares -ℤ (f p).total_pool_shares))
+    (in_aggregate ShareLines (key.LiquidityPool id) (p.pool_shares_trust_line_count -ℤ (f p).pool_shares_trust_line_count))))
     (sum +ℤ (held_in v.asset (body.LiquidityPool (f p)) -ℤ held_in v.asset (body.LiquidityPool p))) (with_pool m id f)
-pool_changed_by v id_pool owed sum m id f p legal stands keeps range filled =
-    let found = pool_entry m id p stands in
+pool_changed_by v id_pool owed sum m id f p legal exists keeps range filled =
+    let found = pool_entry m id p exists in
     let e0 = with_pool_body found.0 p in
     let there : get m (key.LiquidityPool id) ≡ Some e0 = found.1.there
     ∙ ap Some (λ i. record found.0 { body = found.1.is i }) in
@@ -340,7 +308,7 @@ pool_changed_by v id_pool owed sum m id f p legal stands keeps range filled =
       own = ap key.LiquidityPool keeps.id;
       params = ap Some keeps.params;
       offers = λ n. refl;
-      books = pool_books p (f p) keeps v found.0;
+      aggregates = pool_aggregates p (f p) keeps v found.0;
     })
     (record {
       range = record { body = range; paid = was.range.paid };
@@ -349,8 +317,8 @@ pool_changed_by v id_pool owed sum m id f p legal stands keeps range filled =
       fits = tt;
       filled = filled;
     })))
-    (λ kind k. ap (λ q. owed kind k +ℤ plus (in_book Shares q (p.total_pool_shares -ℤ (f p).total_pool_shares))
-    (in_book ShareLines q (p.pool_shares_trust_line_count -ℤ (f p).pool_shares_trust_line_count)) kind k) same) refl
+    (λ kind k. ap (λ q. owed kind k +ℤ plus (in_aggregate Shares q (p.total_pool_shares -ℤ (f p).total_pool_shares))
+    (in_aggregate ShareLines q (p.pool_shares_trust_line_count -ℤ (f p).pool_shares_trust_line_count)) kind k) same) refl
 
 by_reserves : (s t : Bool) (a b c d : ℤ)
     → (((if s then c else pos 0) +ℤ (if t then d else pos 0)) -ℤ ((if s then a else pos 0) +ℤ (if t then b else pos 0)))
@@ -361,13 +329,13 @@ by_reserves false true a b c d = omega (arith, ints)
 by_reserves false false a b c d = refl
 
 pub pool_changed : PoolChanged
-pool_changed v id_pool owed sum m id f p legal stands keeps range filled =
+pool_changed v id_pool owed sum m id f p legal exists keeps range filled =
     subst (λ n. IsLegalOwing v id_pool
-    (plus owed (plus (in_book Shares (key.LiquidityPool id) (p.total_pool_shares -ℤ (f p).total_pool_shares))
-    (in_book ShareLines (key.LiquidityPool id) (p.pool_shares_trust_line_count -ℤ (f p).pool_shares_trust_line_count))))
+    (plus owed (plus (in_aggregate Shares (key.LiquidityPool id) (p.total_pool_shares -ℤ (f p).total_pool_shares))
+    (in_aggregate ShareLines (key.LiquidityPool id) (p.pool_shares_trust_line_count -ℤ (f p).pool_shares_trust_line_count))))
     (sum +ℤ n) (with_pool m id f)) (ap (λ (params : PoolParams).
     (of_asset v.asset params.asset_a (f p).reserve_a +ℤ of_asset v.asset params.asset_b (f p).reserve_b)
     -ℤ held_in v.asset (body.LiquidityPool p)) keeps.params
     ∙ by_reserves (is_eq (asset_cmp v.asset p.params.asset_a)) (is_eq (asset_cmp v.asset p.params.asset_b)) p.reserve_a
     p.reserve_b (f p).reserve_a (f p).reserve_b)
-    (pool_changed_by v id_pool owed sum m id f p legal stands keeps range filled)
+    (pool_changed_by v id_pool owed sum m id f p legal exists keeps range filled)

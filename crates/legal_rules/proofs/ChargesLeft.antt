@@ -1,54 +1,31 @@
 -- What adding, moving and removing leave of the accounts of a map.
-use Rattle.std.proofs.Common.{◌≡◌, ◌≢◌, refl, sym, ap, subst, ◌∙◌, ℕ, ◌*◌, ◌≤◌, true, false}
-use Rattle.std.proofs.Common.{◌||◌, [], ◌∷◌, Option, Some, None, Ok, arith}
-use Rattle.std.proofs.lemmas.Int.{ints}
-use Rattle.std.specs.Prelude.{ℤ, pos, ◌+ℤ◌, ◌≤ℤ◌}
-use Rattle.std.specs.FinMap.{get}
-use Rattle.hash_ids.specs.ledger_types.declared.ids.AccountId.{AccountId}
-use Rattle.hash_ids.specs.ledger_types.declared.asset.Asset.{Asset}
-use Rattle.hash_ids.specs.ledger_types.declared.account.AccountEntry.{AccountEntry}
-use Rattle.hash_ids.specs.ledger_types.declared.entry.LedgerEntry.{LedgerEntry}
-use Rattle.hash_ids.specs.ledger_types.declared.key.LedgerKey.{LedgerKey}
+use Rattle.legal_rules.proofs.Prelude as prelude
+use prelude.{◌≡◌, ◌≢◌, refl, sym, ap, subst, ◌∙◌, ℕ, ◌*◌, ◌≤◌, true, false, ◌||◌, [], ◌∷◌, Option, Some, None, Ok}
+use prelude.{arith, ints, ℤ, pos, ◌+ℤ◌, ◌≤ℤ◌, get, AccountId, Asset, AccountEntry, LedgerEntry, LedgerKey, key_of}
+use prelude.{EntryMap, put, erase, account_of, account_at, with_account, with_sponsor, Tests, first_fault, part}
+use prelude.{erase_each, available, Ctx, with_more, with_less, map_with_recorded, map_with_sponsor}
+use prelude.{map_with_other_payer, map_after_moving_between, map_after_charging, map_after_releasing}
+use prelude.{map_after_exchange, with_other_payer, with_subentry, without_subentry, sponsored_entry, map_after_counting}
+use prelude.{map_after_adding_subentry, is_same_account, is_full, is_over, is_short, payer_of, payer_tests_at}
+use prelude.{move_tests_at, subentry_tests_at, payer_by, open_sponsor, same_account, apart_accounts, with_count_keeps}
+use prelude.{core_kept, KeepsCore, held, IsKeyed, none_more, under_key, erase_elsewhere, put_elsewhere, add_zero}
+use prelude.{at_most_trans}
 use Rattle.hash_ids.specs.ledger_types.declared.key.LedgerKey.TheVariants as key
-use Rattle.hash_ids.specs.ledger_types.Keys.{key_of}
-use Rattle.entry_sums.specs.entry_map.EntryMap.{EntryMap, put, erase}
-use Rattle.sponsor_laws.specs.entry_slots.Accounts.{account_of, account_at, with_account}
-use Rattle.sponsor_laws.specs.entry_slots.EntrySponsor.{with_sponsor}
-use Rattle.sponsor_laws.specs.entry_slots.Tests.{Tests, first_fault}
-use Rattle.entry_sums.specs.Sums.{part}
-use Rattle.entry_sums.proofs.Lookups.{put_elsewhere, erase_elsewhere, erase_each}
-use Rattle.sponsor_laws.specs.reserve_rules.Reserve.{available}
-use Rattle.sponsor_laws.specs.sponsor_rules.declared.context.Ctx.{Ctx}
 use Rattle.sponsor_laws.specs.sponsor_rules.declared.fault.AddFault.{AddFault}
 use Rattle.sponsor_laws.specs.sponsor_rules.declared.fault.AddFault.TheVariants.{TooManySubentries, TooManySponsoring}
 use Rattle.sponsor_laws.specs.sponsor_rules.declared.fault.AddFault.TheVariants.{LowReserve}
 use Rattle.sponsor_laws.specs.sponsor_rules.declared.count.Count.TheVariants as count
-use Rattle.sponsor_laws.specs.sponsor_rules.Counting.{with_more, with_less}
-use Rattle.sponsor_laws.specs.sponsor_rules.Moving.{map_with_recorded, map_with_sponsor, map_with_other_payer}
-use Rattle.sponsor_laws.specs.sponsor_rules.Moving.{map_after_moving_between}
-use Rattle.sponsor_laws.specs.sponsor_rules.Paying.{map_after_charging, map_after_releasing, map_after_exchange}
-use Rattle.sponsor_laws.specs.sponsor_rules.Paying.{with_other_payer}
-use Rattle.sponsor_laws.specs.sponsor_rules.Paying.{with_subentry, without_subentry}
-use Rattle.sponsor_laws.specs.sponsor_rules.Adding.{sponsored_entry, map_after_counting, map_after_adding_subentry}
-use Rattle.sponsor_laws.specs.sponsor_rules.Payers.{is_same_account, is_full, is_over, is_short, payer_of}
-use Rattle.sponsor_laws.specs.sponsor_rules.Payers.{payer_tests_at}
-use Rattle.sponsor_laws.specs.sponsor_rules.Payers.{move_tests_at}
-use Rattle.sponsor_laws.specs.sponsor_rules.Payers.{subentry_tests_at, payer_by, open_sponsor}
-use Rattle.sponsor_laws.proofs.sponsor_rules_proofs.Ids.{same_account, apart_accounts}
-use Rattle.sponsor_laws.proofs.sponsor_rules_proofs.Keeping.{with_count_keeps, means_kept}
-use Rattle.sponsor_laws.specs.sponsor_rules.Keeping.{KeepsMeans}
-use Rattle.legal_rules.specs.Supply.{held}
-use Rattle.legal_rules.proofs.Places.{account_after, account_elsewhere}
+use Rattle.legal_rules.proofs.Indices.{account_after, account_elsewhere}
 use Rattle.legal_rules.proofs.ReservesLeft.{pays_more, pays_less, pays_from, other_payer_charged, available_still}
 use Rattle.legal_rules.proofs.ReservesLeft.{enough_of}
 use Rattle.legal_rules.proofs.ReservesLeft.{next_still, next_covers, subentry_charged, no_subentry_charged}
-use Rattle.legal_rules.specs.Holdings.{IsKeyed, none_more, under_key}
-use Rattle.legal_rules.proofs.Holdings.{nothing_more, still_holds, none_under, put_same}
+use Rattle.legal_rules.proofs.Holdings.{still_holds, none_under, put_same}
 use Rattle.legal_rules.proofs.Holdings.{erase_holds}
 use Rattle.legal_rules.proofs.Leaving.{IsNext, Leaves, leaves_itself, leaves_as, keeps_both, accounts_kept}
 use Rattle.legal_rules.proofs.Leaving.{account_kept}
 use Rattle.legal_rules.proofs.Leaving.{no_account_changed, put_accounts, keyed_put}
-use Rattle.legal_rules.proofs.Passed.{passed, first_passed}
+use Rattle.legal_rules.proofs.Passed.{first_passed}
+use Rattle.legal_rules.proofs.Passed.{unless_first_ok}
 
 -- ---- tests
 
@@ -56,23 +33,23 @@ use Rattle.legal_rules.proofs.Passed.{passed, first_passed}
 pub payer_had : (ctx : Ctx) (m : EntryMap) (payer : AccountId) (k : ℕ)
     → first_fault (payer_tests_at ctx m payer k) ≡ None → (a : AccountEntry) → account_at m payer ≡ Some a
     → pos (k * ctx.base_reserve) ≤ℤ available a ctx.base_reserve
-payer_had ctx m payer k none a stands =
+payer_had ctx m payer k none a exists =
     let short : Tests AddFault = (is_short ctx.base_reserve (account_at m payer) k, LowReserve) ∷ [] in
     let over = first_passed (is_over (account_at m payer) k) TooManySponsoring short none in
     let test = first_passed (is_short ctx.base_reserve (account_at m payer) k) LowReserve [] over.1 in
-    enough_of ctx.base_reserve k a (ap (λ o. is_short ctx.base_reserve o k) (sym stands) ∙ test.0)
+    enough_of ctx.base_reserve k a (ap (λ o. is_short ctx.base_reserve o k) (sym exists) ∙ test.0)
 
 pub owner_had : (ctx : Ctx) (m : EntryMap) (owner : AccountId) (k : ℕ)
     → first_fault (move_tests_at ctx m owner None k) ≡ None → (a : AccountEntry) → account_at m owner ≡ Some a
     → pos (k * ctx.base_reserve) ≤ℤ available a ctx.base_reserve
-owner_had ctx m owner k none a stands =
+owner_had ctx m owner k none a exists =
     let test = first_passed (is_short ctx.base_reserve (account_at m owner) k) LowReserve [] none in
-    enough_of ctx.base_reserve k a (ap (λ o. is_short ctx.base_reserve o k) (sym stands) ∙ test.0)
+    enough_of ctx.base_reserve k a (ap (λ o. is_short ctx.base_reserve o k) (sym exists) ∙ test.0)
 
 pub subentry_payer_had : (ctx : Ctx) (m : EntryMap) (owner : AccountId) (k : ℕ)
     → first_fault (subentry_tests_at ctx m owner k) ≡ None → (a : AccountEntry)
     → account_at m (payer_of ctx owner) ≡ Some a → pos (k * ctx.base_reserve) ≤ℤ available a ctx.base_reserve
-subentry_payer_had ctx m owner k none a stands =
+subentry_payer_had ctx m owner k none a exists =
     let payer = account_at m (payer_of ctx owner) in
     let short : Tests AddFault = (is_short ctx.base_reserve payer k, LowReserve) ∷ [] in
     let full = first_passed (is_full (account_at m owner) k) TooManySubentries ((
@@ -81,7 +58,7 @@ subentry_payer_had ctx m owner k none a stands =
     ) ∷ short) none in
     let over = first_passed (is_over payer k || is_over (account_at m owner) k) TooManySponsoring short full.1 in
     let test = first_passed (is_short ctx.base_reserve payer k) LowReserve [] over.1 in
-    enough_of ctx.base_reserve k a (ap (λ o. is_short ctx.base_reserve o k) (sym stands) ∙ test.0)
+    enough_of ctx.base_reserve k a (ap (λ o. is_short ctx.base_reserve o k) (sym exists) ∙ test.0)
 
 -- ---- payers
 
@@ -93,30 +70,30 @@ pub charging_kept : (base k : ℕ) (t : Option AccountId) (m : EntryMap) → IsK
     → Leaves base none_more m (map_after_charging k t m)
 charging_kept base k None m keyed had = leaves_itself base m keyed
 charging_kept base k (Some x) m keyed had = account_kept base m keyed x (with_more count.Sponsoring k)
-    (λ a stands. next_covers base k a (with_more count.Sponsoring k a) (pays_more k a) (had x refl a stands))
+    (λ a exists. next_covers base k a (with_more count.Sponsoring k a) (pays_more k a) (had x refl a exists))
 
 pub releasing_kept : (base k : ℕ) (s : Option AccountId) (m : EntryMap) → IsKeyed m
     → Leaves base none_more m (map_after_releasing k s m)
 releasing_kept base k None m keyed = leaves_itself base m keyed
 releasing_kept base k (Some x) m keyed = account_kept base m keyed x (with_less count.Sponsoring k)
-    (λ a stands. next_still base a (with_less count.Sponsoring k a) (pays_less k a))
+    (λ a exists. next_still base a (with_less count.Sponsoring k a) (pays_less k a))
 
 -- an account after a payer of k reserves was released
 pub record IsReleased (base : ℕ) (m : EntryMap) (x : AccountId) (b : AccountEntry) : Type 0 where
   pub was : AccountEntry
-  pub stood : account_at m x ≡ Some was
+  pub existed : account_at m x ≡ Some was
   pub more : available was base ≤ℤ available b base
   pub subentries : b.num_sub_entries ≡ was.num_sub_entries
-  pub means : KeepsMeans was b
+  pub core : KeepsCore was b
 
 itself_released : (base : ℕ) (m : EntryMap) (x : AccountId) (b : AccountEntry) → account_at m x ≡ Some b
     → IsReleased base m x b
-itself_released base m x b stands = record {
+itself_released base m x b exists = record {
   was = b;
-  stood = stands;
+  existed = exists;
   more = itself (available b base);
   subentries = refl;
-  means = means_kept b;
+  core = core_kept b;
 }
   where
     itself : (n : ℤ) → n ≤ℤ n
@@ -127,25 +104,25 @@ released_from : (base k : ℕ) (y : AccountId) (m : EntryMap) → IsKeyed m → 
     → account_at m y ≡ o → IsReleased base m x b
 released_from base k y m keyed x b there None none = itself_released base m x b
     (sym (ap (λ n. account_at n x) (no_account_changed m y (with_less count.Sponsoring k) none)) ∙ there)
-released_from base k y m keyed x b there (Some a) stands =
+released_from base k y m keyed x b there (Some a) exists =
     let f = with_less count.Sponsoring k in
-    let named = (pays_less k a).means.id in
+    let named = (pays_less k a).core.id in
     elim (is_same_account x y) as (λ t. is_same_account x y ≡ t → IsReleased base m x b) [
       | true ↦ λ is.
           let same = same_account x y is in
-          let here = account_after m y f a keyed stands named in
+          let here = account_after m y f a keyed exists named in
           let at = ap (account_at (with_account m y f)) (sym same) in
           let now : f a ≡ b = cc in
           record {
             was = a;
-            stood = ap (account_at m) same ∙ stands;
+            existed = ap (account_at m) same ∙ exists;
             more = subst (λ c. available a base ≤ℤ available c base) now (available_still base a (f a) (pays_less k a));
             subentries = ap (λ (c : AccountEntry). c.num_sub_entries) (sym now)
                 ∙ with_count_keeps count.Sponsoring count.SubEntries _ a (λ e. absurd (cc e));
-            means = subst (KeepsMeans a) now (pays_less k a).means;
+            core = subst (KeepsCore a) now (pays_less k a).core;
           }
       | false ↦ λ is. itself_released base m x b
-          (sym (account_elsewhere m y f a keyed stands named x (apart_accounts x y is)) ∙ there)
+          (sym (account_elsewhere m y f a keyed exists named x (apart_accounts x y is)) ∙ there)
     ] refl
 
 pub released_at : (base k : ℕ) (s : Option AccountId) (m : EntryMap) → IsKeyed m → (x : AccountId) (b : AccountEntry)
@@ -153,15 +130,12 @@ pub released_at : (base k : ℕ) (s : Option AccountId) (m : EntryMap) → IsKey
 released_at base k None m keyed x b there = itself_released base m x b there
 released_at base k (Some y) m keyed x b there = released_from base k y m keyed x b there (account_at m y) refl
 
-at_least : (n x y : ℤ) → n ≤ℤ x → x ≤ℤ y → n ≤ℤ y
-at_least n x y le more = omega (arith, ints)
-
 -- who had enough has it after a payer was released
 still_had : (base k : ℕ) (s t : Option AccountId) (m : EntryMap) → IsKeyed m → HadEnough base k t m
     → HadEnough base k t (map_after_releasing k s m)
 still_had base k s t m keyed had x is b there =
     let r = released_at base k s m keyed x b there in
-    at_least (pos (k * base)) (available r.was base) (available b base) (had x is r.was r.stood) r.more
+    at_most_trans (pos (k * base)) (available r.was base) (available b base) (had x is r.was r.existed) r.more
 
 pub exchange_kept : (base k : ℕ) (s t : Option AccountId) (m : EntryMap) → IsKeyed m → HadEnough base k t m
     → Leaves base none_more m (map_after_exchange k s t m)
@@ -195,7 +169,7 @@ erased_left base m k amounts keyed apart none = accounts_kept base (under_key k 
 pub erased_kept : (base : ℕ) (m : EntryMap) (k : LedgerKey) → IsKeyed m → ((id : AccountId) → key.Account id ≢ k)
     → ((x : Asset) → part (held x) (get m k) ≡ pos 0) → Leaves base none_more m (erase m k)
 erased_kept base m k keyed apart none = leaves_as base (under_key k (λ x. pos 0)) none_more m (erase m k)
-    (erased_left base m k (λ x. pos 0) keyed apart (λ x. sym (nothing_more (part (held x) (get m k))) ∙ none x))
+    (erased_left base m k (λ x. pos 0) keyed apart (λ x. add_zero (part (held x) (get m k)) ∙ none x))
     (none_under k (λ x. pos 0) (λ x. refl))
 
 recorded_kept : (base : ℕ) (m : EntryMap) (k : LedgerKey) (t : Option AccountId) → IsKeyed m
@@ -223,15 +197,15 @@ OwnerHad base k old new owner m = Unit {0}
 pub next_payer : (base k : ℕ) (s t : Option AccountId) (owner : AccountId) (m : EntryMap) → IsKeyed m
     → OwnerHad base k s t owner m → (a : AccountEntry)
     → account_at (map_after_exchange k s t m) owner ≡ Some a → IsNext base (pos 0) a (with_other_payer k s t a)
-next_payer base k None None owner m keyed had a stands = next_still base a (with_other_payer k None None a)
+next_payer base k None None owner m keyed had a exists = next_still base a (with_other_payer k None None a)
     (other_payer_charged k None None a)
-next_payer base k None (Some x) owner m keyed had a stands = next_still base a (with_other_payer k None (Some x) a)
+next_payer base k None (Some x) owner m keyed had a exists = next_still base a (with_other_payer k None (Some x) a)
     (other_payer_charged k None (Some x) a)
-next_payer base k (Some y) None owner m keyed had a stands =
-    let r = released_at base k (Some y) m keyed owner a stands in
+next_payer base k (Some y) None owner m keyed had a exists =
+    let r = released_at base k (Some y) m keyed owner a exists in
     next_covers base k a (with_other_payer k (Some y) None a) (other_payer_charged k (Some y) None a)
-    (at_least (pos (k * base)) (available r.was base) (available a base) (had r.was r.stood) r.more)
-next_payer base k (Some y) (Some x) owner m keyed had a stands = next_still base a
+    (at_most_trans (pos (k * base)) (available r.was base) (available a base) (had r.was r.existed) r.more)
+next_payer base k (Some y) (Some x) owner m keyed had a exists = next_still base a
     (with_other_payer k (Some y) (Some x) a) (other_payer_charged k (Some y) (Some x) a)
 
 -- Payers are exchanged, and then the owner's account is changed.
@@ -279,11 +253,11 @@ module _ (ctx : Ctx) (k : LedgerKey) (owner : AccountId) (n : ℕ) (m new : Entr
       → Leaves base none_more m new
   moved_between None None done = let same : m ≡ new = cc in
       subst (Leaves base none_more m) same (leaves_itself base m keyed)
-  moved_between None (Some x) done = let test = passed (move_tests_at ctx m owner (Some x) n) _ new done in
+  moved_between None (Some x) done = let test = unless_first_ok (move_tests_at ctx m owner (Some x) n) _ new done in
       moved_so None (Some x) test.0 test.1
-  moved_between (Some y) None done = let test = passed (move_tests_at ctx m owner None n) _ new done in
+  moved_between (Some y) None done = let test = unless_first_ok (move_tests_at ctx m owner None n) _ new done in
       moved_so (Some y) None test.0 test.1
-  moved_between (Some y) (Some x) done = let test = passed (move_tests_at ctx m owner (Some x) n) _ new done in
+  moved_between (Some y) (Some x) done = let test = unless_first_ok (move_tests_at ctx m owner (Some x) n) _ new done in
       moved_so (Some y) (Some x) test.0 test.1
 
 -- ---- what is added
@@ -293,17 +267,17 @@ charged_next : (ctx : Ctx) (m : EntryMap) (owner : AccountId) (k : ℕ)
     → first_fault (subentry_tests_at ctx m owner k) ≡ None → (t : Option AccountId) → open_sponsor ctx owner ≡ t
     → (a : AccountEntry) → account_at (map_after_charging k t m) owner ≡ Some a
     → IsNext ctx.base_reserve (pos 0) a (with_subentry k t a)
-charged_next ctx m owner k none None is a stands = next_covers ctx.base_reserve k a (with_subentry k None a)
+charged_next ctx m owner k none None is a exists = next_covers ctx.base_reserve k a (with_subentry k None a)
     (subentry_charged k None a)
-    (subentry_payer_had ctx m owner k none a (ap (λ o. account_at m (payer_by owner o)) is ∙ stands))
-charged_next ctx m owner k none (Some x) is a stands = next_still ctx.base_reserve a (with_subentry k (Some x) a)
+    (subentry_payer_had ctx m owner k none a (ap (λ o. account_at m (payer_by owner o)) is ∙ exists))
+charged_next ctx m owner k none (Some x) is a exists = next_still ctx.base_reserve a (with_subentry k (Some x) a)
     (subentry_charged k (Some x) a)
 
 charged_had : (ctx : Ctx) (m : EntryMap) (owner : AccountId) (k : ℕ)
     → first_fault (subentry_tests_at ctx m owner k) ≡ None → (t : Option AccountId) → open_sponsor ctx owner ≡ t
     → HadEnough ctx.base_reserve k t m
-charged_had ctx m owner k none t is x same a stands = subentry_payer_had ctx m owner k none a
-    (ap (λ o. account_at m (payer_by owner o)) (is ∙ same) ∙ stands)
+charged_had ctx m owner k none t is x same a exists = subentry_payer_had ctx m owner k none a
+    (ap (λ o. account_at m (payer_by owner o)) (is ∙ same) ∙ exists)
 
 -- a payer, if there is one, is charged
 pub charging_left : (ctx : Ctx) (m : EntryMap) (owner : AccountId) (k : ℕ) → IsKeyed m
@@ -326,7 +300,7 @@ charged_kept ctx m owner k keyed none f on =
     let first = charging_left ctx m owner k keyed none in
     keeps_both ctx.base_reserve m now (with_account now owner f) first
     (account_kept ctx.base_reserve now first.keyed owner f
-    (λ a stands. on a stands (charged_next ctx m owner k none t refl a stands)))
+    (λ a exists. on a exists (charged_next ctx m owner k none t refl a exists)))
 
 sponsored_key : (t : Option AccountId) (e : LedgerEntry) → key_of (sponsored_entry t e) ≡ key_of e
 sponsored_key None e = refl
@@ -345,8 +319,8 @@ subentry_kept ctx m owner k e new keyed apart none free done =
     let t = open_sponsor ctx owner in
     let now = map_after_counting owner k t m in
     let added = sponsored_entry t e in
-    let test = passed (subentry_tests_at ctx m owner k) (put now added) new done in
-    let first = charged_kept ctx m owner k keyed test.0 (with_subentry k t) (λ a stands next. next) in
+    let test = unless_first_ok (subentry_tests_at ctx m owner k) (put now added) new done in
+    let first = charged_kept ctx m owner k keyed test.0 (with_subentry k t) (λ a exists next. next) in
     subst (Leaves ctx.base_reserve none_more m) test.1
     (keeps_both ctx.base_reserve m now (put now added) first
     (accounts_kept ctx.base_reserve none_more now (put now added) (keyed_put now added first.keyed)
@@ -365,22 +339,22 @@ pub discharged_kept : (base k : ℕ) (owner : AccountId) (s : Option AccountId) 
 discharged_kept base k owner s m keyed had f on =
     let now = map_after_releasing k s m in
     let first = releasing_kept base k s m keyed in
-    keeps_both base m now (with_account now owner f) first (account_kept base now first.keyed owner f (λ a stands.
-    let r = released_at base k s m keyed owner a stands in
+    keeps_both base m now (with_account now owner f) first (account_kept base now first.keyed owner f (λ a exists.
+    let r = released_at base k s m keyed owner a exists in
     on a (next_still base a (without_subentry k s a) (no_subentry_charged k s a
-    (subst (λ n. k ≤ n) (sym r.subentries) (had r.was r.stood))))))
+    (subst (λ n. k ≤ n) (sym r.subentries) (had r.was r.existed))))))
 
 -- ---- what is left of a payer
 
 -- an account after a payer of k reserves was charged: of what it had no more is available
 pub record IsChargedFrom (base : ℕ) (m : EntryMap) (x : AccountId) (b : AccountEntry) : Type 0 where
   pub was : AccountEntry
-  pub stood : account_at m x ≡ Some was
+  pub existed : account_at m x ≡ Some was
   pub less : available b base ≤ℤ available was base
 
 itself_charged : (base : ℕ) (m : EntryMap) (x : AccountId) (b : AccountEntry) → account_at m x ≡ Some b
     → IsChargedFrom base m x b
-itself_charged base m x b stands = record { was = b; stood = stands; less = itself (available b base) }
+itself_charged base m x b exists = record { was = b; existed = exists; less = itself (available b base) }
   where
     itself : (n : ℤ) → n ≤ℤ n
     itself n = omega (arith, ints)
@@ -390,22 +364,22 @@ charged_from : (base k : ℕ) (y : AccountId) (m : EntryMap) → IsKeyed m → (
     → account_at m y ≡ o → IsChargedFrom base m x b
 charged_from base k y m keyed x b there None none = itself_charged base m x b
     (sym (ap (λ n. account_at n x) (no_account_changed m y (with_more count.Sponsoring k) none)) ∙ there)
-charged_from base k y m keyed x b there (Some a) stands =
+charged_from base k y m keyed x b there (Some a) exists =
     let f = with_more count.Sponsoring k in
-    let named = (pays_more k a).means.id in
+    let named = (pays_more k a).core.id in
     elim (is_same_account x y) as (λ t. is_same_account x y ≡ t → IsChargedFrom base m x b) [
       | true ↦ λ is.
           let same = same_account x y is in
-          let here = account_after m y f a keyed stands named in
+          let here = account_after m y f a keyed exists named in
           let at = ap (account_at (with_account m y f)) (sym same) in
           let now : f a ≡ b = cc in
           record {
             was = a;
-            stood = ap (account_at m) same ∙ stands;
+            existed = ap (account_at m) same ∙ exists;
             less = subst (λ c. available c base ≤ℤ available a base) now (pays_from base k a);
           }
       | false ↦ λ is. itself_charged base m x b
-          (sym (account_elsewhere m y f a keyed stands named x (apart_accounts x y is)) ∙ there)
+          (sym (account_elsewhere m y f a keyed exists named x (apart_accounts x y is)) ∙ there)
     ] refl
 
 pub charged_at : (base k : ℕ) (t : Option AccountId) (m : EntryMap) → IsKeyed m → (x : AccountId) (b : AccountEntry)

@@ -1,29 +1,17 @@
--- The reserve of a subentry that doesn't stand yet is counted.
-use Rattle.std.proofs.Common.{◌≡◌, ◌≢◌, refl, sym, ap, subst, ◌∙◌, ℕ, Bool, true, false, Option, Some, None, Ok, arith}
-use Rattle.std.proofs.lemmas.Int.{ints}
-use Rattle.std.specs.Prelude.{ℤ, pos, neg_ℤ, ◌+ℤ◌, if◌then◌else◌}
-use Rattle.std.specs.FinMap.{get}
-use Rattle.hash_ids.specs.ledger_types.declared.ids.AccountId.{AccountId}
-use Rattle.hash_ids.specs.ledger_types.declared.account.AccountEntry.{AccountEntry}
-use Rattle.hash_ids.specs.ledger_types.declared.key.LedgerKey.{LedgerKey}
+-- The reserve of a subentry that doesn't exist yet is counted.
+use Rattle.legal_rules.proofs.Prelude as prelude
+use prelude.{◌≡◌, ◌≢◌, refl, sym, ap, subst, ◌∙◌, ℕ, Bool, true, false, Option, Some, None, Ok, arith, ints, ℤ, pos}
+use prelude.{neg_ℤ, ◌+ℤ◌, if◌then◌else◌, get, AccountId, AccountEntry, LedgerKey, EntryMap, account_at, HasAccount}
+use prelude.{have_passed, HavePassed, Ctx, map_after_counting, map_after_counting_subentry, map_after_charging}
+use prelude.{with_subentry, open_sponsor, is_full, is_over, subentry_tests_at, is_key, for_key, Kind, Subentries}
+use prelude.{Sponsoring, Sponsored, View, Owed, nothing_owed, plus, less, in_aggregate, IsEntryLegal, IsLegalOwing}
+use prelude.{IsSponsorReady, one_more, SubentriesCounted}
 use Rattle.hash_ids.specs.ledger_types.declared.key.LedgerKey.TheVariants as key
-use Rattle.entry_sums.specs.entry_map.EntryMap.{EntryMap}
-use Rattle.sponsor_laws.specs.entry_slots.Accounts.{account_at, HasAccount}
-use Rattle.sponsor_laws.proofs.Bounds.{have_passed, HavePassed}
-use Rattle.sponsor_laws.specs.sponsor_rules.declared.context.Ctx.{Ctx}
-use Rattle.sponsor_laws.specs.sponsor_rules.Adding.{map_after_counting, map_after_counting_subentry}
-use Rattle.sponsor_laws.specs.sponsor_rules.Paying.{map_after_charging, with_subentry}
-use Rattle.sponsor_laws.specs.sponsor_rules.Payers.{open_sponsor, is_full, is_over, subentry_tests_at}
-use Rattle.legal_rules.specs.EntryKeys.{is_key, for_key}
-use Rattle.legal_rules.specs.Books.{Kind, Subentries, Sponsoring, Sponsored, View}
-use Rattle.legal_rules.specs.Owing.{Owed, nothing_owed, plus, less, in_book, IsEntryLegal, IsLegalOwing}
-use Rattle.legal_rules.specs.Sponsorships.{IsSponsorReady}
 use Rattle.legal_rules.proofs.Adding.{subentries_may, payers_room, beside_sponsor}
 use Rattle.legal_rules.proofs.Payers.{AreChanged, beside_none, exchanged, owner_changed, subentry_step}
-use Rattle.legal_rules.proofs.Sponsors.{owner_books, payer_books}
+use Rattle.legal_rules.proofs.Sponsors.{owner_aggregates, payer_aggregates}
 use Rattle.legal_rules.proofs.Steps.{legal_as, same_id_at}
-use Rattle.legal_rules.specs.OneMore.{one_more, SubentriesCounted}
-use Rattle.legal_rules.proofs.Passed.{passed}
+use Rattle.legal_rules.proofs.Passed.{unless_first_ok}
 
 counts_own : (t : Bool)
     → (((pos 0 +ℤ pos 0) +ℤ neg_ℤ (pos 0)) +ℤ ((if t then neg_ℤ (pos 1) else pos 0) +ℤ neg_ℤ (pos 0)))
@@ -43,20 +31,20 @@ counts_payer : (x : ℤ) → (((pos 0 +ℤ pos 0) +ℤ neg_ℤ x) +ℤ (pos 0 +�
 counts_payer x = omega (arith, ints)
 
 module _ (v : View) (id_pool : ℕ) (sum : ℤ) (ctx : Ctx) (owner : AccountId) (m : EntryMap)
-    (legal : IsLegalOwing v id_pool nothing_owed sum m) (stands : HasAccount m owner)
+    (legal : IsLegalOwing v id_pool nothing_owed sum m) (exists : HasAccount m owner)
     (ready : IsSponsorReady ctx owner m) where
   abbrev t : Option AccountId
   t = open_sponsor ctx owner
 
   abbrev a : AccountEntry
-  a = stands.0
+  a = exists.0
 
   abbrev now : EntryMap
   now = map_after_counting owner 1 t m
 
   abbrev Charged : Option AccountId → Owed
-  Charged o = plus (plus (plus nothing_owed nothing_owed) (less (payer_books 1 o)))
-      (plus (in_book Subentries (key.Account owner) (neg_ℤ (pos 1))) (less (owner_books 1 owner o)))
+  Charged o = plus (plus (plus nothing_owed nothing_owed) (less (payer_aggregates 1 o)))
+      (plus (in_aggregate Subentries (key.Account owner) (neg_ℤ (pos 1))) (less (owner_aggregates 1 owner o)))
 
   charged_is : (o : Option AccountId) (kind : Kind) (k : LedgerKey) → Charged o kind k ≡ one_more owner o kind k
   charged_is None Subentries k = counts_own (is_key (key.Account owner) k)
@@ -69,14 +57,14 @@ module _ (v : View) (id_pool : ℕ) (sum : ℤ) (ctx : Ctx) (owner : AccountId) 
 
   counted : HavePassed ctx m owner 1 → AreChanged v id_pool sum (Charged t) None t owner a (with_subentry 1 t a) m now
   counted tests =
-      let same = same_id_at m owner a legal.keyed stands.1 in
-      let passes = λ (is : is_full (account_at m owner) 1 ≡ false). ap (λ o. is_full o 1) (sym stands.1) ∙ is in
-      let fits = λ (is : is_over (account_at m owner) 1 ≡ false). ap (λ o. is_over o 1) (sym stands.1) ∙ is in
-      owner_changed v id_pool sum (plus (plus nothing_owed nothing_owed) (less (payer_books 1 t))) _ None t owner a
+      let same = same_id_at m owner a legal.keyed exists.1 in
+      let passes = λ (is : is_full (account_at m owner) 1 ≡ false). ap (λ o. is_full o 1) (sym exists.1) ∙ is in
+      let fits = λ (is : is_over (account_at m owner) 1 ≡ false). ap (λ o. is_over o 1) (sym exists.1) ∙ is in
+      owner_changed v id_pool sum (plus (plus nothing_owed nothing_owed) (less (payer_aggregates 1 t))) _ None t owner a
       (with_subentry 1 t) m (map_after_charging 1 t m)
       (exchanged v id_pool sum 1 None t nothing_owed m legal (λ x is. absurd (cc))
       (payers_room ctx owner 1 m ready tests.payer))
-      stands.1 (beside_none (key.Account owner)) (beside_sponsor ctx owner m ready)
+      exists.1 (beside_none (key.Account owner)) (beside_sponsor ctx owner m ready)
       (subentry_step id_pool 1 owner t a same (subentries_may a 1 (passes tests.not_full) (fits tests.owner)))
 
   abbrev IsCounted : EntryMap → Type 0
@@ -85,7 +73,7 @@ module _ (v : View) (id_pool : ℕ) (sum : ℤ) (ctx : Ctx) (owner : AccountId) 
 
   counted_so : (new : EntryMap) → map_after_counting_subentry ctx owner 1 m ≡ Ok new → IsCounted new
   counted_so new done =
-      let went = passed (subentry_tests_at ctx m owner 1) now new done in
+      let went = unless_first_ok (subentry_tests_at ctx m owner 1) now new done in
       let changed = counted (have_passed ctx m owner 1 now new done) in
       subst IsCounted went.1 (
         legal_as v (IsEntryLegal id_pool) (Charged t) (one_more owner t) sum sum now changed.legal (charged_is t) refl,
@@ -93,5 +81,5 @@ module _ (v : View) (id_pool : ℕ) (sum : ℤ) (ctx : Ctx) (owner : AccountId) 
       )
 
 pub subentries_counted : SubentriesCounted
-subentries_counted v id_pool sum ctx owner m new legal stands ready =
-    counted_so v id_pool sum ctx owner m legal stands ready new
+subentries_counted v id_pool sum ctx owner m new legal exists ready =
+    counted_so v id_pool sum ctx owner m legal exists ready new

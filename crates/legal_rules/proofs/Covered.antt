@@ -1,34 +1,14 @@
 -- Others pay at most an account's own two reserves and one for each subentry, so its minimum balance isn't below 0.
-use Rattle.std.proofs.Common.{◌≡◌, refl, sym, ap, subst, ◌∙◌, ℕ, ◌+◌, ◌-◌, ◌*◌, ◌≤◌, Bool, true, false, length, Option}
-use Rattle.std.proofs.Common.{Some, None, arith}
-use Rattle.std.proofs.lemmas.Int.{ints}
-use Rattle.std.proofs.lemmas.List.Sums.{count_by-le-length}
-use Rattle.std.specs.Prelude.{ℤ, pos, ◌+ℤ◌, ◌-ℤ◌, ◌*ℤ◌, ◌≤ℤ◌, if◌then◌else◌}
-use Rattle.std.specs.List.{count_by}
-use Rattle.std.specs.FinMap.{get}
-use Rattle.hash_ids.specs.ledger_types.declared.ids.AccountId.{AccountId}
-use Rattle.hash_ids.specs.ledger_types.declared.account.AccountEntry.{AccountEntry}
-use Rattle.hash_ids.specs.ledger_types.declared.entry.LedgerEntry.{LedgerEntry}
-use Rattle.hash_ids.specs.ledger_types.declared.entry.LedgerEntryBody.{LedgerEntryBody}
+use Rattle.legal_rules.proofs.Prelude as prelude
+use prelude.{◌≡◌, refl, sym, ap, subst, ◌∙◌, ℕ, ◌+◌, ◌-◌, ◌*◌, ◌≤◌, Bool, true, false, length, Option, Some, None}
+use prelude.{arith, ints, count_by-le-length, ℤ, pos, ◌+ℤ◌, ◌-ℤ◌, ◌*ℤ◌, ◌≤ℤ◌, if◌then◌else◌, count_by, get, AccountId}
+use prelude.{AccountEntry, LedgerEntry, LedgerEntryBody, LedgerKey, key_of, key_of_body, EntryMap, account_at}
+use prelude.{account_liabilities, num_sponsoring, num_sponsored, sponsor_of, min_balance, available, multiplicity}
+use prelude.{owner_of, is_there, signer_sponsors, Weight, total, part, EachEntry, total_plus, total_only, total_at_most}
+use prelude.{is_key, for_account, subentries_in, signer_sponsors_in, Kind, Subentries, Sponsored, View, counted, stated}
+use prelude.{stated_at, IsBodyInRange, IsAccountInRange, Owed, IsEntryLegal, IsLegalOwing, apart_keys}
 use Rattle.hash_ids.specs.ledger_types.declared.entry.LedgerEntryBody.TheVariants as body
-use Rattle.hash_ids.specs.ledger_types.declared.key.LedgerKey.{LedgerKey}
 use Rattle.hash_ids.specs.ledger_types.declared.key.LedgerKey.TheVariants as key
-use Rattle.hash_ids.specs.ledger_types.Keys.{key_of, key_of_body}
-use Rattle.entry_sums.specs.entry_map.EntryMap.{EntryMap}
-use Rattle.sponsor_laws.specs.entry_slots.Accounts.{account_at}
-use Rattle.sponsor_laws.specs.entry_slots.AccountExtensions.{account_liabilities, num_sponsoring, num_sponsored}
-use Rattle.sponsor_laws.specs.entry_slots.EntrySponsor.{sponsor_of}
-use Rattle.sponsor_laws.specs.reserve_rules.Reserve.{min_balance, available}
-use Rattle.sponsor_laws.specs.sponsor_rules.Charge.{multiplicity, owner_of}
-use Rattle.sponsor_laws.specs.Sums.{is_there, signer_sponsors}
-use Rattle.entry_sums.specs.Sums.{Weight, total, part, EachEntry}
-use Rattle.entry_sums.proofs.Lookups.{apart_keys}
-use Rattle.entry_sums.proofs.Summing.{total_plus, total_only, total_at_most}
-use Rattle.legal_rules.specs.EntryKeys.{is_key, for_account}
-use Rattle.legal_rules.specs.Reserves.{subentries_in, signer_sponsors_in}
-use Rattle.legal_rules.specs.Books.{Kind, Subentries, Sponsored, View, counted, stated, stated_at}
-use Rattle.legal_rules.specs.Ranges.{IsBodyInRange, IsAccountInRange}
-use Rattle.legal_rules.specs.Owing.{Owed, IsEntryLegal, IsLegalOwing}
 use Rattle.legal_rules.proofs.Weighing.{total_of}
 use Rattle.legal_rules.proofs.Steps.{account_entry}
 
@@ -124,7 +104,7 @@ sponsored_at_most v id_pool owed lumens m k legal none = stated_few (stated_at S
 
 pub account_states : (m : EntryMap) (id : AccountId) (a : AccountEntry) (kind : Kind) → account_at m id ≡ Some a
     → stated_at kind (get m (key.Account id)) ≡ stated kind (body.Account a)
-account_states m id a kind stands = let found = account_entry m id a stands in ap (stated_at kind) found.1.there
+account_states m id a kind exists = let found = account_entry m id a exists in ap (stated_at kind) found.1.there
     ∙ ap (stated kind) found.1.is
 
 pub minimum_low : (subs sponsoring sponsored base : ℕ) → pos sponsored ≤ℤ (pos subs +ℤ pos 2)
@@ -149,10 +129,10 @@ pub minimum_not_below : (v : View) (id_pool : ℕ) (owed : Owed) (lumens : ℤ) 
     (a : AccountEntry) (base_reserve : ℕ) → IsLegalOwing v id_pool owed lumens m
     → owed Subentries (key.Account id) ≤ℤ owed Sponsored (key.Account id) → account_at m id ≡ Some a
     → pos 0 ≤ℤ min_balance a base_reserve
-minimum_not_below v id_pool owed lumens m id a base_reserve legal none stands =
+minimum_not_below v id_pool owed lumens m id a base_reserve legal none exists =
     let few = sponsored_at_most v id_pool owed lumens m (key.Account id) legal none in
-    let sponsored = account_states m id a Sponsored stands in
-    let subs = account_states m id a Subentries stands in
+    let sponsored = account_states m id a Sponsored exists in
+    let subs = account_states m id a Subentries exists in
     minimum_low a.num_sub_entries (num_sponsoring a) (num_sponsored a) base_reserve (few_of _ _ _ _ sponsored subs few)
   where
     few_of : (stated_sponsored stated_subs sponsored subs : ℤ) → stated_sponsored ≡ sponsored → stated_subs ≡ subs
@@ -163,9 +143,9 @@ pub not_above_balance : (v : View) (id_pool : ℕ) (owed : Owed) (lumens : ℤ) 
     (a : AccountEntry) (base_reserve : ℕ) (amount : ℤ) → IsLegalOwing v id_pool owed lumens m
     → owed Subentries (key.Account id) ≤ℤ owed Sponsored (key.Account id) → account_at m id ≡ Some a
     → amount ≤ℤ available a base_reserve → amount ≤ℤ a.balance
-not_above_balance v id_pool owed lumens m id a base_reserve amount legal none stands le =
-    let found = account_entry m id a stands in
+not_above_balance v id_pool owed lumens m id a base_reserve amount legal none exists le =
+    let found = account_entry m id a exists in
     let range : IsAccountInRange a = subst (IsBodyInRange id_pool) found.1.is
     (legal.entries (key.Account id) found.0 found.1.there).range.body in
     spendable a.balance (min_balance a base_reserve) (account_liabilities a).selling amount
-    (minimum_not_below v id_pool owed lumens m id a base_reserve legal none stands) range.range.selling le
+    (minimum_not_below v id_pool owed lumens m id a base_reserve legal none exists) range.range.selling le

@@ -1,67 +1,35 @@
 -- The first states of ledgers.
-use Rattle.std.proofs.Common.{◌≡◌, ◌≢◌, refl, sym, ap, subst, ◌∙◌, ℕ, ◌+◌, ◌≤◌, Bool, true, false, cond, List, [], ◌∷◌}
-use Rattle.std.proofs.Common.{length, map}
-use Rattle.std.proofs.Common.{◌++◌, All, Option, Some, None, arith}
-use Rattle.std.proofs.lemmas.Int.{ints}
-use Rattle.std.proofs.lemmas.List.Sums.{length-filter}
-use Rattle.std.proofs.lemmas.List.Elements.{All-head, All-tail}
-use Rattle.std.specs.Ordering.{eq_by_cmp}
-use Rattle.std.specs.List.{flat_map}
-use Rattle.hash_ids.specs.ledger_types.declared.entry.LedgerEntryBody.{LedgerEntryBody}
-use Rattle.hash_ids.specs.ledger_types.Keys.{key_of_body}
-use Rattle.entry_sums.proofs.entry_map_proofs.KeyMaps.{same_keys}
-use Rattle.sponsor_laws.specs.entry_slots.EntrySponsor.{sponsor_of}
-use Rattle.sponsor_laws.specs.sponsor_rules.Charge.{owner_of}
-use Rattle.entry_sums.proofs.Lookups.{put_get}
-use Rattle.legal_rules.specs.Reserves.{signer_sponsors_in}
-use Rattle.legal_rules.specs.Needs.{account_keys, holding_keys}
-use Rattle.legal_rules.specs.Ranges.{IsPaidRightly}
+use Rattle.legal_rules.proofs.Prelude as prelude
+use prelude.{◌≡◌, ◌≢◌, refl, sym, ap, subst, ◌∙◌, ℕ, ◌+◌, ◌≤◌, Bool, true, false, cond, List, [], ◌∷◌, length, map}
+use prelude.{◌++◌, All, Option, Some, None, arith, ints, length-filter, All-head, All-tail, eq_by_cmp, flat_map}
+use prelude.{LedgerEntryBody, key_of_body, sponsor_of, owner_of, signer_sponsors_in, account_keys, holding_keys}
+use prelude.{IsPaidRightly, ℤ, pos, ◌+ℤ◌, ◌-ℤ◌, if◌then◌else◌, count_by, filter, get, empty, get-empty, AccountId}
+use prelude.{Signer, AccountEntry, LedgerEntry, LedgerKey, key_of, key_cmp, put, same_itself, is_there, Weight, total}
+use prelude.{part, EachEntry, put_each, total_put, total_none, is_key, is_for, Kind, Subentries, Sponsoring, Sponsored}
+use prelude.{Selling, Buying, View, counted, stated_at, held, offer_with, offer_with_in, IsAccountInRange, view}
+use prelude.{pools_in, IsAggregated, weight, IsEntryLegal, put_get, put_there, zero_at_most_one, same_keys}
 use Rattle.legal_rules.specs.FirstStates.{LoneEntries}
 use Rattle.legal_rules.proofs.Subentries.{paid_not_by_owner}
-use Rattle.std.specs.Prelude.{ℤ, pos, ◌+ℤ◌, ◌-ℤ◌, ◌≤ℤ◌, if◌then◌else◌}
-use Rattle.std.specs.List.{count_by, filter}
-use Rattle.std.specs.FinMap.{get, empty, get-empty}
 use Rattle.hash_ids.specs.ledger_types.declared.asset.Asset.TheVariants as asset
-use Rattle.hash_ids.specs.ledger_types.declared.ids.AccountId.{AccountId}
-use Rattle.hash_ids.specs.ledger_types.declared.signer.Signer.{Signer}
-use Rattle.hash_ids.specs.ledger_types.declared.account.AccountEntry.{AccountEntry}
-use Rattle.hash_ids.specs.ledger_types.declared.entry.LedgerEntry.{LedgerEntry}
 use Rattle.hash_ids.specs.ledger_types.declared.entry.LedgerEntryBody.TheVariants as body
-use Rattle.hash_ids.specs.ledger_types.declared.key.LedgerKey.{LedgerKey}
 use Rattle.hash_ids.specs.ledger_types.declared.key.LedgerKey.TheVariants as key
-use Rattle.hash_ids.specs.ledger_types.Keys.{key_of}
-use Rattle.hash_ids.specs.ledger_types.KeyOrder.{key_cmp}
-use Rattle.entry_sums.specs.entry_map.EntryMap.{put}
-use Rattle.entry_sums.proofs.entry_map_proofs.KeyMaps.{same_itself}
-use Rattle.sponsor_laws.specs.Sums.{is_there}
-use Rattle.entry_sums.specs.Sums.{Weight, total, part, EachEntry}
-use Rattle.entry_sums.proofs.Lookups.{put_each, put_there}
-use Rattle.entry_sums.proofs.Summing.{total_put, total_none}
-use Rattle.legal_rules.specs.EntryKeys.{is_key}
-use Rattle.legal_rules.specs.Reserves.{is_for}
-use Rattle.legal_rules.specs.Books.{Kind, Subentries, Sponsoring, Sponsored, Selling, Buying, View, counted, stated_at}
-use Rattle.legal_rules.specs.Supply.{held}
-use Rattle.legal_rules.specs.OfferIds.{offer_with, offer_with_in}
 use Rattle.legal_rules.specs.FirstStates.{IsPlainAccount, PlainStatesAreLegal, new_account, GenesisIsLegal}
 use Rattle.legal_rules.specs.FirstStates.{LoneAccounts}
-use Rattle.legal_rules.specs.Ranges.{IsAccountInRange}
-use Rattle.legal_rules.specs.Legal.{view, pools_in, IsBooked}
-use Rattle.legal_rules.specs.Owing.{weight, IsEntryLegal}
 use Rattle.legal_rules.proofs.Legality.{legal_of}
 use Rattle.legal_rules.proofs.Numbers.{taken_off, nothing_less}
 
 -- ---- plain accounts
 
-none_kept : (p : Option AccountId → Bool) (signers : List Signer) → p None ≡ false
+pub filter_of_no_sponsors : (p : Option AccountId → Bool) (signers : List Signer) → p None ≡ false
     → filter p (map (λ signer. None) signers) ≡ []
-none_kept p [] none = refl
-none_kept p (x ∷ xs) none = ap (λ b. cond b (None ∷ filter p (map (λ signer. None) xs))
-    (filter p (map (λ signer. None) xs))) none ∙ none_kept p xs none
+filter_of_no_sponsors p [] none = refl
+filter_of_no_sponsors p (x ∷ xs) none = ap (λ b. cond b (None ∷ filter p (map (λ signer. None) xs))
+    (filter p (map (λ signer. None) xs))) none ∙ filter_of_no_sponsors p xs none
 
-none_counted : (p : Option AccountId → Bool) (signers : List Signer) → p None ≡ false
+pub count_of_no_sponsors : (p : Option AccountId → Bool) (signers : List Signer) → p None ≡ false
     → count_by p (map (λ signer. None) signers) ≡ 0
-none_counted p signers none = sym (length-filter p (map (λ signer. None) signers))
-    ∙ ap length (none_kept p signers none)
+count_of_no_sponsors p signers none = sym (length-filter p (map (λ signer. None) signers))
+    ∙ ap length (filter_of_no_sponsors p signers none)
 
 same_less : (t : Bool) (n : ℕ) → ((if t then pos n else pos 0) -ℤ (if t then pos n else pos 0)) ≡ pos 0
 same_less true n = omega (arith, ints)
@@ -71,9 +39,9 @@ none_less : (t : Bool) (n : ℕ) → n ≡ 0 → ((if t then pos (0 + n) else po
 none_less true n none = omega (arith, ints)
 none_less false n none = refl
 
-none_more : (t : Bool) (n : ℕ) → n ≡ 0 → ((pos 0 +ℤ pos n) -ℤ (if t then pos 0 else pos 0)) ≡ pos 0
-none_more true n none = omega (arith, ints)
-none_more false n none = omega (arith, ints)
+zero_natural_states_none : (t : Bool) (n : ℕ) → n ≡ 0 → ((pos 0 +ℤ pos n) -ℤ (if t then pos 0 else pos 0)) ≡ pos 0
+zero_natural_states_none true n none = omega (arith, ints)
+zero_natural_states_none false n none = omega (arith, ints)
 
 module _ (v : View) (e : LedgerEntry) (p : IsPlainAccount e) where
   abbrev a : AccountEntry
@@ -84,8 +52,8 @@ module _ (v : View) (e : LedgerEntry) (p : IsPlainAccount e) where
 
   plain_weighs : (kind : Kind) (k : LedgerKey) → weight v kind k plain ≡ pos 0
   plain_weighs Subentries k = same_less (is_key (key.Account a.account_id) k) (length a.signers)
-  plain_weighs Sponsored k = none_less (is_key (key.Account a.account_id) k) _ (none_counted is_there a.signers refl)
-  plain_weighs Sponsoring k = none_more (is_key (key.Account a.account_id) k) _ (none_counted (is_for k) a.signers refl)
+  plain_weighs Sponsored k = none_less (is_key (key.Account a.account_id) k) _ (count_of_no_sponsors is_there a.signers refl)
+  plain_weighs Sponsoring k = zero_natural_states_none (is_key (key.Account a.account_id) k) _ (count_of_no_sponsors (is_for k) a.signers refl)
   plain_weighs kind k = nothing_less (is_key (key.Account a.account_id) k)
 
   is_plain : e ≡ plain
@@ -117,16 +85,13 @@ module _ (v : View) (e : LedgerEntry) (p : IsPlainAccount e) where
       same : a ≡ record a { num_sub_entries = length a.signers; ext = None }
       same i = record a { num_sub_entries = p.subentries i; ext = p.unbound i }
 
-low_one : (x : ℤ) → x ≡ pos 0 → x ≤ℤ pos 1
-low_one x none = omega (arith, ints)
-
 pub plain_states_are_legal : PlainStatesAreLegal
 plain_states_are_legal h m header keyed plain coins = legal_of h (pools_in m) m header (record {
   params = λ id. refl;
   keyed = keyed;
   entries = λ k e there. legal_plain (view m) e (plain k e there) h.id_pool;
-  offers = λ n. low_one _ (total_none (offer_with n) m (λ k e there. no_offer (view m) e (plain k e there) n));
-  books = λ kind q. total_none (weight (view m) kind q) m
+  offers = λ n. zero_at_most_one _ (total_none (offer_with n) m (λ k e there. no_offer (view m) e (plain k e there) n));
+  aggregates = λ kind q. total_none (weight (view m) kind q) m
       (λ k e there. weighs_nothing (view m) e (plain k e there) kind q);
   supply = taken_off h.total_coins h.fee_pool (total (held asset.Native) m) coins;
 })
@@ -170,16 +135,16 @@ lone_accounts h seq a legal =
     let m = put empty e in
     let k = key.Account a.account_id in
     let there : get m k ≡ Some e = put_there empty e in
-    let book : (kind : Kind) → IsBooked kind m → stated_at kind (Some e) ≡ counted (view m) kind k e = λ kind booked.
-    sym (ap (stated_at kind) there) ∙ booked k ∙ one_total (counted (view m) kind k) e in
+    let aggregate : (kind : Kind) → IsAggregated kind m → stated_at kind (Some e) ≡ counted (view m) kind k e = λ kind aggregated.
+    sym (ap (stated_at kind) there) ∙ aggregated k ∙ one_total (counted (view m) kind k) e in
     record {
       header = legal.header;
       range = (legal.entries k e there).body;
       subentries = own_count (is_key k k) (length a.signers) a.num_sub_entries (same_itself k)
-          (book Subentries legal.subentries);
+          (aggregate Subentries legal.subentries);
       few = legal.few k e there;
-      selling = book Selling legal.selling;
-      buying = book Buying legal.buying;
+      selling = aggregate Selling legal.selling;
+      buying = aggregate Buying legal.buying;
       lumens = ap (λ n. n +ℤ h.fee_pool) (sym (one_total (held asset.Native) e)) ∙ legal.lumens;
     }
 
@@ -187,13 +152,13 @@ lone_accounts h seq a legal =
 
 chosen_there : (b : Bool) (e : LedgerEntry) (q k : LedgerKey) (o : Option LedgerEntry) → o ≡ None
     → eq_by_cmp key_cmp q k ≡ b → cond b (Some e) o ≢ None → q ≡ k
-chosen_there true e q k o none tied stands = same_keys q k tied
-chosen_there false e q k o none apart stands = absurd (stands none)
+chosen_there true e q k o none tied exists = same_keys q k tied
+chosen_there false e q k o none apart exists = absurd (exists none)
 
--- what stands beside nothing is the entry itself
+-- what is beside nothing is the entry itself
 alone : (e : LedgerEntry) (q : LedgerKey) → get (put empty e) q ≢ None → q ≡ key_of e
-alone e q stands = chosen_there (eq_by_cmp key_cmp q (key_of e)) e q (key_of e) (get empty q) (get-empty key_cmp q) refl
-    (λ none. stands (put_get empty e q ∙ none))
+alone e q exists = chosen_there (eq_by_cmp key_cmp q (key_of e)) e q (key_of e) (get empty q) (get-empty key_cmp q) refl
+    (λ none. exists (put_get empty e q ∙ none))
 
 module _ (P : LedgerKey → Type 0) (more rest : List LedgerKey) where
   first_passes : (o s : Option AccountId) → All P (account_keys o ++ account_keys s ++ more ++ rest) → (x : AccountId)
@@ -225,7 +190,7 @@ lone_entries h e legal =
     let there : get m (key_of e) ≡ Some e = put_there empty e in
     let signers = flat_map account_keys (signer_sponsors_in e.body) in
     let holding = holding_keys (pools_in m) e.body in
-    let needed = legal.standing (key_of e) e there in
+    let needed = legal.existing (key_of e) e there in
     let range = legal.entries (key_of e) e there in
     record {
       owner = λ id is. sym (alone e (key.Account id) (first_passes (λ q. get m q ≢ None) signers holding

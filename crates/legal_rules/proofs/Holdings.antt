@@ -1,47 +1,22 @@
 -- What entries hold of each asset after a change: how much more under each key.
-use Rattle.std.proofs.Common.{◌≡◌, refl, sym, ap, subst, ◌∙◌, Bool, true, false, cond, Option, Some, None, arith}
-use Rattle.std.proofs.lemmas.Int.{ints}
-use Rattle.std.specs.Prelude.{ℤ, pos, neg_ℤ, ◌+ℤ◌, if◌then◌else◌}
-use Rattle.std.specs.FinMap.{get}
-use Rattle.std.specs.Ordering.{is_eq}
-use Rattle.hash_ids.specs.ledger_types.declared.ids.AccountId.{AccountId}
-use Rattle.hash_ids.specs.ledger_types.declared.asset.Asset.{Asset}
+use Rattle.legal_rules.proofs.Prelude as prelude
+use prelude.{◌≡◌, refl, sym, ap, subst, ◌∙◌, Bool, true, false, cond, Option, Some, None, arith, ints, ℤ, pos, neg_ℤ}
+use prelude.{◌+ℤ◌, if◌then◌else◌, get, is_eq, AccountId, Asset, AccountEntry, LedgerEntry, LedgerEntryBody, LedgerKey}
+use prelude.{asset_cmp, key_of, key_of_body, EntryMap, put, erase, account_in, account_of, account_at, with_account}
+use prelude.{part, is_key, IsKeyed, none_more, both_more, under_key, for_one, Increase, HoldsMore, held, held_in}
+use prelude.{lumens_of, lumens_in, lumens_at, erase_get, put_get, add_zero, changes_add, if_add, if_zero, same_keys}
 use Rattle.hash_ids.specs.ledger_types.declared.asset.Asset.TheVariants as asset
-use Rattle.hash_ids.specs.ledger_types.declared.account.AccountEntry.{AccountEntry}
-use Rattle.hash_ids.specs.ledger_types.declared.entry.LedgerEntry.{LedgerEntry}
-use Rattle.hash_ids.specs.ledger_types.declared.entry.LedgerEntryBody.{LedgerEntryBody}
 use Rattle.hash_ids.specs.ledger_types.declared.entry.LedgerEntryBody.TheVariants as body
-use Rattle.hash_ids.specs.ledger_types.declared.key.LedgerKey.{LedgerKey}
 use Rattle.hash_ids.specs.ledger_types.declared.key.LedgerKey.TheVariants as key
-use Rattle.hash_ids.specs.ledger_types.KeyOrder.{asset_cmp}
-use Rattle.hash_ids.specs.ledger_types.Keys.{key_of, key_of_body}
-use Rattle.entry_sums.specs.entry_map.EntryMap.{EntryMap, put, erase}
-use Rattle.entry_sums.proofs.entry_map_proofs.KeyMaps.{same_keys}
-use Rattle.sponsor_laws.specs.entry_slots.Accounts.{account_in, account_of, account_at, with_account}
-use Rattle.entry_sums.specs.Sums.{part}
-use Rattle.entry_sums.proofs.Lookups.{put_get, erase_get}
-use Rattle.legal_rules.specs.EntryKeys.{is_key}
-use Rattle.legal_rules.specs.Holdings.{IsKeyed, none_more, both_more, under_key, for_one, Increase, HoldsMore}
-use Rattle.legal_rules.specs.Supply.{held, held_in, lumens_of}
 use Rattle.legal_rules.proofs.Steps.{account_entry, same_id_at, with_account_is, with_body}
-use Rattle.legal_rules.specs.Supply.{lumens_in, lumens_at}
-
-pub nothing_more : (n : ℤ) → n ≡ (n +ℤ pos 0)
-nothing_more n = omega (arith, ints)
 
 pub holds_itself : (m : EntryMap) → HoldsMore none_more m m
-holds_itself m k x = nothing_more (part (held x) (get m k))
-
-pub none_before : (n : ℤ) → (pos 0 +ℤ n) ≡ n
-none_before n = omega (arith, ints)
-
-in_a_row : (x y z d e : ℤ) → y ≡ (x +ℤ d) → z ≡ (y +ℤ e) → z ≡ (x +ℤ (d +ℤ e))
-in_a_row x y z d e first second = omega (arith, ints)
+holds_itself m k x = sym (add_zero (part (held x) (get m k)))
 
 pub holds_both : (d e : Increase) (old now new : EntryMap) → HoldsMore d old now → HoldsMore e now new
     → HoldsMore (both_more d e) old new
 holds_both d e old now new first second k x =
-    in_a_row (part (held x) (get old k)) (part (held x) (get now k)) (part (held x) (get new k)) (d k x) (e k x)
+    changes_add (part (held x) (get old k)) (part (held x) (get now k)) (part (held x) (get new k)) (d k x) (e k x)
     (first k x) (second k x)
 
 pub holds_as : (d e : Increase) (old new : EntryMap) → HoldsMore d old new
@@ -51,19 +26,12 @@ holds_as d e old new holds same k x = holds k x ∙ ap (λ n. part (held x) (get
 -- what holds as much as it did
 pub still_holds : (old new : EntryMap) → HoldsMore none_more old new → (k : LedgerKey) (x : Asset)
     → part (held x) (get new k) ≡ part (held x) (get old k)
-still_holds old new holds k x = holds k x ∙ sym (nothing_more (part (held x) (get old k)))
-
-same_none : (t : Bool) → (if t then pos 0 else pos 0) ≡ pos 0
-same_none true = refl
-same_none false = refl
-
-pub none_if : (t : Bool) (n : ℤ) → n ≡ pos 0 → (if t then n else pos 0) ≡ pos 0
-none_if t n none = ap (λ k. if t then k else pos 0) none ∙ same_none t
+still_holds old new holds k x = holds k x ∙ add_zero (part (held x) (get old k))
 
 -- none under a key
 pub none_under : (at : LedgerKey) (amounts : Asset → ℤ) → ((x : Asset) → amounts x ≡ pos 0) → (k : LedgerKey)
     (x : Asset) → under_key at amounts k x ≡ none_more k x
-none_under at amounts none k x = none_if (is_key k at) (amounts x) (none x)
+none_under at amounts none k x = if_zero (is_key k at) (amounts x) (none x)
 
 -- ---- an entry that is put or erased
 
@@ -76,14 +44,14 @@ put_holds m e amounts is k x =
     ≡ (part (held x) (get m k) +ℤ (if b then amounts x else pos 0))) [
       | true ↦ λ tied. is x
           ∙ ap (λ q. part (held x) (get m q) +ℤ amounts x) (sym (same_keys k (key_of e) tied))
-      | false ↦ λ apart. nothing_more (part (held x) (get m k))
+      | false ↦ λ apart. sym (add_zero (part (held x) (get m k)))
     ] refl
 
 -- an entry in the place of one that holds as much
 pub put_same : (m : EntryMap) (e : LedgerEntry) → ((x : Asset) → held x e ≡ part (held x) (get m (key_of e)))
     → HoldsMore none_more m (put m e)
 put_same m e same = holds_as (under_key (key_of e) (λ x. pos 0)) none_more m (put m e)
-    (put_holds m e (λ x. pos 0) (λ x. same x ∙ nothing_more (part (held x) (get m (key_of e)))))
+    (put_holds m e (λ x. pos 0) (λ x. same x ∙ sym (add_zero (part (held x) (get m (key_of e))))))
     (none_under (key_of e) (λ x. pos 0) (λ x. refl))
 
 pub erase_holds : (m : EntryMap) (at : LedgerKey) (amounts : Asset → ℤ)
@@ -93,7 +61,7 @@ erase_holds m at amounts is k x =
     ∙ elim (is_key k at) as (λ b. is_key k at ≡ b → part (held x) (cond b None (get m k))
     ≡ (part (held x) (get m k) +ℤ (if b then amounts x else pos 0))) [
       | true ↦ λ tied. sym (is x) ∙ ap (λ q. part (held x) (get m q) +ℤ amounts x) (sym (same_keys k at tied))
-      | false ↦ λ apart. nothing_more (part (held x) (get m k))
+      | false ↦ λ apart. sym (add_zero (part (held x) (get m k)))
     ] refl
 
 -- what is held, less as much
@@ -105,42 +73,37 @@ cancelled false n = refl
 
 pub no_lumens_more : (id : AccountId) (k : LedgerKey) (x : Asset) → for_one id (pos 0) k x ≡ none_more k x
 no_lumens_more id = none_under (key.Account id) (λ x. lumens_of x (pos 0))
-    (λ x. none_if (is_eq (asset_cmp x asset.Native)) (pos 0) refl)
-
-more_lumens : (t : Bool) (n k : ℤ)
-    → (if t then n +ℤ k else pos 0) ≡ ((if t then n else pos 0) +ℤ (if t then k else pos 0))
-more_lumens true n k = refl
-more_lumens false n k = refl
+    (λ x. if_zero (is_eq (asset_cmp x asset.Native)) (pos 0) refl)
 
 module _ (m : EntryMap) (keyed : IsKeyed m) (id : AccountId) (f : AccountEntry → AccountEntry) (a : AccountEntry)
-    (stands : account_at m id ≡ Some a) (more : ℤ) (named : (f a).account_id ≡ a.account_id)
+    (exists : account_at m id ≡ Some a) (more : ℤ) (named : (f a).account_id ≡ a.account_id)
     (balance : (f a).balance ≡ (a.balance +ℤ more)) where
   its_id : (f a).account_id ≡ id
-  its_id = named ∙ same_id_at m id a keyed stands
+  its_id = named ∙ same_id_at m id a keyed exists
 
-  -- An account that stands is changed, and has so much more.
+  -- An account that exists is changed, and has so much more.
   pub account_holds : HoldsMore (for_one id more) m (with_account m id f)
   account_holds =
-      let found = account_entry m id a stands in
+      let found = account_entry m id a exists in
       let e = with_body found.0 (f a) in
       subst (λ n. HoldsMore (for_one id more) m n) (sym (with_account_is m id f a found.0 found.1))
       (subst (λ q. HoldsMore (for_one q more) m (put m e)) its_id
       (put_holds m e (λ x. lumens_of x more) (λ x. ap (lumens_of x) balance
-      ∙ more_lumens (is_eq (asset_cmp x asset.Native)) a.balance more
+      ∙ if_add (is_eq (asset_cmp x asset.Native)) a.balance more
       ∙ ap (λ n. n +ℤ lumens_of x more) (sym (had x)))))
     where
       had : (x : Asset) → part (held x) (get m (key.Account (f a).account_id)) ≡ lumens_of x a.balance
       had x =
-          let found = account_entry m id a stands in
+          let found = account_entry m id a exists in
           ap (λ q. part (held x) (get m (key.Account q))) its_id ∙ ap (part (held x)) found.1.there
           ∙ ap (held_in x) found.1.is
 
--- An account that stands is changed, and has what it had.
+-- An account that exists is changed, and has what it had.
 pub account_same : (m : EntryMap) → IsKeyed m → (id : AccountId) (f : AccountEntry → AccountEntry) (a : AccountEntry)
     → account_at m id ≡ Some a → (f a).account_id ≡ a.account_id → (f a).balance ≡ a.balance
     → HoldsMore none_more m (with_account m id f)
-account_same m keyed id f a stands named same = holds_as (for_one id (pos 0)) none_more m (with_account m id f)
-    (account_holds m keyed id f a stands (pos 0) named (same ∙ nothing_more a.balance)) (no_lumens_more id)
+account_same m keyed id f a exists named same = holds_as (for_one id (pos 0)) none_more m (with_account m id f)
+    (account_holds m keyed id f a exists (pos 0) named (same ∙ sym (add_zero a.balance))) (no_lumens_more id)
 
 lumens_of_body : (of : LedgerEntryBody) (id : AccountId) → key_of_body of ≡ key.Account id
     → lumens_in (account_in of) ≡ held_in asset.Native of

@@ -1,36 +1,16 @@
 -- Entries that are added and removed, by sponsor_rules' definitions.
-use Rattle.std.proofs.Common.{length, ◌≡◌, refl, sym, ap, subst, ◌∙◌, ℕ, List, Option, Some, None, Ok}
-use Rattle.std.proofs.Common.{arith}
-use Rattle.std.proofs.lemmas.Int.{ints}
-use Rattle.std.specs.Prelude.{ℤ, pos, neg_ℤ, ◌+ℤ◌, ◌-ℤ◌, ◌≤ℤ◌}
-use Rattle.std.specs.FinMap.{get}
-use Rattle.hash_ids.specs.ledger_types.declared.ids.AccountId.{AccountId}
-use Rattle.hash_ids.specs.ledger_types.declared.data_entry.DataEntry.{DataEntry}
-use Rattle.hash_ids.specs.ledger_types.declared.header.LedgerHeader.{LedgerHeader}
-use Rattle.hash_ids.specs.ledger_types.declared.entry.LedgerEntry.{LedgerEntry}
-use Rattle.hash_ids.specs.ledger_types.declared.entry.LedgerEntryBody.{LedgerEntryBody}
+use Rattle.legal_rules.proofs.Prelude as prelude
+use prelude.{length, ◌≡◌, refl, sym, ap, subst, ◌∙◌, ℕ, List, Option, Some, None, Ok, arith, pos, neg_ℤ, ◌+ℤ◌, ◌-ℤ◌}
+use prelude.{get, AccountId, DataEntry, LedgerHeader, LedgerEntry, LedgerEntryBody, LedgerKey, key_of_body, EntryMap}
+use prelude.{account_in, sponsor_of, map_after_adding, map_after_adding_by, payer_of, map_without_charge}
+use prelude.{map_after_removing_entry, erase, is_key, Kind, Subentries, Sponsoring, Sponsored, View, held, held_in}
+use prelude.{view, pools_in, IsLegal, weighed, nothing_owed, plus, less, beside_reserves, IsEntryLegal, IsLegalOwing}
+use prelude.{SubentryAdded, BalanceAdded, AccountAdded, SubentryRemoved, BalanceRemoved, EntryMoved, new_data}
+use prelude.{AddingDataKeeps, RemovingDataKeeps, MovingKeeps, charge_of, add_neg_zero, add_zero, add_zero_at_most}
+use prelude.{zero_sub_zero, zeros_add_to_zero}
 use Rattle.hash_ids.specs.ledger_types.declared.entry.LedgerEntryBody.TheVariants as body
-use Rattle.hash_ids.specs.ledger_types.declared.key.LedgerKey.{LedgerKey}
 use Rattle.hash_ids.specs.ledger_types.declared.key.LedgerKey.TheVariants as key
-use Rattle.hash_ids.specs.ledger_types.Keys.{key_of_body}
-use Rattle.entry_sums.specs.entry_map.EntryMap.{EntryMap}
-use Rattle.sponsor_laws.specs.entry_slots.Accounts.{account_in}
-use Rattle.sponsor_laws.specs.entry_slots.EntrySponsor.{sponsor_of}
-use Rattle.sponsor_laws.specs.sponsor_rules.Adding.{map_after_adding, map_after_adding_by}
-use Rattle.sponsor_laws.specs.sponsor_rules.Payers.{payer_of}
-use Rattle.sponsor_laws.specs.sponsor_rules.Removing.{map_without_charge, map_after_removing_entry}
-use Rattle.entry_sums.specs.entry_map.EntryMap.{erase}
-use Rattle.legal_rules.specs.EntryKeys.{is_key}
-use Rattle.legal_rules.specs.Books.{Kind, Subentries, Sponsoring, Sponsored, View}
-use Rattle.legal_rules.specs.Supply.{held, held_in}
-use Rattle.legal_rules.specs.Legal.{view, pools_in, IsLegal}
-use Rattle.legal_rules.specs.Owing.{weighed, nothing_owed, plus, less, beside_reserves, IsEntryLegal, IsLegalOwing}
-use Rattle.legal_rules.specs.EntryLaws.{SubentryAdded, BalanceAdded, AccountAdded, SubentryRemoved, BalanceRemoved}
-use Rattle.legal_rules.specs.EntryLaws.{EntryMoved, new_data, AddingDataKeeps, RemovingDataKeeps, MovingKeeps}
-use Rattle.sponsor_laws.specs.sponsor_rules.Charge.{charge_of}
 use Rattle.sponsor_laws.specs.sponsor_rules.declared.charge.Charge.TheVariants as charge
-use Rattle.hash_ids.specs.ledger_types.declared.entry.LedgerEntryBody.{LedgerEntryBody}
-use Rattle.legal_rules.specs.Supply.{held_in}
 use Rattle.legal_rules.proofs.Adding.{subentry_added}
 use Rattle.legal_rules.proofs.Balances.{balance_added, balance_removed}
 use Rattle.legal_rules.proofs.NewAccounts.{account_added}
@@ -45,7 +25,7 @@ use Rattle.legal_rules.proofs.Numbers.{nothing_less}
 -- ---- within a transaction
 
 pub subentry_added_so : SubentryAdded
-subentry_added_so v id_pool next owed sum ctx owner n entry old new legal is fresh wide range stands ready done =
+subentry_added_so v id_pool next owed sum ctx owner n entry old new legal is fresh wide range exists ready done =
     subentry_added v id_pool next owed sum ctx owner entry n old legal (record {
       subentry = subentry_of entry.body owner n is;
       free = fresh.free;
@@ -53,17 +33,17 @@ subentry_added_so v id_pool next owed sum ctx owner n entry old new legal is fre
       legal = range;
       wide = wide;
       offers = fresh.id_free;
-      owner_stands = stands;
+      owner_exists = exists;
       ready = ready;
     }) new (sym (ap (λ c. map_after_adding_by ctx owner entry c (account_in entry.body) old) is) ∙ done)
 
 pub balance_added_so : BalanceAdded
-balance_added_so v id_pool owed sum ctx owner b entry old new legal is fresh range stands done =
+balance_added_so v id_pool owed sum ctx owner b entry old new legal is fresh range exists done =
     let charged : charge_of entry.body ≡ charge.Payer (length b.claimants) = ap charge_of is in
     subst (λ (x : LedgerEntryBody). IsLegalOwing v id_pool owed (sum +ℤ held_in v.asset x) new) is
     (balance_added v id_pool owed sum ctx entry (payer_of ctx owner) (length b.claimants) old new legal charged
     fresh.free
-    range stands (sym (ap (λ c. map_after_adding_by ctx owner entry c (account_in entry.body) old) charged) ∙ done))
+    range exists (sym (ap (λ c. map_after_adding_by ctx owner entry c (account_in entry.body) old) charged) ∙ done))
 
 pub account_added_so : AccountAdded
 account_added_so v id_pool owed sum ctx a entry old new legal is bare fresh range ready done =
@@ -89,37 +69,28 @@ balance_removed_so v id_pool owed sum n k entry m legal settled there is =
     (balance_removed v id_pool owed sum m k entry n legal settled there is)
 
 pub entry_moved_so : EntryMoved
-entry_moved_so v id_pool owed sum ctx k payer old new legal settled stands done =
-    moved v id_pool owed sum old legal settled k ctx payer stands new done
+entry_moved_so v id_pool owed sum ctx k payer old new legal settled exists done =
+    moved v id_pool owed sum old legal settled k ctx payer exists new done
 
--- ---- whole changes
+-- ---- complete changes
 
 pub moving_keeps : MovingKeeps
-moving_keeps h ctx k payer old new legal stands done =
+moving_keeps h ctx k payer old new legal exists done =
     legal_of h (pools_in old) new legal.header
     (moved (view old) h.id_pool nothing_owed (h.total_coins -ℤ h.fee_pool) old
     (owing_nothing h old legal) nothing_settled
-    k ctx payer stands new done)
+    k ctx payer exists new done)
 
-as_nothing : (t : ℤ) → t ≡ pos 0 → (pos 0 +ℤ t) ≡ pos 0
-as_nothing t none = omega (arith, ints)
-
--- data counts in no book beside its reserve
-data_settled : (v : View) (e : LedgerEntry) (d : DataEntry) (kind : Kind) (k : LedgerKey)
+-- data counts in no aggregate beside its reserve
+pub data_settled : (v : View) (e : LedgerEntry) (d : DataEntry) (kind : Kind) (k : LedgerKey)
     → beside_reserves (weighed v (record e { body = body.Data d })) kind k ≡ pos 0
 data_settled v e d Subentries k = refl
 data_settled v e d Sponsoring k = refl
 data_settled v e d Sponsored k = refl
 data_settled v e d kind k = nothing_less (is_key (key_of_body (body.Data d)) k)
 
-plus_zero : (x : ℤ) → (x +ℤ pos 0) ≡ x
-plus_zero x = omega (arith, ints)
-
-pub plus_none : (x : ℤ) → x ≤ℤ pos 1 → (x +ℤ pos 0) ≤ℤ pos 1
-plus_none x le = omega (arith, ints)
-
 pub adding_data_keeps : AddingDataKeeps
-adding_data_keeps h ctx seq d old new legal range free stands ready done =
+adding_data_keeps h ctx seq d old new legal range free exists ready done =
     let coins = h.total_coins -ℤ h.fee_pool in
     let entry = new_data seq d in
     legal_of h (pools_in old) new legal.header
@@ -128,21 +99,15 @@ adding_data_keeps h ctx seq d old new legal range free stands ready done =
     (owing_nothing h old legal) refl (record {
       free = free;
       unsponsored = refl;
-      id_free = λ id. plus_none _ (legal.offers id);
+      id_free = λ id. add_zero_at_most _ (pos 1) (legal.offers id);
     }) (omega arith) (record {
       range = record { body = range; paid = λ some. absurd (some refl) };
       bound = tt;
       few = tt;
       fits = tt;
       filled = tt;
-    }) stands ready done)
-    (λ kind k. as_nothing _ (data_settled (view old) entry d kind k)) (plus_zero coins))
-
-none_taken : (x : ℤ) → x ≡ pos 0 → (pos 0 +ℤ neg_ℤ x) ≡ pos 0
-none_taken x none = omega (arith, ints)
-
-pub minus_zero : (x : ℤ) → (x +ℤ neg_ℤ (pos 0)) ≡ x
-minus_zero x = omega (arith, ints)
+    }) exists ready done)
+    (λ kind k. zeros_add_to_zero (pos 0) _ refl (data_settled (view old) entry d kind k)) (add_zero coins))
 
 module _ (h : LedgerHeader) (m : EntryMap) (legal : IsLegal h m) (id : AccountId) (name : List ℕ) where
   abbrev its_key : LedgerKey
@@ -159,7 +124,7 @@ module _ (h : LedgerHeader) (m : EntryMap) (legal : IsLegal h m) (id : AccountId
       (legal_of h (pools_in m) _ legal.header (legal_as (view m) (IsEntryLegal h.id_pool) _ nothing_owed _ coins _
       (subentry_removed (view m) h.id_pool nothing_owed coins m (owing_nothing h m legal) nothing_settled d.account_id 1
       its_key e' there' (subentry_of (body.Data d) d.account_id 1 refl))
-      (λ kind k. none_taken _ (data_settled (view m) e d kind k)) (minus_zero coins)))
+      (λ kind k. zero_sub_zero _ (data_settled (view m) e d kind k)) (add_neg_zero coins)))
   by_body e other is there own = absurd (cc)
 
   by_entry : (o : Option LedgerEntry) → get m its_key ≡ o → IsLegal h (map_after_removing_entry its_key m o)

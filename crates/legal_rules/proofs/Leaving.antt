@@ -1,33 +1,16 @@
--- What a change leaves of a map: what each entry holds, which accounts stand, and what is available of each.
-use Rattle.std.proofs.Common.{◌≡◌, ◌⊎◌, inl, inr, refl, sym, ap, subst, ◌∙◌, ℕ, true, false}
-use Rattle.std.proofs.Common.{Option, Some, None, arith}
-use Rattle.std.proofs.lemmas.Int.{ints}
-use Rattle.std.specs.Prelude.{ℤ, pos, ◌+ℤ◌, ◌≤ℤ◌}
-use Rattle.std.specs.FinMap.{get}
-use Rattle.hash_ids.specs.ledger_types.declared.ids.AccountId.{AccountId}
-use Rattle.hash_ids.specs.ledger_types.declared.asset.Asset.{Asset}
-use Rattle.hash_ids.specs.ledger_types.declared.account.AccountEntry.{AccountEntry}
-use Rattle.hash_ids.specs.ledger_types.declared.entry.LedgerEntry.{LedgerEntry}
-use Rattle.hash_ids.specs.ledger_types.declared.entry.LedgerEntryBody.{LedgerEntryBody}
+-- What a change leaves of a map: what each entry holds, which accounts exist, and what is available of each.
+use Rattle.legal_rules.proofs.Prelude.{◌≡◌, ◌⊎◌, inl, inr, refl, sym, ap, subst, ◌∙◌, ℕ, true, false, Option, Some}
+use Rattle.legal_rules.proofs.Prelude.{None, arith, ints, ℤ, pos, ◌+ℤ◌, ◌≤ℤ◌, get, AccountId, Asset, AccountEntry}
+use Rattle.legal_rules.proofs.Prelude.{LedgerEntry, LedgerEntryBody, LedgerKey, key_of, EntryMap, put, same_itself}
+use Rattle.legal_rules.proofs.Prelude.{account_in, account_of, account_at, with_account, with_account_in}
+use Rattle.legal_rules.proofs.Prelude.{with_account_of, HasAccount, put_each, available, is_same_account, same_account}
+use Rattle.legal_rules.proofs.Prelude.{apart_accounts, is_key, IsKeyed, Increase, none_more, both_more, for_one}
+use Rattle.legal_rules.proofs.Prelude.{HoldsMore, IsCoveredBy, IsAfter, put_elsewhere, put_there, zero_add, same_keys}
 use Rattle.hash_ids.specs.ledger_types.declared.entry.LedgerEntryBody.TheVariants as body
-use Rattle.hash_ids.specs.ledger_types.declared.key.LedgerKey.{LedgerKey}
 use Rattle.hash_ids.specs.ledger_types.declared.key.LedgerKey.TheVariants as key
-use Rattle.hash_ids.specs.ledger_types.Keys.{key_of}
-use Rattle.entry_sums.specs.entry_map.EntryMap.{EntryMap, put}
-use Rattle.entry_sums.proofs.entry_map_proofs.KeyMaps.{same_keys, same_itself}
-use Rattle.sponsor_laws.specs.entry_slots.Accounts.{account_in, account_of, account_at, with_account, with_account_in}
-use Rattle.sponsor_laws.specs.entry_slots.Accounts.{with_account_of}
-use Rattle.sponsor_laws.specs.entry_slots.Accounts.{HasAccount}
-use Rattle.entry_sums.proofs.Lookups.{put_each, put_there, put_elsewhere}
-use Rattle.sponsor_laws.specs.reserve_rules.Reserve.{available}
-use Rattle.sponsor_laws.specs.sponsor_rules.Payers.{is_same_account}
-use Rattle.sponsor_laws.proofs.sponsor_rules_proofs.Ids.{same_account, apart_accounts}
-use Rattle.legal_rules.specs.EntryKeys.{is_key}
-use Rattle.legal_rules.proofs.Places.{account_after, account_elsewhere}
+use Rattle.legal_rules.proofs.Indices.{account_after, account_elsewhere}
 use Rattle.legal_rules.proofs.Steps.{account_entry, with_account_is, with_body}
-use Rattle.legal_rules.specs.Holdings.{IsKeyed, Increase, none_more, both_more, for_one, HoldsMore}
-use Rattle.legal_rules.specs.Holdings.{IsCoveredBy, IsAfter}
-use Rattle.legal_rules.proofs.Holdings.{none_before, holds_itself, holds_both, holds_as, no_lumens_more}
+use Rattle.legal_rules.proofs.Holdings.{holds_itself, holds_both, holds_as, no_lumens_more}
 use Rattle.legal_rules.proofs.Holdings.{account_holds}
 
 -- ---- one account
@@ -51,18 +34,18 @@ module _ (base : ℕ) (old now new : Option AccountEntry) (first : IsAfter base 
 
 -- ---- all accounts
 
--- Each entry holds so much more, each account is covered, and who stood stands.
+-- Each entry holds so much more, each account is covered, and who existed still exists.
 pub record Leaves (base : ℕ) (more : Increase) (old new : EntryMap) : Type 0 where
   pub each : (id : AccountId) → IsAfter base (account_at old id) (account_at new id)
   pub holds : HoldsMore more old new
-  pub stand : (id : AccountId) → HasAccount old id → HasAccount new id
+  pub exist : (id : AccountId) → HasAccount old id → HasAccount new id
   pub keyed : IsKeyed new
 
 pub leaves_itself : (base : ℕ) (m : EntryMap) → IsKeyed m → Leaves base none_more m m
 leaves_itself base m keyed = record {
   each = λ id. is_itself_after base (account_at m id);
   holds = holds_itself m;
-  stand = λ id stands. stands;
+  exist = λ id exists. exists;
   keyed = keyed;
 }
 
@@ -72,7 +55,7 @@ leaves_both base d e old now new first second = record {
   each = λ id. after_both base (account_at old id) (account_at now id) (account_at new id) (first.each id)
       (second.each id);
   holds = holds_both d e old now new first.holds second.holds;
-  stand = λ id stands. second.stand id (first.stand id stands);
+  exist = λ id exists. second.exist id (first.exist id exists);
   keyed = second.keyed;
 }
 
@@ -81,7 +64,7 @@ pub leaves_as : (base : ℕ) (d e : Increase) (old new : EntryMap) → Leaves ba
 leaves_as base d e old new leaves same = record {
   each = leaves.each;
   holds = holds_as d e old new leaves.holds same;
-  stand = leaves.stand;
+  exist = leaves.exist;
   keyed = leaves.keyed;
 }
 
@@ -91,11 +74,11 @@ pub keeps_both : (base : ℕ) (old now new : EntryMap) → Leaves base none_more
 keeps_both base old now new first second = leaves_as base (both_more none_more none_more) none_more old new
     (leaves_both base none_more none_more old now new first second) (λ k x. refl)
 
--- a change behind one by which no entry holds more
+-- a change after one by which no entry holds more
 pub keeps_then : (base : ℕ) (d : Increase) (old now new : EntryMap) → Leaves base none_more old now
     → Leaves base d now new → Leaves base d old new
 keeps_then base d old now new first second = leaves_as base (both_more none_more d) d old new
-    (leaves_both base none_more d old now new first second) (λ k x. none_before (d k x))
+    (leaves_both base none_more d old now new first second) (λ k x. zero_add (d k x))
 
 -- no account changes
 pub accounts_kept : (base : ℕ) (more : Increase) (old new : EntryMap) → IsKeyed new
@@ -104,7 +87,7 @@ accounts_kept base more old new keyed same holds = record {
   each = λ id. subst (λ o. IsAfter base (account_at old id) o) (sym (same id))
       (is_itself_after base (account_at old id));
   holds = holds;
-  stand = λ id stands. (stands.0, same id ∙ stands.1);
+  exist = λ id exists. (exists.0, same id ∙ exists.1);
   keyed = keyed;
 }
 
@@ -128,16 +111,16 @@ next_after base more was a next = record {
 }
 
 module _ (base : ℕ) (more : ℤ) (m : EntryMap) (keyed : IsKeyed m) (id : AccountId) (f : AccountEntry → AccountEntry)
-    (a : AccountEntry) (stands : account_at m id ≡ Some a) (next : IsNext base more a (f a)) where
+    (a : AccountEntry) (exists : account_at m id ≡ Some a) (next : IsNext base more a (f a)) where
   abbrev new : EntryMap
   new = with_account m id f
 
   here : account_at new id ≡ Some (f a)
-  here = account_after m id f a keyed stands next.id
+  here = account_after m id f a keyed exists next.id
 
   still_keyed : IsKeyed new
   still_keyed =
-      let found = account_entry m id a stands in
+      let found = account_entry m id a exists in
       subst IsKeyed (sym (with_account_is m id f a found.0 found.1))
       (put_each (λ k e. key_of e ≡ k) m (with_body found.0 (f a)) keyed refl)
 
@@ -147,29 +130,29 @@ module _ (base : ℕ) (more : ℤ) (m : EntryMap) (keyed : IsKeyed m) (id : Acco
         | true ↦ λ is.
             let same = same_account id other is in
             subst (λ x. IsAfter base (account_at m x) (account_at new x)) same
-            (subst (λ o. IsAfter base o (account_at new id)) (sym stands)
+            (subst (λ o. IsAfter base o (account_at new id)) (sym exists)
             (subst (λ o. IsAfter base (Some a) o) (sym here) (next_after base more a (f a) next)))
         | false ↦ λ is.
             let apart = apart_accounts id other is in
             subst (λ o. IsAfter base (account_at m other) o)
-            (sym (account_elsewhere m id f a keyed stands next.id other (λ same. apart (sym same))))
+            (sym (account_elsewhere m id f a keyed exists next.id other (λ same. apart (sym same))))
             (is_itself_after base (account_at m other))
       ] refl
 
-  stand_at : (other : AccountId) → HasAccount m other → HasAccount new other
-  stand_at other there = elim (is_same_account id other) as (λ b. is_same_account id other ≡ b → HasAccount new other) [
+  exist_at : (other : AccountId) → HasAccount m other → HasAccount new other
+  exist_at other there = elim (is_same_account id other) as (λ b. is_same_account id other ≡ b → HasAccount new other) [
     | true ↦ λ is. (f a, ap (account_at new) (sym (same_account id other is)) ∙ here)
     | false ↦ λ is.
         let apart = apart_accounts id other is in
-        (there.0, account_elsewhere m id f a keyed stands next.id other (λ same. apart (sym same)) ∙ there.1)
+        (there.0, account_elsewhere m id f a keyed exists next.id other (λ same. apart (sym same)) ∙ there.1)
   ] refl
 
-  -- An account that stands is changed.
+  -- An account that exists is changed.
   pub account_changed : Leaves base (for_one id more) m new
   account_changed = record {
     each = at;
-    holds = account_holds m keyed id f a stands more next.id next.balance;
-    stand = stand_at;
+    holds = account_holds m keyed id f a exists more next.id next.balance;
+    exist = exist_at;
     keyed = still_keyed;
   }
 
@@ -178,18 +161,18 @@ no_account_in : (m : EntryMap) (e : LedgerEntry) (f : AccountEntry → AccountEn
 no_account_in m e f (body.Account a) none = absurd (cc)
 no_account_in m e f other none = refl
 
-no_account_of : (m : EntryMap) (f : AccountEntry → AccountEntry) (o : Option LedgerEntry) → account_of o ≡ None
+pub no_account_of : (m : EntryMap) (f : AccountEntry → AccountEntry) (o : Option LedgerEntry) → account_of o ≡ None
     → with_account_of m f o ≡ m
 no_account_of m f None none = refl
 no_account_of m f (Some e) none = no_account_in m e f e.body none
 
--- an account that doesn't stand isn't changed
+-- an account that doesn't exist isn't changed
 pub no_account_changed : (m : EntryMap) (id : AccountId) (f : AccountEntry → AccountEntry) → account_at m id ≡ None
     → with_account m id f ≡ m
 unfolding account_at with_account
 no_account_changed m id f none = no_account_of m f (get m (key.Account id)) none
 
--- an account is changed, if it stands
+-- an account is changed, if it exists
 pub account_kept : (base : ℕ) (m : EntryMap) → IsKeyed m → (id : AccountId) (f : AccountEntry → AccountEntry)
     → ((a : AccountEntry) → account_at m id ≡ Some a → IsNext base (pos 0) a (f a))
     → Leaves base none_more m (with_account m id f)
@@ -197,8 +180,8 @@ account_kept base m keyed id f next =
     elim (account_at m id) as (λ o. account_at m id ≡ o → Leaves base none_more m (with_account m id f)) [
       | None ↦ λ none. subst (Leaves base none_more m) (sym (no_account_changed m id f none))
           (leaves_itself base m keyed)
-      | Some a ↦ λ stands. leaves_as base (for_one id (pos 0)) none_more m (with_account m id f)
-          (account_changed base (pos 0) m keyed id f a stands (next a stands))
+      | Some a ↦ λ exists. leaves_as base (for_one id (pos 0)) none_more m (with_account m id f)
+          (account_changed base (pos 0) m keyed id f a exists (next a exists))
           (no_lumens_more id)
     ] refl
 

@@ -1,40 +1,27 @@
--- The two forms of legality: by what entries state, and by what books owe.
-use Rattle.std.proofs.Common.{◌≡◌, refl, sym, ap, subst, ◌∙◌, ℕ}
-use Rattle.std.specs.Prelude.{ℤ, pos, ◌-ℤ◌, if◌then◌else◌}
-use Rattle.std.specs.FinMap.{get}
-use Rattle.hash_ids.specs.ledger_types.declared.asset.Asset.{Asset}
+-- The two forms of legality: by what entries state, and by what aggregates owe.
+use Rattle.legal_rules.proofs.Prelude.{◌≡◌, refl, sym, ap, subst, ◌∙◌, ℕ, ℤ, pos, ◌-ℤ◌, if◌then◌else◌, get, Asset}
+use Rattle.legal_rules.proofs.Prelude.{LedgerHeader, LedgerEntry, LedgerKey, key_of, EntryMap, total, Kind, Subentries}
+use Rattle.legal_rules.proofs.Prelude.{Sponsoring, Sponsored, Selling, Buying, Shares, ShareLines, Uses, View, counted}
+use Rattle.legal_rules.proofs.Prelude.{stated, stated_at, is_key, Pools, uses, held, IsHeaderInRange, view, pools_in}
+use Rattle.legal_rules.proofs.Prelude.{IsAggregated, IsLegal, weight, nothing_owed, IsLegalOwing, AreEntriesLegal}
 use Rattle.hash_ids.specs.ledger_types.declared.asset.Asset.TheVariants as asset
-use Rattle.hash_ids.specs.ledger_types.declared.header.LedgerHeader.{LedgerHeader}
-use Rattle.hash_ids.specs.ledger_types.declared.entry.LedgerEntry.{LedgerEntry}
-use Rattle.hash_ids.specs.ledger_types.declared.key.LedgerKey.{LedgerKey}
-use Rattle.hash_ids.specs.ledger_types.Keys.{key_of}
-use Rattle.entry_sums.specs.entry_map.EntryMap.{EntryMap}
-use Rattle.entry_sums.specs.Sums.{total}
-use Rattle.legal_rules.specs.Books.{Kind, Subentries, Sponsoring, Sponsored, Selling, Buying, Shares, ShareLines, Uses}
-use Rattle.legal_rules.specs.Books.{View, counted, stated, stated_at}
-use Rattle.legal_rules.specs.EntryKeys.{is_key}
-use Rattle.legal_rules.specs.PoolShares.{Pools, uses}
-use Rattle.legal_rules.specs.Supply.{held}
-use Rattle.legal_rules.specs.Headers.{IsHeaderInRange}
-use Rattle.legal_rules.specs.Legal.{view, pools_in, IsBooked, IsLegal}
-use Rattle.legal_rules.specs.Owing.{weight, nothing_owed, IsLegalOwing, AreEntriesLegal}
-use Rattle.legal_rules.proofs.Numbers.{booked, owes_nothing, taken_off, put_on}
+use Rattle.legal_rules.proofs.Numbers.{aggregated, owes_nothing, taken_off, put_on}
 use Rattle.legal_rules.proofs.Weighing.{total_weight}
-use Rattle.legal_rules.proofs.Needed.{needs_stand}
+use Rattle.legal_rules.proofs.Needed.{needs_exist}
 use Rattle.legal_rules.proofs.Authorized.{bound_rightly, lines_authorized}
 
--- each book
-pub all_booked : (h : LedgerHeader) (m : EntryMap) → IsLegal h m → (kind : Kind) → IsBooked kind m
-all_booked h m legal Subentries = legal.subentries
-all_booked h m legal Sponsoring = legal.sponsoring
-all_booked h m legal Sponsored = legal.sponsored
-all_booked h m legal Selling = legal.selling
-all_booked h m legal Buying = legal.buying
-all_booked h m legal Shares = legal.shares
-all_booked h m legal ShareLines = legal.share_lines
-all_booked h m legal Uses = legal.uses
+-- each aggregate
+pub all_aggregated : (h : LedgerHeader) (m : EntryMap) → IsLegal h m → (kind : Kind) → IsAggregated kind m
+all_aggregated h m legal Subentries = legal.subentries
+all_aggregated h m legal Sponsoring = legal.sponsoring
+all_aggregated h m legal Sponsored = legal.sponsored
+all_aggregated h m legal Selling = legal.selling
+all_aggregated h m legal Buying = legal.buying
+all_aggregated h m legal Shares = legal.shares
+all_aggregated h m legal ShareLines = legal.share_lines
+all_aggregated h m legal Uses = legal.uses
 
--- a view of an asset, with the pools that stand
+-- a view of an asset, with the pools that exist
 abbrev pub view_of : Asset → EntryMap → View
 view_of x m = record { pools = pools_in m; asset = x }
 
@@ -52,7 +39,7 @@ owing_nothing_of x h m legal = record {
     filled = legal.filled k e there;
   };
   offers = legal.offers;
-  books = λ kind k. owes_nothing _ _ _ (total_weight (view_of x m) kind m k legal.keyed) (same_booked kind k);
+  aggregates = λ kind k. owes_nothing _ _ _ (total_weight (view_of x m) kind m k legal.keyed) (same_aggregated kind k);
   supply = refl;
 }
   where
@@ -61,8 +48,8 @@ owing_nothing_of x h m legal = record {
     same_counted Subentries k e = refl
     same_counted other k e = refl
 
-    same_booked : (kind : Kind) (k : LedgerKey) → stated_at kind (get m k) ≡ total (counted (view_of x m) kind k) m
-    same_booked kind k = all_booked h m legal kind k ∙ ap (λ f. total f m) (λ i e. same_counted kind k e i)
+    same_aggregated : (kind : Kind) (k : LedgerKey) → stated_at kind (get m k) ≡ total (counted (view_of x m) kind k) m
+    same_aggregated kind k = all_aggregated h m legal kind k ∙ ap (λ f. total f m) (λ i e. same_counted kind k e i)
 
 pub owing_nothing : (h : LedgerHeader) (m : EntryMap) → IsLegal h m
     → IsLegalOwing (view m) h.id_pool nothing_owed (h.total_coins -ℤ h.fee_pool) m
@@ -78,16 +65,16 @@ pub legal_of : (h : LedgerHeader) (pools : Pools) (m : EntryMap) → IsHeaderInR
     → IsLegalOwing (viewed pools) h.id_pool nothing_owed (h.total_coins -ℤ h.fee_pool) m → IsLegal h m
 legal_of h pools m header legal =
     let known : pools_in m ≡ pools = λ i id. legal.params id i in
-    let sums : (kind : Kind) → IsBooked kind m = λ kind k.
+    let sums : (kind : Kind) → IsAggregated kind m = λ kind k.
     subst (λ p. stated_at kind (get m k) ≡ total (counted (viewed p) kind k) m) (sym known)
-    (booked _ _ _ (total_weight (viewed pools) kind m k legal.keyed) (legal.books kind k)) in
+    (aggregated _ _ _ (total_weight (viewed pools) kind m k legal.keyed) (legal.aggregates kind k)) in
     record {
       header = header;
       keyed = legal.keyed;
       entries = λ k e there. (legal.entries k e there).range;
       authorized = lines_authorized h.id_pool m (λ k e there. (legal.entries k e there).range)
           (λ k e there. (legal.entries k e there).bound) (sums Selling) (sums Buying);
-      standing = needs_stand h.id_pool m legal.keyed (λ k e there. (legal.entries k e there).range) sums;
+      existing = needs_exist h.id_pool m legal.keyed (λ k e there. (legal.entries k e there).range) sums;
       offers = legal.offers;
       selling = sums Selling;
       buying = sums Buying;
@@ -120,7 +107,7 @@ viewed_by v w id_pool sum m same legal = record {
   keyed = legal.keyed;
   entries = legal.entries;
   offers = legal.offers;
-  books = λ kind k. sym (ap (λ f. total f m) (λ i e. same_weighed v w same kind k e i)) ∙ legal.books kind k;
+  aggregates = λ kind k. sym (ap (λ f. total f m) (λ i e. same_weighed v w same kind k e i)) ∙ legal.aggregates kind k;
   supply = refl;
 }
 

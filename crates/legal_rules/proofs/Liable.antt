@@ -1,61 +1,28 @@
 -- An account or a line with other liabilities.
-use Rattle.std.proofs.Common.{◌≡◌, ◌≢◌, refl, sym, ap, subst, ◌∙◌, ℕ, ◌+◌, ◌%◌, ◌≤◌, Bool, true, false, ◌&&◌, Option}
-use Rattle.std.proofs.Common.{Some, None}
-use Rattle.std.proofs.Common.{arith}
-use Rattle.std.proofs.lemmas.Int.{ints}
-use Rattle.std.specs.Prelude.{ℤ, pos, neg_ℤ, ◌+ℤ◌, ◌-ℤ◌, ◌≤ℤ◌, if◌then◌else◌}
-use Rattle.std.specs.Ordering.{int_eq}
-use Rattle.std.specs.List.{count_by}
-use Rattle.std.specs.FinMap.{get}
-use Rattle.hash_ids.specs.ledger_types.declared.ids.AccountId.{AccountId}
-use Rattle.hash_ids.specs.ledger_types.declared.asset.TrustLineAsset.{TrustLineAsset}
-use Rattle.hash_ids.specs.ledger_types.declared.price.Liabilities.{Liabilities}
-use Rattle.hash_ids.specs.ledger_types.declared.account.AccountEntry.{AccountEntry}
+use Rattle.legal_rules.proofs.Prelude as prelude
+use prelude.{◌≡◌, ◌≢◌, refl, sym, ap, subst, ◌∙◌, ℕ, ◌+◌, ◌≤◌, Bool, true, false, Option, Some, None, arith, ints, ℤ}
+use prelude.{pos, neg_ℤ, ◌+ℤ◌, ◌-ℤ◌, ◌≤ℤ◌, if◌then◌else◌, int_eq, count_by, get, AccountId, TrustLineAsset, Liabilities}
+use prelude.{AccountEntry, TrustLineEntry, TrustLineEntryExtensionV1, LedgerEntry, LedgerEntryBody, LedgerKey, EntryMap}
+use prelude.{put, no_liabilities, is_nothing, liabilities_in, with_liabilities_in, account_liabilities, second_in}
+use prelude.{sponsored_in, sponsoring_in, sponsorship_in, sponsor_of, line_liabilities, line_liabilities_in}
+use prelude.{with_line_liabilities_in, line_second_in, use_count_in, use_count, line_in, line_of, line_at, with_line}
+use prelude.{with_line_in, with_line_of, IsInRange, IsLineInRange, is_there, signer_sponsors, is_key, for_account}
+use prelude.{is_for, Kind, Sponsoring, Sponsored, Selling, Buying, Uses, View, counted, of_line, risen, bound_account}
+use prelude.{bound_line, AreSignersInRange, weight, Owed, in_aggregate, plus, IsEntryLegal, IsLegalOwing, add_sub_self}
+use prelude.{add_zero, int_eq_true, and_parts}
+use Rattle.std.proofs.Common.{◌%◌}
 use Rattle.hash_ids.specs.ledger_types.declared.account.AccountEntryExtensionV1.{AccountEntryExtensionV1}
-use Rattle.hash_ids.specs.ledger_types.declared.trust_line.TrustLineEntry.{TrustLineEntry}
-use Rattle.hash_ids.specs.ledger_types.declared.trust_line.TrustLineEntryExtensionV1.{TrustLineEntryExtensionV1}
-use Rattle.hash_ids.specs.ledger_types.declared.entry.LedgerEntry.{LedgerEntry}
-use Rattle.hash_ids.specs.ledger_types.declared.entry.LedgerEntryBody.{LedgerEntryBody}
 use Rattle.hash_ids.specs.ledger_types.declared.entry.LedgerEntryBody.TheVariants as body
-use Rattle.hash_ids.specs.ledger_types.declared.key.LedgerKey.{LedgerKey}
 use Rattle.hash_ids.specs.ledger_types.declared.key.LedgerKey.TheVariants as key
-use Rattle.entry_sums.specs.entry_map.EntryMap.{EntryMap, put}
-use Rattle.sponsor_laws.specs.entry_slots.AccountExtensions.{no_liabilities, is_nothing, liabilities_in}
-use Rattle.sponsor_laws.specs.entry_slots.AccountExtensions.{with_liabilities_in}
-use Rattle.sponsor_laws.specs.entry_slots.AccountExtensions.{account_liabilities, second_in, sponsored_in}
-use Rattle.sponsor_laws.specs.entry_slots.AccountExtensions.{sponsoring_in}
-use Rattle.sponsor_laws.specs.entry_slots.AccountExtensions.{sponsorship_in}
-use Rattle.sponsor_laws.specs.entry_slots.EntrySponsor.{sponsor_of}
-use Rattle.sponsor_laws.specs.entry_slots.LineExtensions.{line_liabilities, line_liabilities_in}
-use Rattle.sponsor_laws.specs.entry_slots.LineExtensions.{with_line_liabilities_in}
-use Rattle.sponsor_laws.specs.entry_slots.LineExtensions.{line_second_in, use_count_in, use_count}
-use Rattle.sponsor_laws.specs.entry_slots.Lines.{line_in, line_of, line_at, with_line, with_line_in, with_line_of}
-use Rattle.sponsor_laws.specs.reserve_rules.Reserve.{IsInRange, IsLineInRange}
-use Rattle.sponsor_laws.specs.Sums.{is_there, signer_sponsors}
-use Rattle.legal_rules.specs.EntryKeys.{is_key, for_account}
-use Rattle.legal_rules.specs.Reserves.{is_for}
-use Rattle.legal_rules.specs.Books.{Kind, Sponsoring, Sponsored, Selling, Buying, Uses, View, counted}
-use Rattle.legal_rules.specs.Supply.{of_line}
-use Rattle.legal_rules.specs.Binding.{risen, bound_account, bound_line}
-use Rattle.legal_rules.specs.Ranges.{AreSignersInRange}
-use Rattle.legal_rules.specs.Owing.{weight, Owed, in_book, plus, IsEntryLegal, IsLegalOwing}
-use Rattle.legal_rules.proofs.Numbers.{plus_nothing, kept_sum}
 use Rattle.legal_rules.proofs.Steps.{with_body, IsStep, replace_legal, legal_as}
 
 -- ---- what is stored
 
-pub int_same : (a b : ℤ) → int_eq a b ≡ true → a ≡ b
-int_same a b h = grind (arith, ints)
-
-both_true : (a b : Bool) → (a && b) ≡ true → (a ≡ true) × (b ≡ true)
-both_true true b h = (refl, h)
-both_true false b h = absurd (cc)
-
 nothing_is : (l : Liabilities) → is_nothing l ≡ true → no_liabilities ≡ l
 nothing_is l h =
-    let both = both_true (int_eq l.buying (pos 0)) (int_eq l.selling (pos 0)) h in
-    let buying = int_same l.buying (pos 0) both.0 in
-    let selling = int_same l.selling (pos 0) both.1 in
+    let both = and_parts (int_eq l.buying (pos 0)) (int_eq l.selling (pos 0)) h in
+    let buying = int_eq_true l.buying (pos 0) both.0 in
+    let selling = int_eq_true l.selling (pos 0) both.1 in
     λ i. record { buying = sym buying i; selling = sym selling i }
 
 chosen : (b : Bool) (l : Liabilities) → is_nothing l ≡ b
@@ -97,11 +64,11 @@ same_line_second : (l : Liabilities) (ext : Option TrustLineEntryExtensionV1)
 same_line_second l None = line_second_of (is_nothing l) l
 same_line_second l (Some ext) = refl
 
--- ---- what books owe
+-- ---- what aggregates owe
 
 -- once selling and buying rose by these
 abbrev pub unbound : LedgerKey → (selling buying : ℤ) → Owed
-unbound k selling buying = plus (in_book Selling k (neg_ℤ selling)) (in_book Buying k (neg_ℤ buying))
+unbound k selling buying = plus (in_aggregate Selling k (neg_ℤ selling)) (in_aggregate Buying k (neg_ℤ buying))
 
 sells_more : (t : Bool) (c old more : ℤ) → (c -ℤ (if t then (old +ℤ more) else pos 0))
     ≡ ((c -ℤ (if t then old else pos 0)) +ℤ ((if t then neg_ℤ more else pos 0) +ℤ pos 0))
@@ -129,27 +96,27 @@ module _ (selling buying : ℤ) (a : AccountEntry) where
   abbrev its_key : LedgerKey
   its_key = key.Account a.account_id
 
-  account_books : (v : View) (kind : Kind) (k : LedgerKey) (e : LedgerEntry) → weight v kind k (with_body e b)
+  account_aggregates : (v : View) (kind : Kind) (k : LedgerKey) (e : LedgerEntry) → weight v kind k (with_body e b)
       ≡ (weight v kind k (with_body e a) +ℤ unbound its_key selling buying kind k)
-  account_books v Sponsored k e =
+  account_aggregates v Sponsored k e =
       (λ i. for_account k (Some a.account_id) ((if is_there (sponsor_of e) then 2 else 0)
       + count_by is_there (same_sponsors i)) -ℤ (if is_key its_key k then pos (sponsored_in (second i)) else pos 0))
-      ∙ sym (plus_nothing _)
-  account_books v Sponsoring k e =
+      ∙ sym (add_zero _)
+  account_aggregates v Sponsoring k e =
       (λ i. (for_account k (sponsor_of e) 2 +ℤ pos (count_by (is_for k) (same_sponsors i)))
-      -ℤ (if is_key its_key k then pos (sponsoring_in (second i)) else pos 0)) ∙ sym (plus_nothing _)
-  account_books v Selling k e =
+      -ℤ (if is_key its_key k then pos (sponsoring_in (second i)) else pos 0)) ∙ sym (add_zero _)
+  account_aggregates v Selling k e =
       (λ i. pos 0 -ℤ (if is_key its_key k then (now i).selling else pos 0))
       ∙ sells_more (is_key its_key k) (pos 0) (account_liabilities a).selling selling
-  account_books v Buying k e =
+  account_aggregates v Buying k e =
       (λ i. pos 0 -ℤ (if is_key its_key k then (now i).buying else pos 0))
       ∙ buys_more (is_key its_key k) (pos 0) (account_liabilities a).buying buying
-  account_books v kind k e = sym (plus_nothing _)
+  account_aggregates v kind k e = sym (add_zero _)
 
   -- an account with other liabilities, which are in their ranges
   pub bound_step : (id_pool : ℕ) → IsInRange b → IsStep (IsEntryLegal id_pool) (unbound its_key selling buying) a b
   bound_step id_pool range = record {
-    move = record { id = refl; books = account_books };
+    move = record { id = refl; aggregates = account_aggregates };
     balance = refl;
     keeps = λ e was. record {
       range = record {
@@ -201,14 +168,14 @@ pub with_line_is : (m : EntryMap) (id : AccountId) (asset : TrustLineAsset) (f :
 unfolding with_line
 with_line_is m id asset f t e here = ap (with_line_of m f) here.there ∙ ap (with_line_in m e f) here.is
 
--- a line that stands in another's place
+-- a line that is in another's place
 pub record IsLineMove (more : Owed) (t u : TrustLineEntry) : Type 0 where
   pub id : u.account_id ≡ t.account_id
   pub asset : u.asset ≡ t.asset
-  pub books : (v : View) (kind : Kind) (k : LedgerKey) (e : LedgerEntry)
+  pub aggregates : (v : View) (kind : Kind) (k : LedgerKey) (e : LedgerEntry)
       → weight v kind k (with_line_body e u) ≡ (weight v kind k (with_line_body e t) +ℤ more kind k)
 
--- A line that stands is changed.
+-- A line that exists is changed.
 pub with_line_legal : (v : View) (id_pool : ℕ) (owed more : Owed) (sum : ℤ) (m : EntryMap) (id : AccountId)
     (asset : TrustLineAsset) (f : TrustLineEntry → TrustLineEntry) (t : TrustLineEntry)
     → IsLegalOwing v id_pool owed sum m
@@ -216,8 +183,8 @@ pub with_line_legal : (v : View) (id_pool : ℕ) (owed more : Owed) (sum : ℤ) 
     → ((e : LedgerEntry) → IsEntryLegal id_pool (with_line_body e t) → IsEntryLegal id_pool (with_line_body e (f t)))
     → IsLegalOwing v id_pool (plus owed more) (sum +ℤ (of_line v.asset (f t).asset (f t).balance
     -ℤ of_line v.asset t.asset t.balance)) (with_line m id asset f)
-with_line_legal v id_pool owed more sum m id asset f t legal stands move keeps =
-    let found = line_entry m id asset t stands in
+with_line_legal v id_pool owed more sum m id asset f t legal exists move keeps =
+    let found = line_entry m id asset t exists in
     let there : get m (key.TrustLine id asset) ≡ Some (with_line_body found.0 t) =
     found.1.there ∙ ap Some (λ i. record found.0 { body = found.1.is i }) in
     subst (IsLegalOwing v id_pool (plus owed more) (sum +ℤ (of_line v.asset (f t).asset (f t).balance
@@ -228,7 +195,7 @@ with_line_legal v id_pool owed more sum m id asset f t legal stands move keeps =
       own = λ i. key.TrustLine (move.id i) (move.asset i);
       params = refl;
       offers = λ n. refl;
-      books = λ kind k. move.books v kind k found.0;
+      aggregates = λ kind k. move.aggregates v kind k found.0;
     }) (keeps found.0 (legal.entries _ _ there)))
 
 module _ (selling buying : ℤ) (t : TrustLineEntry) where
@@ -244,21 +211,21 @@ module _ (selling buying : ℤ) (t : TrustLineEntry) where
   abbrev line_key : LedgerKey
   line_key = key.TrustLine t.account_id t.asset
 
-  line_books : (v : View) (kind : Kind) (k : LedgerKey) (e : LedgerEntry) → weight v kind k (with_line_body e u)
+  line_aggregates : (v : View) (kind : Kind) (k : LedgerKey) (e : LedgerEntry) → weight v kind k (with_line_body e u)
       ≡ (weight v kind k (with_line_body e t) +ℤ unbound line_key selling buying kind k)
-  line_books v Selling k e =
+  line_aggregates v Selling k e =
       (λ i. pos 0 -ℤ (if is_key line_key k then (line_now i).selling else pos 0))
       ∙ sells_more (is_key line_key k) (pos 0) (line_liabilities t).selling selling
-  line_books v Buying k e =
+  line_aggregates v Buying k e =
       (λ i. pos 0 -ℤ (if is_key line_key k then (line_now i).buying else pos 0))
       ∙ buys_more (is_key line_key k) (pos 0) (line_liabilities t).buying buying
-  line_books v Uses k e =
+  line_aggregates v Uses k e =
       (λ i. counted v Uses k (with_line_body e t) -ℤ (if is_key line_key k then same_use_count i else pos 0))
-      ∙ sym (plus_nothing _)
-  line_books v kind k e = sym (plus_nothing _)
+      ∙ sym (add_zero _)
+  line_aggregates v kind k e = sym (add_zero _)
 
   pub bound_line_move : IsLineMove (unbound line_key selling buying) t u
-  bound_line_move = record { id = refl; asset = refl; books = line_books }
+  bound_line_move = record { id = refl; asset = refl; aggregates = line_aggregates }
 
   pub bound_line_keeps : (id_pool : ℕ) → IsLineInRange u → t.flags % 4 ≢ 0 → (e : LedgerEntry)
       → IsEntryLegal id_pool (with_line_body e t) → IsEntryLegal id_pool (with_line_body e u)
@@ -287,9 +254,9 @@ pub bound_line_legal : (v : View) (id_pool : ℕ) (owed : Owed) (sum : ℤ) (m :
     → key.TrustLine t.account_id t.asset ≡ key.TrustLine id asset
     → IsLegalOwing v id_pool (plus owed (unbound (key.TrustLine id asset) selling buying)) sum
     (with_line m id asset (bound_line selling buying))
-bound_line_legal v id_pool owed sum m id asset selling buying t legal stands range authorized same =
+bound_line_legal v id_pool owed sum m id asset selling buying t legal exists range authorized same =
     legal_as v (IsEntryLegal id_pool) _ _ _ sum _
-    (with_line_legal v id_pool owed _ sum m id asset (bound_line selling buying) t legal stands
+    (with_line_legal v id_pool owed _ sum m id asset (bound_line selling buying) t legal exists
     (bound_line_move selling buying t) (bound_line_keeps selling buying t id_pool range authorized))
     (λ kind k. ap (λ q. owed kind k +ℤ unbound q selling buying kind k) same)
-    (kept_sum sum (of_line v.asset t.asset t.balance))
+    (add_sub_self sum (of_line v.asset t.asset t.balance))

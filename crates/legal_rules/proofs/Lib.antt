@@ -5,8 +5,8 @@ pub mod Needed
 pub mod Authorized
 pub mod Legality
 pub mod Steps
-pub mod Places
-pub mod Standing
+pub mod Indices
+pub mod Existing
 pub mod AccountRanges
 pub mod Counting
 pub mod Bounded
@@ -32,10 +32,10 @@ pub mod OffersKept
 pub mod Releasing
 pub mod Changed
 pub mod PoolsKept
-pub mod Given
+pub mod LegalConsequences
 pub mod First
 pub mod Evaluated
-pub mod Whole
+pub mod Full
 pub mod Breaking
 pub mod Rounded
 pub mod SharesKept
@@ -50,5 +50,7 @@ pub mod LinesLeft
 pub mod MayOwe
 pub mod Counted
 pub mod Freed
+pub use Rattle.entry_sums.proofs.entry_map_proofs
 pub use Rattle.entry_sums.proofs as entry_sums_proofs
 pub use Rattle.sponsor_laws.proofs as sponsor_laws_proofs
+pub mod Prelude

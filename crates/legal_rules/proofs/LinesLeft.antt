@@ -1,34 +1,19 @@
 -- What a change of a line leaves: what the line holds more, and the accounts as they were.
-use Rattle.std.proofs.Common.{◌≡◌, refl, sym, ap, subst, ◌∙◌, ℕ, Bool, true, false, Some, arith}
-use Rattle.std.proofs.lemmas.Int.{ints}
-use Rattle.std.specs.FinMap.{get}
-use Rattle.std.specs.Prelude.{ℤ, pos, ◌+ℤ◌, ◌-ℤ◌, if◌then◌else◌}
-use Rattle.std.specs.Ordering.{is_eq}
-use Rattle.hash_ids.specs.ledger_types.declared.ids.AccountId.{AccountId}
-use Rattle.hash_ids.specs.ledger_types.declared.asset.Asset.{Asset}
+use Rattle.legal_rules.proofs.Prelude as prelude
+use prelude.{◌≡◌, refl, sym, ap, subst, ◌∙◌, ℕ, Bool, true, false, Some, arith, ints, get, ℤ, pos, ◌+ℤ◌, ◌-ℤ◌}
+use prelude.{if◌then◌else◌, is_eq, AccountId, Asset, TrustLineAsset, TrustLineEntry, LedgerKey, asset_cmp, key_of_body}
+use prelude.{EntryMap, put, line_at, with_line, part, View, IsKeyed, none_more, under_key, HoldsMore, Owed}
+use prelude.{IsBoundRightly, IsLegalOwing, IsBodyInRange, IsTrustLineInRange, of_line, held_in, held_of, if_zero}
 use Rattle.hash_ids.specs.ledger_types.declared.asset.Asset.TheVariants as asset
-use Rattle.hash_ids.specs.ledger_types.declared.asset.TrustLineAsset.{TrustLineAsset}
 use Rattle.hash_ids.specs.ledger_types.declared.asset.TrustLineAsset.TheVariants as line
-use Rattle.hash_ids.specs.ledger_types.declared.trust_line.TrustLineEntry.{TrustLineEntry}
 use Rattle.hash_ids.specs.ledger_types.declared.entry.LedgerEntryBody.TheVariants as body
-use Rattle.hash_ids.specs.ledger_types.declared.key.LedgerKey.{LedgerKey}
 use Rattle.hash_ids.specs.ledger_types.declared.key.LedgerKey.TheVariants as key
-use Rattle.hash_ids.specs.ledger_types.KeyOrder.{asset_cmp}
-use Rattle.hash_ids.specs.ledger_types.Keys.{key_of_body}
-use Rattle.entry_sums.specs.entry_map.EntryMap.{EntryMap, put}
-use Rattle.sponsor_laws.specs.entry_slots.Lines.{line_at, with_line}
-use Rattle.entry_sums.specs.Sums.{part}
-use Rattle.legal_rules.specs.Books.{View}
-use Rattle.legal_rules.specs.Holdings.{IsKeyed, none_more, under_key, HoldsMore}
-use Rattle.legal_rules.specs.Owing.{Owed, IsBoundRightly, IsLegalOwing}
-use Rattle.legal_rules.specs.Ranges.{IsBodyInRange, IsTrustLineInRange}
-use Rattle.legal_rules.specs.Supply.{of_line, held_in, held as held_of}
 use Rattle.legal_rules.proofs.ChargesLeft.{put_beside}
-use Rattle.legal_rules.proofs.Holdings.{none_if, none_under, put_holds}
+use Rattle.legal_rules.proofs.Holdings.{none_under, put_holds}
 use Rattle.legal_rules.proofs.Leaving.{Leaves, leaves_as, accounts_kept, keyed_put}
 use Rattle.legal_rules.proofs.Liable.{line_entry, with_line_body, with_line_is}
 
--- ---- a line that stands
+-- ---- a line that exists
 
 pub record IsLegalLine (id : AccountId) (held : TrustLineAsset) (t : TrustLineEntry) : Type 0 where
   pub range : IsTrustLineInRange t
@@ -39,14 +24,14 @@ pub record IsLegalLine (id : AccountId) (held : TrustLineAsset) (t : TrustLineEn
 owner_of_key : (id other : AccountId) (a b : TrustLineAsset) → key.TrustLine id a ≡ key.TrustLine other b → id ≡ other
 owner_of_key id other a b same = cc
 
-asset_of_key : (id other : AccountId) (a b : TrustLineAsset) → key.TrustLine id a ≡ key.TrustLine other b → a ≡ b
+pub asset_of_key : (id other : AccountId) (a b : TrustLineAsset) → key.TrustLine id a ≡ key.TrustLine other b → a ≡ b
 asset_of_key id other a b same = cc
 
 pub line_legal : (v : View) (id_pool : ℕ) (owed : Owed) (sum : ℤ) (m : EntryMap) (id : AccountId)
     (held : TrustLineAsset) (t : TrustLineEntry) → IsLegalOwing v id_pool owed sum m → line_at m id held ≡ Some t
     → IsLegalLine id held t
-line_legal v id_pool owed sum m id held t legal stands =
-    let found = line_entry m id held t stands in
+line_legal v id_pool owed sum m id held t legal exists =
+    let found = line_entry m id held t exists in
     let e = found.0 in
     let is = found.1.is in
     let entry = legal.entries (key.TrustLine id held) e found.1.there in
@@ -60,8 +45,8 @@ line_legal v id_pool owed sum m id held t legal stands =
 
 pub line_named : (m : EntryMap) (id : AccountId) (held : TrustLineAsset) (t : TrustLineEntry) → IsKeyed m
     → line_at m id held ≡ Some t → (t.account_id ≡ id) × (t.asset ≡ held)
-line_named m id held t keyed stands =
-    let found = line_entry m id held t stands in
+line_named m id held t keyed exists =
+    let found = line_entry m id held t exists in
     let named = sym (ap key_of_body found.1.is) ∙ keyed (key.TrustLine id held) found.0 found.1.there in
     (owner_of_key t.account_id id t.asset held named, asset_of_key t.account_id id t.asset held named)
 
@@ -85,14 +70,14 @@ line_by_difference x (line.PoolShare pool) new old = refl
 no_difference : (new old : ℤ) → new ≡ old → (new -ℤ old) ≡ pos 0
 no_difference new old same = omega (arith, ints)
 
-none_of_line : (x : Asset) (held : TrustLineAsset) → of_line x held (pos 0) ≡ pos 0
-none_of_line x line.Native = refl
-none_of_line x (line.Alphanum4 code issuer) = none_if (is_eq (asset_cmp x (asset.Alphanum4 code issuer))) (pos 0) refl
-none_of_line x (line.Alphanum12 code issuer) = none_if (is_eq (asset_cmp x (asset.Alphanum12 code issuer))) (pos 0) refl
-none_of_line x (line.PoolShare pool) = refl
+pub of_line_zero : (x : Asset) (held : TrustLineAsset) → of_line x held (pos 0) ≡ pos 0
+of_line_zero x line.Native = refl
+of_line_zero x (line.Alphanum4 code issuer) = if_zero (is_eq (asset_cmp x (asset.Alphanum4 code issuer))) (pos 0) refl
+of_line_zero x (line.Alphanum12 code issuer) = if_zero (is_eq (asset_cmp x (asset.Alphanum12 code issuer))) (pos 0) refl
+of_line_zero x (line.PoolShare pool) = refl
 
 module _ (m : EntryMap) (id : AccountId) (held : TrustLineAsset) (f : TrustLineEntry → TrustLineEntry)
-    (t : TrustLineEntry) (stands : line_at m id held ≡ Some t) (owner : (f t).account_id ≡ t.account_id)
+    (t : TrustLineEntry) (exists : line_at m id held ≡ Some t) (owner : (f t).account_id ≡ t.account_id)
     (asset : (f t).asset ≡ t.asset) (base : ℕ) (keyed : IsKeyed m) where
   abbrev new : EntryMap
   new = with_line m id held f
@@ -105,26 +90,26 @@ module _ (m : EntryMap) (id : AccountId) (held : TrustLineAsset) (f : TrustLineE
 
   its_key : key.TrustLine (f t).account_id (f t).asset ≡ at
   its_key =
-      let named = line_named m id held t keyed stands in
+      let named = line_named m id held t keyed exists in
       λ i. key.TrustLine ((owner ∙ named.0) i) ((asset ∙ named.1) i)
 
   had : (x : Asset) → part (held_of x) (get m (key.TrustLine (f t).account_id (f t).asset)) ≡ of_line x held t.balance
   had x =
-      let found = line_entry m id held t stands in
+      let found = line_entry m id held t exists in
       ap (λ q. part (held_of x) (get m q)) its_key ∙ ap (part (held_of x)) found.1.there
       ∙ ap (held_in x) found.1.is
-      ∙ ap (λ (a : TrustLineAsset). of_line x a t.balance) (line_named m id held t keyed stands).1
+      ∙ ap (λ (a : TrustLineAsset). of_line x a t.balance) (line_named m id held t keyed exists).1
 
   has_more : (x : Asset) → of_line x (f t).asset (f t).balance
       ≡ (part (held_of x) (get m (key.TrustLine (f t).account_id (f t).asset)) +ℤ more x)
   has_more x =
-      ap (λ (a : TrustLineAsset). of_line x a (f t).balance) (asset ∙ (line_named m id held t keyed stands).1)
+      ap (λ (a : TrustLineAsset). of_line x a (f t).balance) (asset ∙ (line_named m id held t keyed exists).1)
       ∙ line_by_difference x held (f t).balance t.balance ∙ ap (λ n. n +ℤ more x) (sym (had x))
 
   -- No account changes, and the line holds so much more.
   pub line_left : Leaves base (under_key at more) m new
   line_left =
-      let found = line_entry m id held t stands in
+      let found = line_entry m id held t exists in
       let e = with_line_body found.0 (f t) in
       subst (Leaves base (under_key at more) m) (sym (with_line_is m id held f t found.0 found.1))
       (accounts_kept base (under_key at more) m (put m e) (keyed_put m e keyed)
@@ -134,4 +119,4 @@ module _ (m : EntryMap) (id : AccountId) (held : TrustLineAsset) (f : TrustLineE
   -- the same of a line with the balance that it had
   pub line_kept : (f t).balance ≡ t.balance → Leaves base none_more m new
   line_kept same = leaves_as base (under_key at more) none_more m new line_left
-      (none_under at more (λ x. ap (of_line x held) (no_difference (f t).balance t.balance same) ∙ none_of_line x held))
+      (none_under at more (λ x. ap (of_line x held) (no_difference (f t).balance t.balance same) ∙ of_line_zero x held))

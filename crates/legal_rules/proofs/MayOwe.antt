@@ -1,14 +1,8 @@
--- What books may owe where one subentry is counted that doesn't stand.
-use Rattle.std.proofs.Common.{ℕ, ◌≤◌, Bool, true, false, Option, Some, None, arith}
-use Rattle.std.proofs.lemmas.Int.{ints}
-use Rattle.std.specs.Prelude.{pos, neg_ℤ, ◌≤ℤ◌, if◌then◌else◌}
-use Rattle.hash_ids.specs.ledger_types.declared.ids.AccountId.{AccountId}
-use Rattle.hash_ids.specs.ledger_types.declared.key.LedgerKey.{LedgerKey}
+-- What aggregates may owe where one subentry is counted that doesn't exist.
+use Rattle.legal_rules.proofs.Prelude.{ℕ, ◌≤◌, Bool, true, false, Option, Some, None, arith, ints, pos, neg_ℤ, ◌≤ℤ◌}
+use Rattle.legal_rules.proofs.Prelude.{if◌then◌else◌, AccountId, LedgerKey, is_there, is_key, for_account}
+use Rattle.legal_rules.proofs.Prelude.{IsOwedRightly, OneMoreIsRight, nothing_owed}
 use Rattle.hash_ids.specs.ledger_types.declared.key.LedgerKey.TheVariants as key
-use Rattle.sponsor_laws.specs.Sums.{is_there}
-use Rattle.legal_rules.specs.EntryKeys.{is_key, for_account}
-use Rattle.legal_rules.specs.OneMore.{IsOwedRightly, OneMoreIsRight}
-use Rattle.legal_rules.specs.Owing.{nothing_owed}
 
 not_above : (t : Bool) (n : ℕ) → neg_ℤ (if t then pos n else pos 0) ≤ℤ pos 0
 not_above true n = omega (arith, ints)

@@ -1,54 +1,28 @@
 -- An account that is removed, and whose lumens go to another one.
-use Rattle.std.proofs.Common.{◌≡◌, ◌≢◌, refl, sym, ap, subst, ◌∙◌, ℕ, ◌≤◌, Bool, true, false, List, [], ◌∷◌, length}
-use Rattle.std.proofs.Common.{Option}
-use Rattle.std.proofs.Common.{Some, None, arith}
-use Rattle.std.proofs.lemmas.Int.{ints}
-use Rattle.std.specs.Prelude.{ℤ, pos, neg_ℤ, ◌+ℤ◌, ◌-ℤ◌, ◌≤ℤ◌, if◌then◌else◌}
-use Rattle.std.specs.FinMap.{get}
-use Rattle.hash_ids.specs.ledger_types.declared.ids.AccountId.{AccountId}
-use Rattle.hash_ids.specs.ledger_types.declared.asset.Asset.{Asset}
+use Rattle.legal_rules.proofs.Prelude as prelude
+use prelude.{◌≡◌, ◌≢◌, refl, sym, ap, subst, ◌∙◌, ℕ, ◌≤◌, Bool, true, false, [], length, Option, Some, None, arith}
+use prelude.{ints, ℤ, pos, neg_ℤ, ◌+ℤ◌, ◌-ℤ◌, ◌≤ℤ◌, if◌then◌else◌, get, AccountId, Asset, AccountEntry, LedgerEntry}
+use prelude.{LedgerEntryBody, LedgerKey, key_of_body, EntryMap, erase, same_itself, account_at, account_liabilities}
+use prelude.{num_sponsoring, num_sponsored, sponsor_of, charge_of, owner_of, map_after_releasing, is_same_account}
+use prelude.{map_without_charge, map_after_removing, map_after_removing_entry, signer_sponsors, total, part, EachEntry}
+use prelude.{part_at_most, total_only, is_key, for_key, for_account, subentries_in, sponsored_in_entry, for_each}
+use prelude.{holder, sells, buys, Kind, Subentries, Sponsoring, Sponsored, Selling, Buying, View, counted, stated}
+use prelude.{stated_at, lumens_of, view, pools_in, weight, Owed, nothing_owed, IsEntryLegal, IsLegalOwing, MergesKeep}
+use prelude.{apart_keys, add_zero, sub_if_zero, counts_once, nil_from_length}
 use Rattle.hash_ids.specs.ledger_types.declared.asset.Asset.TheVariants as asset
 use Rattle.hash_ids.specs.ledger_types.declared.asset.TrustLineAsset.TheVariants as line
-use Rattle.hash_ids.specs.ledger_types.declared.account.AccountEntry.{AccountEntry}
-use Rattle.hash_ids.specs.ledger_types.declared.entry.LedgerEntry.{LedgerEntry}
-use Rattle.hash_ids.specs.ledger_types.declared.entry.LedgerEntryBody.{LedgerEntryBody}
 use Rattle.hash_ids.specs.ledger_types.declared.entry.LedgerEntryBody.TheVariants as body
-use Rattle.hash_ids.specs.ledger_types.declared.key.LedgerKey.{LedgerKey}
 use Rattle.hash_ids.specs.ledger_types.declared.key.LedgerKey.TheVariants as key
-use Rattle.hash_ids.specs.ledger_types.Keys.{key_of_body}
-use Rattle.entry_sums.specs.entry_map.EntryMap.{EntryMap, erase}
-use Rattle.entry_sums.proofs.entry_map_proofs.KeyMaps.{same_itself}
-use Rattle.sponsor_laws.specs.entry_slots.Accounts.{account_at}
-use Rattle.sponsor_laws.specs.entry_slots.AccountExtensions.{account_liabilities, num_sponsoring, num_sponsored}
-use Rattle.sponsor_laws.specs.entry_slots.EntrySponsor.{sponsor_of}
-use Rattle.sponsor_laws.specs.sponsor_rules.Charge.{charge_of, owner_of}
-use Rattle.sponsor_laws.specs.sponsor_rules.Paying.{map_after_releasing}
-use Rattle.sponsor_laws.specs.sponsor_rules.Payers.{is_same_account}
-use Rattle.sponsor_laws.specs.sponsor_rules.Removing.{map_without_charge, map_after_removing, map_after_removing_entry}
-use Rattle.sponsor_laws.specs.Sums.{signer_sponsors}
-use Rattle.entry_sums.specs.Sums.{total, part, EachEntry}
-use Rattle.entry_sums.proofs.Lookups.{apart_keys}
-use Rattle.entry_sums.proofs.Summing.{part_at_most, total_only}
-use Rattle.legal_rules.specs.EntryKeys.{is_key, for_key, for_account}
-use Rattle.legal_rules.specs.Reserves.{subentries_in, sponsored_in_entry, for_each}
-use Rattle.legal_rules.specs.Trades.{holder, sells, buys}
-use Rattle.legal_rules.specs.Books.{Kind, Subentries, Sponsoring, Sponsored, Selling, Buying, View, counted, stated}
-use Rattle.legal_rules.specs.Books.{stated_at}
-use Rattle.legal_rules.specs.Supply.{lumens_of}
-use Rattle.legal_rules.specs.Legal.{view, pools_in}
-use Rattle.legal_rules.specs.Owing.{weight, Owed, nothing_owed, IsEntryLegal, IsLegalOwing}
-use Rattle.legal_rules.specs.EntryLaws.{MergesKeep}
 use Rattle.legal_rules.proofs.Lows.{counted_low}
 use Rattle.legal_rules.proofs.Weighing.{total_of}
 use Rattle.legal_rules.proofs.Legality.{owing_nothing, legal_of}
-use Rattle.legal_rules.proofs.Needed.{line_some}
 use Rattle.legal_rules.proofs.Steps.{with_body, account_entry, body_there, same_id_at, legal_as}
 use Rattle.legal_rules.proofs.Bounded.{account_legal}
 use Rattle.legal_rules.proofs.Paid.{paid_legal}
 use Rattle.legal_rules.proofs.Payers.{beside_none, exchanged}
 use Rattle.legal_rules.proofs.PaidFor.{nothing_settled, payer_has}
 use Rattle.legal_rules.proofs.Putting.{erase_legal}
-use Rattle.legal_rules.proofs.Sponsors.{payer_books}
+use Rattle.legal_rules.proofs.Sponsors.{payer_aggregates}
 
 -- ---- what a sum of 0 shows
 
@@ -96,7 +70,7 @@ module _ (id : AccountId) (v : View) where
       → for_account own (owner_of b) (subentries_in b) ≡ pos 0 → (n : ℕ) → for_account own (owner_of b) n ≡ pos 0
   sponsored_for_none e (body.Account a) apart none n = no_choice _ (pos n)
       (apart_keys (key.Account a.account_id) own apart)
-  sponsored_for_none e (body.TrustLine t) apart none n = no_choice _ (pos n) (not_counted _ _ (line_some t.asset) none)
+  sponsored_for_none e (body.TrustLine t) apart none n = no_choice _ (pos n) (not_counted _ _ (counts_once t.asset) none)
   sponsored_for_none e (body.Offer offer) apart none n = no_choice _ (pos n) (not_counted _ 1 (omega arith) none)
   sponsored_for_none e (body.Data entry) apart none n = no_choice _ (pos n) (not_counted _ 1 (omega arith) none)
   sponsored_for_none e other apart none n = refl
@@ -126,10 +100,6 @@ same_choice : (t : Bool) (c s : ℤ) → (c -ℤ s) ≡ pos 0 → ((if t then c 
 same_choice true c s none = none
 same_choice false c s none = refl
 
-no_states : (t : Bool) (x s : ℤ) → s ≡ pos 0 → (x -ℤ (if t then s else pos 0)) ≡ x
-no_states true x s none = omega (arith, ints)
-no_states false x s none = omega (arith, ints)
-
 states_none : (s : ℤ) → (pos 0 -ℤ s) ≡ pos 0 → s ≡ pos 0
 states_none s none = omega (arith, ints)
 
@@ -137,26 +107,19 @@ counts_none : (n : ℕ) (t : Bool) → t ≡ true → (if t then pos n else pos 
 counts_none n true is none = omega (arith, ints)
 counts_none n false is none = absurd (cc)
 
-no_items : {X : Type 0} (xs : List X) → length xs ≡ 0 → xs ≡ []
-no_items [] h = refl
-no_items (x ∷ xs) h = absurd (omega arith)
-
 abbrev beside_sponsoring : Owed → Owed
 beside_sponsoring owed Sponsoring q = pos 0
 beside_sponsoring owed kind q = owed kind q
 
-no_payer : (o : Option AccountId) (kind : Kind) (q : LedgerKey) → pos 0 ≡ (beside_sponsoring (payer_books 2 o) kind q)
+no_payer : (o : Option AccountId) (kind : Kind) (q : LedgerKey) → pos 0 ≡ (beside_sponsoring (payer_aggregates 2 o) kind q)
 no_payer None Sponsoring q = refl
 no_payer None kind q = refl
 no_payer (Some sponsor) Sponsoring q = refl
 no_payer (Some sponsor) kind q = refl
 
-turned : (x : ℤ) → (x +ℤ pos 0) ≡ x
-turned x = omega (arith, ints)
-
-by_payer : (o : Option AccountId) (q : LedgerKey) → (for_account q o 2 +ℤ pos 0) ≡ payer_books 2 o Sponsoring q
+by_payer : (o : Option AccountId) (q : LedgerKey) → (for_account q o 2 +ℤ pos 0) ≡ payer_aggregates 2 o Sponsoring q
 by_payer None q = refl
-by_payer (Some sponsor) q = turned (for_account q (Some sponsor) 2)
+by_payer (Some sponsor) q = add_zero (for_account q (Some sponsor) 2)
 
 module _ (v : View) (id_pool : ℕ) (lumens : ℤ) (m : EntryMap) (legal : IsLegalOwing v id_pool nothing_owed lumens m)
     (x : LedgerEntry) (a : AccountEntry)
@@ -180,7 +143,7 @@ module _ (v : View) (id_pool : ℕ) (lumens : ℤ) (m : EntryMap) (legal : IsLeg
       (no_subentries its_key e there)
 
   no_sponsors : signer_sponsors a ≡ []
-  no_sponsors = no_items _ (range.range.body.signers.items ∙ unsigned)
+  no_sponsors = nil_from_length _ (range.range.body.signers.items ∙ unsigned)
 
   sponsored_settled : (counted v Sponsored its_key e -ℤ pos (num_sponsored a)) ≡ pos 0
   sponsored_settled = alone_settled v id_pool lumens m legal Sponsored its_key e there
@@ -201,20 +164,20 @@ module _ (v : View) (id_pool : ℕ) (lumens : ℤ) (m : EntryMap) (legal : IsLeg
   sponsored_at false is c s none = absurd (cc)
 
   -- it leaves open what its payer pays
-  weighs : (kind : Kind) (q : LedgerKey) → weight v kind q e ≡ payer_books 2 (sponsor_of e) kind q
+  weighs : (kind : Kind) (q : LedgerKey) → weight v kind q e ≡ payer_aggregates 2 (sponsor_of e) kind q
   weighs Subentries q = same_choice (is_key its_key q) (pos (length a.signers)) (pos a.num_sub_entries)
       (ap (λ n. pos n -ℤ pos a.num_sub_entries) unsigned ∙ ap (λ n. pos 0 -ℤ pos n) subs)
       ∙ no_payer (sponsor_of e) Subentries q
   weighs Sponsored q = same_choice (is_key its_key q) (pos (sponsored_in_entry e)) (pos (num_sponsored a))
       (sponsored_at (is_key its_key its_key) (same_itself its_key) (sponsored_in_entry e)
       (pos (num_sponsored a)) sponsored_settled) ∙ no_payer (sponsor_of e) Sponsored q
-  weighs Sponsoring q = no_states (is_key its_key q) (counted v Sponsoring q e) (pos (num_sponsoring a)) (ap pos pays)
+  weighs Sponsoring q = sub_if_zero (is_key its_key q) (counted v Sponsoring q e) (pos (num_sponsoring a)) (ap pos pays)
       ∙ ap (λ ids. for_account q (sponsor_of e) 2 +ℤ for_each q ids) no_sponsors ∙ by_payer (sponsor_of e) q
-  weighs Selling q = no_states (is_key its_key q) (pos 0) (account_liabilities a).selling selling_none
+  weighs Selling q = sub_if_zero (is_key its_key q) (pos 0) (account_liabilities a).selling selling_none
       ∙ no_payer (sponsor_of e) Selling q
-  weighs Buying q = no_states (is_key its_key q) (pos 0) (account_liabilities a).buying buying_none
+  weighs Buying q = sub_if_zero (is_key its_key q) (pos 0) (account_liabilities a).buying buying_none
       ∙ no_payer (sponsor_of e) Buying q
-  weighs kind q = no_states (is_key its_key q) (pos 0) (pos 0) refl ∙ no_payer (sponsor_of e) kind q
+  weighs kind q = sub_if_zero (is_key its_key q) (pos 0) (pos 0) refl ∙ no_payer (sponsor_of e) kind q
 
 -- ---- an account that is removed
 
@@ -251,16 +214,16 @@ module _ (v : View) (id_pool : ℕ) (lumens : ℤ) (m : EntryMap) (legal : IsLeg
       let still : get now k ≡ Some e1 = changed.others k (λ y is. apart y is) (beside_none k) ∙ there in
       legal_as v (IsEntryLegal id_pool) _ nothing_owed _ _ (erase now k)
       (erase_legal v (IsEntryLegal id_pool) _ lumens now changed.legal k e1 still (λ q same. absurd (cc)))
-      (λ kind q. settled_with (weight v kind q e1) (payer_books 2 s kind q)
+      (λ kind q. settled_with (weight v kind q e1) (payer_aggregates 2 s kind q)
       (weighs v id_pool lumens m legal x a there subs pays kind q)) refl
 
 pub removed_account : (v : View) (id_pool : ℕ) (lumens : ℤ) (m : EntryMap) (id : AccountId) (a : AccountEntry)
     → IsLegalOwing v id_pool nothing_owed lumens m → account_at m id ≡ Some a
     → a.num_sub_entries ≡ 0 → num_sponsoring a ≡ 0 → IsLegalOwing v id_pool nothing_owed
     (lumens +ℤ neg_ℤ (lumens_of v.asset a.balance)) (map_after_removing (key.Account id) m)
-removed_account v id_pool lumens m id a legal stands subs pays =
-    let found = account_entry m id a stands in
-    let same = same_id_at m id a legal.keyed stands in
+removed_account v id_pool lumens m id a legal exists subs pays =
+    let found = account_entry m id a exists in
+    let same = same_id_at m id a legal.keyed exists in
     let there : get m (key.Account a.account_id) ≡ Some (with_body found.0 a) = ap (λ i. get m (key.Account i)) same
     ∙ body_there m id a found.0 found.1 in
     subst (IsLegalOwing v id_pool nothing_owed (lumens +ℤ neg_ℤ (lumens_of v.asset a.balance)))
@@ -270,13 +233,13 @@ removed_account v id_pool lumens m id a legal stands subs pays =
     (without v id_pool lumens m legal found.0 a there subs pays)
 
 pub merges_keep : MergesKeep
-merges_keep h m id destination a b legal stands subs pays there room =
+merges_keep h m id destination a b legal exists subs pays there room =
     let coins = h.total_coins -ℤ h.fee_pool in
     let start = owing_nothing h m legal in
-    let removed = removed_account (view m) h.id_pool coins m id a start stands subs pays in
+    let removed = removed_account (view m) h.id_pool coins m id a start exists subs pays in
     let low = credit_low b.balance a.balance (account_legal (view m) h.id_pool nothing_owed (coins +ℤ neg_ℤ a.balance)
     (map_after_removing (key.Account id) m) destination b removed there).range.range.balance
-    (account_legal (view m) h.id_pool nothing_owed coins m id a start stands).range.range.balance in
+    (account_legal (view m) h.id_pool nothing_owed coins m id a start exists).range.range.balance in
     legal_of h (pools_in m) _ legal.header (legal_as (view m)
     (IsEntryLegal h.id_pool) nothing_owed nothing_owed _ coins _
     (paid_legal (view m) h.id_pool nothing_owed (coins +ℤ neg_ℤ a.balance)

@@ -1,41 +1,23 @@
 -- An account that is added.
-use Rattle.std.proofs.Common.{◌≡◌, refl, ap, subst, ◌∙◌, ℕ, Bool, true, false, [], Option, Some, None}
-use Rattle.std.proofs.Common.{Ok}
-use Rattle.std.proofs.Common.{arith}
-use Rattle.std.proofs.lemmas.Int.{ints}
-use Rattle.std.specs.Prelude.{ℤ, pos, neg_ℤ, ◌+ℤ◌, ◌-ℤ◌, ◌≤ℤ◌, if◌then◌else◌}
-use Rattle.std.specs.FinMap.{get}
-use Rattle.hash_ids.specs.ledger_types.declared.ids.AccountId.{AccountId}
-use Rattle.hash_ids.specs.ledger_types.declared.account.AccountEntry.{AccountEntry}
-use Rattle.hash_ids.specs.ledger_types.declared.entry.LedgerEntry.{LedgerEntry}
-use Rattle.hash_ids.specs.ledger_types.declared.key.LedgerKey.{LedgerKey}
+use Rattle.legal_rules.proofs.Prelude as prelude
+use prelude.{◌≡◌, refl, ap, subst, ◌∙◌, ℕ, Bool, true, false, [], Option, Some, None, Ok, arith, ints, ℤ, pos, neg_ℤ}
+use prelude.{◌+ℤ◌, ◌-ℤ◌, ◌≤ℤ◌, if◌then◌else◌, get, AccountId, AccountEntry, LedgerEntry, LedgerKey, EntryMap, put}
+use prelude.{sponsor_of, with_sponsor, Ctx, own_tests, sponsored_account_entry, map_after_adding_account, with_more}
+use prelude.{map_after_charging, open_sponsor, payer_tests_at, done_by, payer_passed, total, is_key, Kind, Subentries}
+use prelude.{Sponsored, View, lumens_of, offer_with, IsSponsorReady, weight, Owed, in_aggregate, less, IsEntryLegal}
+use prelude.{IsLegalOwing, IsNewAccount, add_nothing}
 use Rattle.hash_ids.specs.ledger_types.declared.key.LedgerKey.TheVariants as key
-use Rattle.entry_sums.specs.entry_map.EntryMap.{EntryMap, put}
-use Rattle.sponsor_laws.specs.entry_slots.EntrySponsor.{sponsor_of, with_sponsor}
-use Rattle.sponsor_laws.specs.sponsor_rules.declared.context.Ctx.{Ctx}
 use Rattle.sponsor_laws.specs.sponsor_rules.declared.count.Count.TheVariants as count
-use Rattle.sponsor_laws.specs.sponsor_rules.Adding.{own_tests, sponsored_account_entry, map_after_adding_account}
-use Rattle.sponsor_laws.specs.sponsor_rules.Counting.{with_more}
-use Rattle.sponsor_laws.specs.sponsor_rules.Paying.{map_after_charging}
-use Rattle.sponsor_laws.specs.sponsor_rules.Payers.{open_sponsor, payer_tests_at}
-use Rattle.sponsor_laws.proofs.Bounds.{done_by, payer_passed}
-use Rattle.entry_sums.specs.Sums.{total}
-use Rattle.legal_rules.specs.EntryKeys.{is_key}
-use Rattle.legal_rules.specs.Books.{Kind, Subentries, Sponsored, View}
-use Rattle.legal_rules.specs.Supply.{lumens_of}
-use Rattle.legal_rules.specs.OfferIds.{offer_with}
-use Rattle.legal_rules.specs.Sponsorships.{IsSponsorReady}
-use Rattle.legal_rules.specs.Owing.{weight, Owed, in_book, less, IsEntryLegal, IsLegalOwing}
 use Rattle.legal_rules.proofs.Adding.{room_of}
-use Rattle.legal_rules.proofs.Counting.{more_step, neg_in_book}
+use Rattle.legal_rules.proofs.Counting.{more_step, neg_in_aggregate}
 use Rattle.legal_rules.proofs.Payers.{HasRoom, exchanged}
 use Rattle.legal_rules.proofs.Putting.{put_legal}
-use Rattle.legal_rules.proofs.Sponsors.{unsponsored, paid_books, owner_books, payer_books, split_books, sponsor_weighs}
+use Rattle.legal_rules.proofs.Sponsors.{unsponsored, paid_aggregates, owner_aggregates, payer_aggregates, split_aggregates, sponsor_weighs}
 use Rattle.legal_rules.proofs.Sponsors.{recorded}
 use Rattle.legal_rules.proofs.Steps.{with_body, legal_as}
 use Rattle.legal_rules.proofs.Subentries.{legal_recorded}
-use Rattle.legal_rules.specs.EntryLaws.{IsNewAccount}
 use Rattle.legal_rules.proofs.Numbers.{nothing_less}
+use Rattle.legal_rules.proofs.Numbers.{sum_kept}
 
 -- ---- an account that has nothing but its lumens
 
@@ -58,9 +40,6 @@ bare_weighs v e a new kind k =
 
 -- ---- adding
 
-alone : (o w : ℤ) → w ≡ pos 0 → (o +ℤ w) ≡ o
-alone o w none = omega (arith, ints)
-
 apart_plus : (new old : ℤ) → new ≡ old → old ≤ℤ pos 1 → (new +ℤ pos 0) ≤ℤ pos 1
 apart_plus new old same le = omega (arith, ints)
 
@@ -70,9 +49,6 @@ unpaid w u is none = omega (arith, ints)
 sponsored : (w u bare neg own p q : ℤ) → w ≡ (u +ℤ q) → u ≡ (bare +ℤ neg) → bare ≡ pos 0 → neg ≡ neg_ℤ own
     → q ≡ (own +ℤ p) → w ≡ p
 sponsored w u bare neg own p q is less none turned splits = omega (arith, ints)
-
-settled : (o p w : ℤ) → w ≡ p → (((o +ℤ pos 0) +ℤ neg_ℤ p) +ℤ w) ≡ o
-settled o p w is = omega (arith, ints)
 
 module _ (v : View) (id_pool : ℕ) (owed : Owed) (sum : ℤ) (ctx : Ctx) (x : LedgerEntry) (a : AccountEntry)
     (m : EntryMap)
@@ -86,9 +62,9 @@ module _ (v : View) (id_pool : ℕ) (owed : Owed) (sum : ℤ) (ctx : Ctx) (x : L
   account_alone = legal_as v (IsEntryLegal id_pool) _ owed _ _ (put m (with_body x a))
       (put_legal v (IsEntryLegal id_pool) owed sum m legal (with_body x a) free range (λ id same. absurd (cc))
       (λ id. apart_plus _ _ refl (legal.offers id)))
-      (λ kind k. alone (owed kind k) _ (unpaid _ (weight v kind k (unsponsored (with_body x a)))
+      (λ kind k. add_nothing (owed kind k) _ (unpaid _ (weight v kind k (unsponsored (with_body x a)))
       (sponsor_weighs v (with_body x a) kind k ∙ (λ i. weight v kind k (unsponsored (with_body x a))
-      +ℤ paid_books 2 (Some a.account_id) (none i) kind k))
+      +ℤ paid_aggregates 2 (Some a.account_id) (none i) kind k))
       (bare_weighs v x a bare kind k))) refl
 
   account_sponsored : (s : AccountId) → open_sponsor ctx a.account_id ≡ Some s → HasRoom 2 m s
@@ -101,16 +77,16 @@ module _ (v : View) (id_pool : ℕ) (owed : Owed) (sum : ℤ) (ctx : Ctx) (x : L
       let e2 = with_sponsor (Some s) e1 in
       let changed = exchanged v id_pool sum 2 None (Some s) owed m legal (λ y no. absurd (cc))
       (λ y same. let ids : s ≡ y = cc in subst (HasRoom 2 m) ids room) in
-      let weighs : (kind : Kind) (k : LedgerKey) → weight v kind k e2 ≡ payer_books 2 (Some s) kind k = λ kind k.
+      let weighs : (kind : Kind) (k : LedgerKey) → weight v kind k e2 ≡ payer_aggregates 2 (Some s) kind k = λ kind k.
       sponsored _ (weight v kind k (unsponsored e1)) (weight v kind k (with_body (unsponsored x) a))
-      (in_book Sponsored (key.Account a.account_id) (neg_ℤ (pos 2)) kind k)
-      (owner_books 2 a.account_id (Some s) kind k) (payer_books 2 (Some s) kind k)
-      (paid_books 2 (Some b.account_id) (Some s) kind k)
+      (in_aggregate Sponsored (key.Account a.account_id) (neg_ℤ (pos 2)) kind k)
+      (owner_aggregates 2 a.account_id (Some s) kind k) (payer_aggregates 2 (Some s) kind k)
+      (paid_aggregates 2 (Some b.account_id) (Some s) kind k)
       (sponsor_weighs v e2 kind k ∙ (λ i. weight v kind k (unsponsored e1)
-      +ℤ paid_books 2 (Some b.account_id) (recorded (Some s) e1 i) kind k))
-      (step.move.books v kind k (unsponsored x)) (bare_weighs v x a bare kind k)
-      (neg_in_book Sponsored (key.Account a.account_id) (pos 2) kind k)
-      ((λ i. paid_books 2 (Some (step.move.id i)) (Some s) kind k) ∙ split_books 2 a.account_id (Some s) kind k) in
+      +ℤ paid_aggregates 2 (Some b.account_id) (recorded (Some s) e1 i) kind k))
+      (step.move.aggregates v kind k (unsponsored x)) (bare_weighs v x a bare kind k)
+      (neg_in_aggregate Sponsored (key.Account a.account_id) (pos 2) kind k)
+      ((λ i. paid_aggregates 2 (Some (step.move.id i)) (Some s) kind k) ∙ split_aggregates 2 a.account_id (Some s) kind k) in
       legal_as v (IsEntryLegal id_pool) _ owed _ _ (put now e2)
       (put_legal v (IsEntryLegal id_pool) _ sum now changed.legal e2
       (changed.absent (key.Account b.account_id) (ap (λ i. get m (key.Account i)) step.move.id ∙ free))
@@ -118,7 +94,7 @@ module _ (v : View) (id_pool : ℕ) (owed : Owed) (sum : ℤ) (ctx : Ctx) (x : L
       (let ids : s ≡ b.account_id = cc in ids ∙ step.move.id)) (step.keeps x range))
       (λ id same. absurd (cc))
       (λ id. apart_plus (total (offer_with id) now) (total (offer_with id) m) (changed.offers id) (legal.offers id)))
-      (λ kind k. settled (owed kind k) (payer_books 2 (Some s) kind k) (weight v kind k e2) (weighs kind k))
+      (λ kind k. sum_kept (owed kind k) (payer_aggregates 2 (Some s) kind k) (weight v kind k e2) (weighs kind k))
       (ap (λ n. sum +ℤ lumens_of v.asset n) step.balance)
 
   by_sponsor : (o : Option AccountId) → open_sponsor ctx a.account_id ≡ o → (new : EntryMap)
@@ -129,9 +105,9 @@ module _ (v : View) (id_pool : ℕ) (owed : Owed) (sum : ℤ) (ctx : Ctx) (x : L
       let after = put (map_after_charging 2 (Some s) m) (sponsored_account_entry s x a) in
       let over = payer_passed ctx m s 2 after new done in
       subst IsLegalNow (done_by (payer_tests_at ctx m s 2) after new done)
-      (account_sponsored s is (room_of m s 2 (ready.stands s is) over))
+      (account_sponsored s is (room_of m s 2 (ready.exists s is) over))
 
-  -- An account that is added owes nothing, and its lumens come to the supply.
+  -- An account that is added owes nothing, and its lumens are added to the supply.
   pub account_added : (new : EntryMap)
       → map_after_adding_account ctx (with_body x a) a (open_sponsor ctx a.account_id) m ≡ Ok new → IsLegalNow new
   account_added new done = by_sponsor (open_sponsor ctx a.account_id) refl new done

@@ -1,49 +1,23 @@
 -- Offers that are added and changed, with what they bind.
-use Rattle.std.proofs.Common.{◌≡◌, ◌≢◌, refl, sym, ap, subst, ◌∙◌, ℕ, ◌+◌, Bool, true, false, Option, Some}
-use Rattle.std.proofs.Common.{None, arith}
-use Rattle.std.proofs.lemmas.Int.{ints}
-use Rattle.std.specs.Prelude.{ℤ, pos, neg_ℤ, ◌+ℤ◌, ◌-ℤ◌, ◌≤ℤ◌, if◌then◌else◌}
-use Rattle.std.specs.Ordering.{is_eq, int_cmp}
-use Rattle.std.specs.Cmp.{Equal-is}
-use Rattle.std.specs.FinMap.{get, int_cmp-IsAntisymmetric}
-use Rattle.hash_ids.specs.ledger_types.declared.ids.AccountId.{AccountId}
-use Rattle.hash_ids.specs.ledger_types.declared.offer.OfferEntry.{OfferEntry}
-use Rattle.hash_ids.specs.ledger_types.declared.header.LedgerHeader.{LedgerHeader}
-use Rattle.hash_ids.specs.ledger_types.declared.entry.LedgerEntry.{LedgerEntry}
-use Rattle.hash_ids.specs.ledger_types.declared.entry.LedgerEntryBody.{LedgerEntryBody}
+use Rattle.legal_rules.proofs.Prelude as prelude
+use prelude.{◌≡◌, ◌≢◌, refl, sym, ap, subst, ◌∙◌, ℕ, ◌+◌, Bool, true, false, Option, Some, None, arith, ints, ℤ, pos}
+use prelude.{neg_ℤ, ◌+ℤ◌, ◌-ℤ◌, ◌≤ℤ◌, if◌then◌else◌, is_eq, int_cmp, get, AccountId, OfferEntry, LedgerHeader}
+use prelude.{LedgerEntry, LedgerEntryBody, LedgerKey, key_of_body, EntryMap, sponsor_of, offer_in, offer_of, offer_at}
+use prelude.{with_offer, with_offer_in, with_offer_of, total, EachEntry, total_none, bound_of, is_key, for_key}
+use prelude.{for_account, sponsored_in_entry, holder, sells, buys, Kind, Subentries, Sponsoring, Sponsored, Selling}
+use prelude.{Buying, View, counted, offer_with, offer_with_in, IsBodyInRange, IsHeaderInRange, binding, acquiring}
+use prelude.{bound_account, CanBind, CanBindBoth, trade_aggregates, LiabilitiesAcquired, OfferChanged, new_offer}
+use prelude.{with_next_id, NewOffersKeep, IsIdLeft, view, pools_in, weight, weighed, Owed, nothing_owed, plus, less}
+use prelude.{beside_reserves, IsEntryLegal, IsLegalOwing, add_assoc_to, add_to_zero_at_most_one, add_zero}
+use prelude.{int_cmp_equal, sub_if_zeros}
 use Rattle.hash_ids.specs.ledger_types.declared.entry.LedgerEntryBody.TheVariants as body
-use Rattle.hash_ids.specs.ledger_types.declared.key.LedgerKey.{LedgerKey}
 use Rattle.hash_ids.specs.ledger_types.declared.key.LedgerKey.TheVariants as key
-use Rattle.hash_ids.specs.ledger_types.Keys.{key_of_body}
-use Rattle.entry_sums.specs.entry_map.EntryMap.{EntryMap}
-use Rattle.sponsor_laws.specs.entry_slots.EntrySponsor.{sponsor_of}
-use Rattle.sponsor_laws.specs.entry_slots.Offers.{offer_in, offer_of, offer_at, with_offer, with_offer_in}
-use Rattle.sponsor_laws.specs.entry_slots.Offers.{with_offer_of}
-use Rattle.entry_sums.specs.Sums.{total, EachEntry}
-use Rattle.entry_sums.proofs.Summing.{total_none}
-use Rattle.legal_rules.specs.OfferLiabilities.{bound_of}
-use Rattle.legal_rules.specs.EntryKeys.{is_key, for_key, for_account}
-use Rattle.legal_rules.specs.Reserves.{sponsored_in_entry}
-use Rattle.legal_rules.specs.Trades.{holder, sells, buys}
-use Rattle.legal_rules.specs.Books.{Kind, Subentries, Sponsoring, Sponsored, Selling, Buying, View, counted}
-use Rattle.legal_rules.specs.OfferIds.{offer_with, offer_with_in}
-use Rattle.legal_rules.specs.Ranges.{IsBodyInRange}
-use Rattle.legal_rules.specs.Headers.{IsHeaderInRange}
-use Rattle.legal_rules.specs.Binding.{binding, acquiring, bound_account, CanBind, CanBindBoth}
-use Rattle.legal_rules.specs.OfferLaws.{trade_books, LiabilitiesAcquired, OfferChanged, new_offer, with_next_id}
-use Rattle.legal_rules.specs.OfferLaws.{NewOffersKeep, IsIdLeft}
-use Rattle.legal_rules.specs.Legal.{view, pools_in}
-use Rattle.legal_rules.specs.Owing.{weight, weighed, Owed, nothing_owed, plus, less, beside_reserves, IsEntryLegal}
-use Rattle.legal_rules.specs.Owing.{IsLegalOwing}
 use Rattle.legal_rules.proofs.Kept.{subentry_added_so}
 use Rattle.legal_rules.proofs.Legality.{owing_nothing, legal_of}
 use Rattle.legal_rules.proofs.Liable.{unbound, bound_step, line_entry, bound_line_legal}
 use Rattle.legal_rules.proofs.Steps.{replace_legal, legal_as, stepped, same_id_at}
 
 -- ---- ids
-
-same_int : (a b : ℤ) → is_eq (int_cmp a b) ≡ true → a ≡ b
-same_int a b h = int_cmp-IsAntisymmetric a b ((Equal-is (int_cmp a b)).0 h)
 
 too_late : (x id : ℤ) (n : ℕ) → x ≡ id → x ≤ℤ pos n → pos (n + 1) ≤ℤ id → ⊥
 too_late x id n same high later = omega (arith, ints)
@@ -52,13 +26,10 @@ too_late x id n same high later = omega (arith, ints)
 no_later : (n : ℕ) (id : ℤ) (b : LedgerEntryBody) → IsBodyInRange n b → pos (n + 1) ≤ℤ id → offer_with_in id b ≡ pos 0
 no_later n id (body.Offer o) range later = elim (is_eq (int_cmp o.offer_id id)) as
     (λ t. is_eq (int_cmp o.offer_id id) ≡ t → (if t then pos 1 else pos 0) ≡ pos 0) [
-      | true ↦ λ h. absurd (too_late o.offer_id id n (same_int _ _ h) range.id_high later)
+      | true ↦ λ h. absurd (too_late o.offer_id id n (int_cmp_equal _ _ h) range.id_high later)
       | false ↦ λ h. refl
     ] refl
 no_later n id other range later = refl
-
-first_with : (sum one : ℤ) → sum ≡ pos 0 → one ≤ℤ pos 1 → (sum +ℤ one) ≤ℤ pos 1
-first_with sum one none le = omega (arith, ints)
 
 other_with : (sum one : ℤ) → sum ≤ℤ pos 1 → one ≡ pos 0 → (sum +ℤ one) ≤ℤ pos 1
 other_with sum one le none = omega (arith, ints)
@@ -71,27 +42,24 @@ next_apart : (n : ℕ) (seq : ℕ) (offer : OfferEntry) → offer.offer_id ≡ p
     → (id : ℤ) → (total (offer_with id) m +ℤ offer_with id (new_offer seq offer)) ≤ℤ pos 1
 next_apart n seq offer is m entries few id = elim (is_eq (int_cmp offer.offer_id id)) as
     (λ t. is_eq (int_cmp offer.offer_id id) ≡ t → (total (offer_with id) m +ℤ (if t then pos 1 else pos 0)) ≤ℤ pos 1) [
-      | true ↦ λ h. first_with _ (pos 1) (total_none (offer_with id) m (λ k e there.
-          no_later n id e.body (entries k e there).range.body (at_last offer.offer_id id n (same_int _ _ h) is)))
+      | true ↦ λ h. add_to_zero_at_most_one _ (pos 1) (total_none (offer_with id) m (λ k e there.
+          no_later n id e.body (entries k e there).range.body (at_last offer.offer_id id n (int_cmp_equal _ _ h) is)))
           (omega (arith, ints))
       | false ↦ λ h. other_with _ (pos 0) (few id) refl
     ] refl
 
 -- ---- what is bound
 
--- what books owe once what an offer binds in a holder is bound
+-- what aggregates owe once what an offer binds in a holder is bound
 abbrev pub unbound_if : Option LedgerKey → (selling buying : ℤ) → Owed
 unbound_if None selling buying = nothing_owed
 unbound_if (Some k) selling buying = unbound k selling buying
-
-plus_zero : (x : ℤ) → x ≡ (x +ℤ pos 0)
-plus_zero x = omega (arith, ints)
 
 pub binding_legal : (v : View) (id_pool : ℕ) (owed : Owed) (sum : ℤ) (m : EntryMap) (o : Option LedgerKey)
     (selling buying : ℤ) → IsLegalOwing v id_pool owed sum m → CanBind m o selling buying
     → IsLegalOwing v id_pool (plus owed (unbound_if o selling buying)) sum (binding o selling buying m)
 binding_legal v id_pool owed sum m None selling buying legal can =
-    legal_as v (IsEntryLegal id_pool) owed _ sum sum m legal (λ kind k. plus_zero (owed kind k)) refl
+    legal_as v (IsEntryLegal id_pool) owed _ sum sum m legal (λ kind k. sym (add_zero (owed kind k))) refl
 binding_legal v id_pool owed sum m (Some (key.Account id)) selling buying legal can =
     legal_as v (IsEntryLegal id_pool) _ _ sum sum _
     (stepped v (IsEntryLegal id_pool) owed _ sum m id (bound_account selling buying) can.0 legal can.1
@@ -104,7 +72,7 @@ binding_legal v id_pool owed sum m (Some (key.TrustLine id x)) selling buying le
     (sym (ap key_of_body found.1.is) ∙ legal.keyed (key.TrustLine id x) found.0 found.1.there)
 binding_legal v id_pool owed sum m (Some other) selling buying legal can = absurd can
 
--- what books owe once wheat is bound for sale, and sheep for purchase
+-- what aggregates owe once wheat is bound for sale, and sheep for purchase
 abbrev pub traded : OfferEntry → (wheat sheep : ℤ) → Owed
 traded o wheat sheep Selling k = neg_ℤ (for_key k (holder o.seller_id o.selling) wheat)
 traded o wheat sheep Buying k = neg_ℤ (for_key k (holder o.seller_id o.buying) sheep)
@@ -138,7 +106,7 @@ nothing_bought None k n = refl
 nothing_bought (Some q) k n = elim (is_key q k) as
     (λ t. ◌≡◌ {A = ℤ} (pos 0 +ℤ (if t then pos 0 else pos 0)) (pos 0)) [ true ↦ refl | false ↦ refl ]
 
--- the books of no trade
+-- the aggregates of no trade
 abbrev beside_trade : Owed → Owed
 beside_trade owed Selling k = pos 0
 beside_trade owed Buying k = pos 0
@@ -162,9 +130,6 @@ both_bound o wheat sheep kind k = first_only _ _ _
     (unbound_elsewhere (holder o.seller_id o.selling) wheat (pos 0) kind k)
     (unbound_elsewhere (holder o.seller_id o.buying) (pos 0) sheep kind k)
 
-grouped : (x a b c : ℤ) → (a +ℤ b) ≡ c → ((x +ℤ a) +ℤ b) ≡ (x +ℤ c)
-grouped x a b c is = omega (arith, ints)
-
 pub trading_legal : (v : View) (id_pool : ℕ) (owed : Owed) (sum : ℤ) (m : EntryMap) (o : OfferEntry) (wheat sheep : ℤ)
     → IsLegalOwing v id_pool owed sum m → CanBindBoth o wheat sheep m
     → IsLegalOwing v id_pool (plus owed (traded o wheat sheep)) sum
@@ -172,11 +137,11 @@ pub trading_legal : (v : View) (id_pool : ℕ) (owed : Owed) (sum : ℤ) (m : En
 trading_legal v id_pool owed sum m o wheat sheep legal can = legal_as v (IsEntryLegal id_pool) _ _ _ _ _
     (binding_legal v id_pool _ _ _ (holder o.seller_id o.buying) (pos 0) sheep
     (binding_legal v id_pool owed sum m (holder o.seller_id o.selling) wheat (pos 0) legal can.0) can.1)
-    (λ kind k. grouped (owed kind k) (unbound_if (holder o.seller_id o.selling) wheat (pos 0) kind k)
+    (λ kind k. add_assoc_to (owed kind k) (unbound_if (holder o.seller_id o.selling) wheat (pos 0) kind k)
     (unbound_if (holder o.seller_id o.buying) (pos 0) sheep kind k) _ (both_bound o wheat sheep kind k)) refl
 
 acquired : (o : OfferEntry) (kind : Kind) (k : LedgerKey)
-    → traded o (pos (bound_of o).wheat) (pos (bound_of o).sheep) kind k ≡ less (trade_books o) kind k
+    → traded o (pos (bound_of o).wheat) (pos (bound_of o).sheep) kind k ≡ less (trade_aggregates o) kind k
 acquired o Selling k = refl
 acquired o kind k = refl
 
@@ -186,19 +151,12 @@ acquiring_legal v id_pool owed sum o m legal can = legal_as v (IsEntryLegal id_p
 
 -- ---- an offer that is added
 
-stated_none : (t : Bool) (x : ℤ) → (x -ℤ (if t then pos 0 else pos 0)) ≡ x
-stated_none true x = omega (arith, ints)
-stated_none false x = omega (arith, ints)
-
-offer_books : (v : View) (seq : ℕ) (o : OfferEntry) (kind : Kind) (k : LedgerKey)
-    → beside_reserves (weighed v (new_offer seq o)) kind k ≡ trade_books o kind k
-offer_books v seq o Subentries k = refl
-offer_books v seq o Sponsoring k = refl
-offer_books v seq o Sponsored k = refl
-offer_books v seq o kind k = stated_none (is_key (key_of_body (body.Offer o)) k) _
-
-none_more : (x : ℤ) → (x +ℤ pos 0) ≡ x
-none_more x = omega (arith, ints)
+offer_aggregates : (v : View) (seq : ℕ) (o : OfferEntry) (kind : Kind) (k : LedgerKey)
+    → beside_reserves (weighed v (new_offer seq o)) kind k ≡ trade_aggregates o kind k
+offer_aggregates v seq o Subentries k = refl
+offer_aggregates v seq o Sponsoring k = refl
+offer_aggregates v seq o Sponsored k = refl
+offer_aggregates v seq o kind k = sub_if_zeros (is_key (key_of_body (body.Offer o)) k) _
 
 cancels : (w c : ℤ) → w ≡ c → ((pos 0 +ℤ w) +ℤ neg_ℤ c) ≡ pos 0
 cancels w c is = omega (arith, ints)
@@ -236,8 +194,8 @@ new_offers_keep h ctx seq offer old m legal last range left free owner ready is 
     }) owner ready is in
     legal_of (with_next_id h) (pools_in old) (acquiring offer m) (next_header h legal.header left)
     (legal_as v (IsEntryLegal next) _ nothing_owed _ coins (acquiring offer m)
-    (acquiring_legal v next _ _ offer m added can) (λ kind k. cancels _ _ (offer_books v seq offer kind k))
-    (none_more coins))
+    (acquiring_legal v next _ _ offer m added can) (λ kind k. cancels _ _ (offer_aggregates v seq offer kind k))
+    (add_zero coins))
 
 -- ---- an offer that is changed
 
@@ -267,8 +225,8 @@ moved_so true false x y c d is = omega (arith, ints)
 moved_so false true x y c d is = omega (arith, ints)
 moved_so false false x y c d is = omega (arith, ints)
 
-stays : (x y : ℤ) → x ≡ y → x ≡ (y +ℤ (pos 0 +ℤ pos 0))
-stays x y is = omega (arith, ints)
+same_plus_zeros : (x y : ℤ) → x ≡ y → x ≡ (y +ℤ (pos 0 +ℤ pos 0))
+same_plus_zeros x y is = omega (arith, ints)
 
 in_place : (c d : ℤ) → d ≡ (c +ℤ (neg_ℤ c +ℤ d))
 in_place c d = omega (arith, ints)
@@ -284,15 +242,15 @@ module _ (v : View) (e : LedgerEntry) (old new : OfferEntry) (same : new.seller_
   at_new k = is_key (key_of_body (body.Offer new)) k
 
   offer_moves : (kind : Kind) (k : LedgerKey) → weight v kind k (with_offer_body e new)
-      ≡ (weight v kind k (with_offer_body e old) +ℤ plus (less (trade_books old)) (trade_books new) kind k)
+      ≡ (weight v kind k (with_offer_body e old) +ℤ plus (less (trade_aggregates old)) (trade_aggregates new) kind k)
   offer_moves Subentries k = moved_so (at_new k) (at_old k) (for_account k (Some new.seller_id) 1)
-      (for_account k (Some old.seller_id) 1) (pos 0) (pos 0) (stays _ _ (λ i. for_account k (Some (same i)) 1))
+      (for_account k (Some old.seller_id) 1) (pos 0) (pos 0) (same_plus_zeros _ _ (λ i. for_account k (Some (same i)) 1))
   offer_moves Sponsored k = moved_so (at_new k) (at_old k)
       (for_account k (Some new.seller_id) (sponsored_in_entry (with_offer_body e new)))
       (for_account k (Some old.seller_id) (sponsored_in_entry (with_offer_body e old))) (pos 0) (pos 0)
-      (stays _ _ (λ i. for_account k (Some (same i)) (sponsored_in_entry (with_offer_body e old))))
+      (same_plus_zeros _ _ (λ i. for_account k (Some (same i)) (sponsored_in_entry (with_offer_body e old))))
   offer_moves Sponsoring k = moved_so (at_new k) (at_old k) (counted v Sponsoring k (with_offer_body e new))
-      (counted v Sponsoring k (with_offer_body e old)) (pos 0) (pos 0) (stays _ _ refl)
+      (counted v Sponsoring k (with_offer_body e old)) (pos 0) (pos 0) (same_plus_zeros _ _ refl)
   offer_moves Selling k = moved_so (at_new k) (at_old k) (sells k (body.Offer new)) (sells k (body.Offer old))
       (sells k (body.Offer old)) (sells k (body.Offer new))
       (in_place (sells k (body.Offer old)) (sells k (body.Offer new)))
@@ -308,23 +266,23 @@ with_offer_is m seller id f o e here = ap (with_offer_of m f) here.there
     ∙ ap (λ b. with_offer_in m (record e { body = b }) f b) here.is
 
 pub offer_changed : OfferChanged
-offer_changed v id_pool owed sum old new m legal stands seller id range =
-    let found = offer_entry m old.seller_id old.offer_id old stands in
+offer_changed v id_pool owed sum old new m legal exists seller id range =
+    let found = offer_entry m old.seller_id old.offer_id old exists in
     let e0 = with_offer_body found.0 old in
     let e1 = with_offer_body found.0 new in
     let k = key.Offer old.seller_id old.offer_id in
     let there0 : get m k ≡ Some e0 = found.1.there ∙ ap Some (λ i. record found.0 { body = found.1.is i }) in
     let was = legal.entries k e0 there0 in
-    subst (IsLegalOwing v id_pool (plus owed (plus (less (trade_books old)) (trade_books new))) sum)
+    subst (IsLegalOwing v id_pool (plus owed (plus (less (trade_aggregates old)) (trade_aggregates new))) sum)
     (sym (with_offer_is m old.seller_id old.offer_id (λ o. new) old found.0 found.1))
     (legal_as v (IsEntryLegal id_pool) _ _ _ sum _
-    (replace_legal v (IsEntryLegal id_pool) owed (plus (less (trade_books old)) (trade_books new)) sum m k e0 e1
+    (replace_legal v (IsEntryLegal id_pool) owed (plus (less (trade_aggregates old)) (trade_aggregates new)) sum m k e0 e1
     there0 legal
     (record {
       own = λ i. key.Offer (seller i) (id i);
       params = refl;
       offers = λ n. ap (λ x. if is_eq (int_cmp x n) then pos 1 else pos 0) id;
-      books = offer_moves v found.0 old new seller;
+      aggregates = offer_moves v found.0 old new seller;
     })
     (record {
       range = record {
@@ -336,4 +294,4 @@ offer_changed v id_pool owed sum old new m legal stands seller id range =
       fits = tt;
       filled = tt;
     }))
-    (λ kind q. refl) (none_more sum))
+    (λ kind q. refl) (add_zero sum))

@@ -1,27 +1,14 @@
 -- Lumens that are paid, charged or moved, and another sequence number.
-use Rattle.std.proofs.Common.{Bool, true, false, ◌≡◌, refl, sym, ◌∙◌, ℕ, Some, arith}
-use Rattle.std.proofs.lemmas.Int.{ints}
-use Rattle.std.specs.Prelude.{ℤ, pos, neg_ℤ, ◌+ℤ◌, ◌-ℤ◌, ◌≤ℤ◌, if◌then◌else◌}
-use Rattle.std.specs.Ordering.{is_eq}
-use Rattle.hash_ids.specs.ledger_types.declared.ids.AccountId.{AccountId}
+use Rattle.legal_rules.proofs.Prelude.{◌≡◌, refl, sym, ◌∙◌, ℕ, Some, arith, ints, ℤ, pos, neg_ℤ, ◌+ℤ◌, ◌-ℤ◌, ◌≤ℤ◌}
+use Rattle.legal_rules.proofs.Prelude.{is_eq, AccountId, AccountEntry, LedgerHeader, LedgerEntry, LedgerKey, asset_cmp}
+use Rattle.legal_rules.proofs.Prelude.{EntryMap, account_liabilities, account_at, room, greatest_i64, IsInRange, Kind}
+use Rattle.legal_rules.proofs.Prelude.{Subentries, View, lumens_of, IsHeaderInRange, view, pools_in, weight, Owed}
+use Rattle.legal_rules.proofs.Prelude.{nothing_owed, IsEntryLegal, IsLegalOwing, add_change_if, add_nonnegative}
+use Rattle.legal_rules.proofs.Prelude.{add_sub_self, add_zero, sub_nonnegative}
 use Rattle.hash_ids.specs.ledger_types.declared.asset.Asset.TheVariants as asset
-use Rattle.hash_ids.specs.ledger_types.declared.account.AccountEntry.{AccountEntry}
-use Rattle.hash_ids.specs.ledger_types.declared.header.LedgerHeader.{LedgerHeader}
-use Rattle.hash_ids.specs.ledger_types.declared.entry.LedgerEntry.{LedgerEntry}
-use Rattle.hash_ids.specs.ledger_types.declared.key.LedgerKey.{LedgerKey}
-use Rattle.hash_ids.specs.ledger_types.KeyOrder.{asset_cmp}
-use Rattle.entry_sums.specs.entry_map.EntryMap.{EntryMap}
-use Rattle.sponsor_laws.specs.entry_slots.AccountExtensions.{account_liabilities}
-use Rattle.sponsor_laws.specs.entry_slots.Accounts.{account_at}
-use Rattle.sponsor_laws.specs.reserve_rules.Reserve.{room, greatest_i64, IsInRange}
-use Rattle.legal_rules.specs.Books.{Kind, Subentries, View}
-use Rattle.legal_rules.specs.Supply.{lumens_of}
-use Rattle.legal_rules.specs.Headers.{IsHeaderInRange}
-use Rattle.legal_rules.specs.Legal.{view, pools_in}
-use Rattle.legal_rules.specs.Owing.{weight, Owed, nothing_owed, IsEntryLegal, IsLegalOwing}
 use Rattle.legal_rules.specs.Payments.{paid, with_paid, numbered, with_seq_num, with_fee}
 use Rattle.legal_rules.specs.PaymentLaws.{FeesKeep, SeqNumsKeep, MovesKeep}
-use Rattle.legal_rules.proofs.Numbers.{plus_nothing, there_and_back, fee_moved, still_low}
+use Rattle.legal_rules.proofs.Numbers.{there_and_back, fee_moved}
 use Rattle.legal_rules.proofs.Legality.{owing_nothing, legal_of}
 use Rattle.legal_rules.proofs.Bounded.{account_legal}
 use Rattle.legal_rules.proofs.Steps.{with_body, IsMove, KeepsRange, with_account_legal, legal_as}
@@ -34,7 +21,7 @@ paid_unmoved delta a v Subentries k e = refl
 paid_unmoved delta a v other k e = refl
 
 paid_move : (delta : ℤ) (a : AccountEntry) → IsMove nothing_owed a (paid delta a)
-paid_move delta a = record { id = refl; books = λ v kind k e. paid_unmoved delta a v kind k e ∙ sym (plus_nothing _) }
+paid_move delta a = record { id = refl; aggregates = λ v kind k e. paid_unmoved delta a v kind k e ∙ sym (add_zero _) }
 
 paid_range : (delta : ℤ) (a : AccountEntry) → IsInRange a → pos 0 ≤ℤ (a.balance +ℤ delta) → delta ≤ℤ room a
     → IsInRange (paid delta a)
@@ -70,28 +57,19 @@ paid_keeps id_pool delta a range e was = record {
   filled = tt;
 }
 
-paid_sum : (t : Bool) (lumens balance delta : ℤ) → (lumens +ℤ
-    ((if t then (balance +ℤ delta) else pos 0) -ℤ (if t then balance else pos 0)))
-    ≡ (lumens +ℤ (if t then delta else pos 0))
-paid_sum true lumens balance delta = omega (arith, ints)
-paid_sum false lumens balance delta = omega (arith, ints)
-
--- An account is paid, or pays where delta is below 0: the lumens rise by delta, and no book owes more.
+-- An account is paid, or pays where delta is below 0: the lumens rise by delta, and no aggregate owes more.
 pub paid_legal : (v : View) (id_pool : ℕ) (owed : Owed) (lumens : ℤ) (m : EntryMap) (id : AccountId) (delta : ℤ)
     (a : AccountEntry) → IsLegalOwing v id_pool owed lumens m
     → account_at m id ≡ Some a → pos 0 ≤ℤ (a.balance +ℤ delta) → delta ≤ℤ room a
     → IsLegalOwing v id_pool owed (lumens +ℤ lumens_of v.asset delta) (with_paid id delta m)
-paid_legal v id_pool owed lumens m id delta a legal stands low le =
-    let range = paid_range delta a (account_legal v id_pool owed lumens m id a legal stands).range.range low le in
+paid_legal v id_pool owed lumens m id delta a legal exists low le =
+    let range = paid_range delta a (account_legal v id_pool owed lumens m id a legal exists).range.range low le in
     legal_as v (IsEntryLegal id_pool) (λ kind k. owed kind k +ℤ nothing_owed kind k) owed _ _ (with_paid id delta m)
-    (with_account_legal v (IsEntryLegal id_pool) owed nothing_owed lumens m id (paid delta) a legal stands
+    (with_account_legal v (IsEntryLegal id_pool) owed nothing_owed lumens m id (paid delta) a legal exists
     (paid_move delta a) (paid_keeps id_pool delta a range))
-    (λ kind k. plus_nothing (owed kind k)) (paid_sum (is_eq (asset_cmp v.asset asset.Native)) lumens a.balance delta)
+    (λ kind k. add_zero (owed kind k)) (add_change_if (is_eq (asset_cmp v.asset asset.Native)) lumens a.balance delta)
 
 -- ---- fees
-
-debit_low : (balance fee : ℤ) → fee ≤ℤ balance → pos 0 ≤ℤ (balance +ℤ neg_ℤ fee)
-debit_low balance fee le = omega (arith, ints)
 
 debit_room : (balance buying greatest fee : ℤ) → pos 0 ≤ℤ fee → (balance +ℤ buying) ≤ℤ greatest
     → neg_ℤ fee ≤ℤ (greatest -ℤ balance -ℤ buying)
@@ -101,9 +79,9 @@ pub debit_legal : (v : View) (id_pool : ℕ) (owed : Owed) (lumens : ℤ) (m : E
     (a : AccountEntry) → IsLegalOwing v id_pool owed lumens m
     → account_at m id ≡ Some a → pos 0 ≤ℤ amount → amount ≤ℤ a.balance
     → IsLegalOwing v id_pool owed (lumens +ℤ lumens_of v.asset (neg_ℤ amount)) (with_paid id (neg_ℤ amount) m)
-debit_legal v id_pool owed lumens m id amount a legal stands low le =
-    let range = (account_legal v id_pool owed lumens m id a legal stands).range.range in
-    paid_legal v id_pool owed lumens m id (neg_ℤ amount) a legal stands (debit_low a.balance amount le)
+debit_legal v id_pool owed lumens m id amount a legal exists low le =
+    let range = (account_legal v id_pool owed lumens m id a legal exists).range.range in
+    paid_legal v id_pool owed lumens m id (neg_ℤ amount) a legal exists (sub_nonnegative a.balance amount le)
     (debit_room a.balance (account_liabilities a).buying greatest_i64 amount low range.fits)
 
 header_with_fee : (h : LedgerHeader) (fee : ℤ) → IsHeaderInRange h → pos 0 ≤ℤ fee → IsHeaderInRange (with_fee fee h)
@@ -114,15 +92,15 @@ header_with_fee h fee r low = record {
   base_fee = r.base_fee;
   base_reserve = r.base_reserve;
   total_coins = r.total_coins;
-  fee_pool = still_low h.fee_pool fee r.fee_pool low;
+  fee_pool = add_nonnegative h.fee_pool fee r.fee_pool low;
   id_pool = r.id_pool;
   flags = r.flags;
 }
 
 pub fees_keep : FeesKeep
-fees_keep h m id a fee legal stands low le =
+fees_keep h m id a fee legal exists low le =
     let charged = debit_legal (view m) h.id_pool nothing_owed (h.total_coins -ℤ h.fee_pool) m id fee a
-    (owing_nothing h m legal) stands low le in
+    (owing_nothing h m legal) exists low le in
     legal_of (with_fee fee h) (pools_in m) (with_paid id (neg_ℤ fee) m) (header_with_fee h fee legal.header low)
     (legal_as (view m) (IsEntryLegal h.id_pool) nothing_owed nothing_owed _ _ (with_paid id (neg_ℤ fee) m) charged
     (λ kind k. refl) (fee_moved h.total_coins h.fee_pool fee))
@@ -130,13 +108,13 @@ fees_keep h m id a fee legal stands low le =
 -- ---- moves
 
 pub moves_keep : MovesKeep
-moves_keep h m to from a b amount legal low to_stands room from_stands enough =
+moves_keep h m to from a b amount legal low to_exists room from_exists enough =
     let coins = h.total_coins -ℤ h.fee_pool in
-    let credited = paid_legal (view m) h.id_pool nothing_owed coins m to amount a (owing_nothing h m legal) to_stands
+    let credited = paid_legal (view m) h.id_pool nothing_owed coins m to amount a (owing_nothing h m legal) to_exists
     (credit_low a.balance amount (account_legal (view m) h.id_pool nothing_owed coins m to a
-    (owing_nothing h m legal) to_stands).range.range.balance low) room in
+    (owing_nothing h m legal) to_exists).range.range.balance low) room in
     let debited = debit_legal (view m) h.id_pool nothing_owed (coins +ℤ amount)
-    (with_paid to amount m) from amount b credited from_stands low enough in
+    (with_paid to amount m) from amount b credited from_exists low enough in
     legal_of h (pools_in m) _ legal.header (legal_as (view m)
     (IsEntryLegal h.id_pool) nothing_owed nothing_owed _ _ _ debited (λ kind k. refl) (there_and_back coins amount))
   where
@@ -179,17 +157,14 @@ numbered_keeps id_pool n a low high e was = record {
   filled = tt;
 }
 
-same_sum : (lumens balance : ℤ) → (lumens +ℤ (balance -ℤ balance)) ≡ lumens
-same_sum lumens balance = omega (arith, ints)
-
 pub seq_nums_keep : SeqNumsKeep
-seq_nums_keep h m id a n legal stands low high =
+seq_nums_keep h m id a n legal exists low high =
     let coins = h.total_coins -ℤ h.fee_pool in
     legal_of h (pools_in m) (with_seq_num id n m) legal.header
     (legal_as (view m) (IsEntryLegal h.id_pool) (λ kind k. nothing_owed kind k +ℤ nothing_owed kind k) nothing_owed _
     _ (with_seq_num id n m)
     (with_account_legal (view m) (IsEntryLegal h.id_pool) nothing_owed nothing_owed coins m id (numbered n) a
-    (owing_nothing h m legal) stands
-    (record { id = refl; books = λ v kind k e. numbered_unmoved n a v kind k e ∙ sym (plus_nothing _) })
+    (owing_nothing h m legal) exists
+    (record { id = refl; aggregates = λ v kind k e. numbered_unmoved n a v kind k e ∙ sym (add_zero _) })
     (numbered_keeps h.id_pool n a low high))
-    (λ kind k. plus_nothing (pos 0)) (same_sum coins a.balance))
+    (λ kind k. add_zero (pos 0)) (add_sub_self coins a.balance))

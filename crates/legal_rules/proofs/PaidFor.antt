@@ -1,29 +1,13 @@
--- Whoever pays for an entry stands, and so does its owner, and both count what is paid.
-use Rattle.std.proofs.Common.{◌≡◌, sym, subst, ℕ, ◌+◌, ◌≤◌, Bool, true, false, Some, arith}
-use Rattle.std.proofs.lemmas.Int.{ints}
-use Rattle.std.specs.Prelude.{ℤ, pos, ◌+ℤ◌, ◌≤ℤ◌, if◌then◌else◌}
-use Rattle.std.specs.List.{count_by}
-use Rattle.std.specs.FinMap.{get}
-use Rattle.hash_ids.specs.ledger_types.declared.ids.AccountId.{AccountId}
-use Rattle.hash_ids.specs.ledger_types.declared.account.AccountEntry.{AccountEntry}
-use Rattle.hash_ids.specs.ledger_types.declared.entry.LedgerEntry.{LedgerEntry}
-use Rattle.hash_ids.specs.ledger_types.declared.key.LedgerKey.{LedgerKey}
+-- Whoever pays for an entry exists, and so does its owner, and both count what is paid.
+use Rattle.legal_rules.proofs.Prelude.{◌≡◌, sym, subst, ℕ, ◌+◌, ◌≤◌, Bool, true, false, Some, arith, ints, ℤ, pos, ◌+ℤ◌}
+use Rattle.legal_rules.proofs.Prelude.{◌≤ℤ◌, if◌then◌else◌, count_by, get, AccountId, AccountEntry, LedgerEntry}
+use Rattle.legal_rules.proofs.Prelude.{LedgerKey, EntryMap, same_itself, account_at, num_sponsored, sponsor_of}
+use Rattle.legal_rules.proofs.Prelude.{multiplicity, owner_of, is_there, is_key, for_account, signer_sponsors_in}
+use Rattle.legal_rules.proofs.Prelude.{for_each, Sponsoring, Sponsored, View, counted, Owed, nothing_owed, IsLegalOwing}
+use Rattle.legal_rules.proofs.Prelude.{AreReservesSettled, natural_nonnegative}
 use Rattle.hash_ids.specs.ledger_types.declared.key.LedgerKey.TheVariants as key
-use Rattle.entry_sums.specs.entry_map.EntryMap.{EntryMap}
-use Rattle.entry_sums.proofs.entry_map_proofs.KeyMaps.{same_itself}
-use Rattle.sponsor_laws.specs.entry_slots.Accounts.{account_at}
-use Rattle.sponsor_laws.specs.entry_slots.AccountExtensions.{num_sponsored}
-use Rattle.sponsor_laws.specs.entry_slots.EntrySponsor.{sponsor_of}
-use Rattle.sponsor_laws.specs.sponsor_rules.Charge.{multiplicity, owner_of}
 use Rattle.sponsor_laws.specs.sponsor_rules.declared.count.Count.TheVariants as count
-use Rattle.sponsor_laws.specs.Sums.{is_there}
-use Rattle.legal_rules.specs.EntryKeys.{is_key, for_account}
-use Rattle.legal_rules.specs.Reserves.{signer_sponsors_in, for_each}
-use Rattle.legal_rules.specs.Books.{Sponsoring, Sponsored, View, counted}
-use Rattle.legal_rules.specs.Owing.{Owed, nothing_owed, IsLegalOwing}
-use Rattle.legal_rules.specs.EntryLaws.{AreReservesSettled}
-use Rattle.legal_rules.proofs.Lows.{natural_low}
-use Rattle.legal_rules.proofs.Standing.{StandsWith, counted_stands}
+use Rattle.legal_rules.proofs.Existing.{ExistsWith, counted_exists}
 
 pub nothing_settled : AreReservesSettled nothing_owed
 nothing_settled = record {
@@ -56,26 +40,26 @@ module _ (v : View) (e : LedgerEntry) (x : AccountId) (is : sponsor_of e ≡ Som
       (λ i. for_account (key.Account x) (sym is i) (multiplicity e.body)
       +ℤ for_each (key.Account x) (signer_sponsors_in e.body))
       (itself (is_key (key.Account x) (key.Account x)) (multiplicity e.body)
-      (for_each (key.Account x) (signer_sponsors_in e.body)) (same_itself (key.Account x)) (natural_low _))
+      (for_each (key.Account x) (signer_sponsors_in e.body)) (same_itself (key.Account x)) (natural_nonnegative _))
 
--- ---- who stands
+-- ---- who exists
 
 module _ (v : View) (id_pool : ℕ) (owed : Owed) (sum : ℤ) (m : EntryMap) (legal : IsLegalOwing v id_pool owed sum m)
     (settled : AreReservesSettled owed) (k : LedgerKey) (e : LedgerEntry) (there : get m k ≡ Some e) (n : ℕ)
     (times : multiplicity e.body ≡ n) (some : 1 ≤ n) where
-  pub payer_has : (x : AccountId) → sponsor_of e ≡ Some x → StandsWith count.Sponsoring n m x
-  payer_has x is = counted_stands v id_pool owed sum m legal count.Sponsoring x n k e
+  pub payer_has : (x : AccountId) → sponsor_of e ≡ Some x → ExistsWith count.Sponsoring n m x
+  payer_has x is = counted_exists v id_pool owed sum m legal count.Sponsoring x n k e
       (settled.sponsoring (key.Account x))
       there (subst (λ i. pos i ≤ℤ counted v Sponsoring (key.Account x) e) times (counts_sponsoring v e x is)) some
 
-  -- an owner that stands states what others pay of it
+  -- an owner that exists states what others pay of it
   pub owner_has : (owner : AccountId) (a : AccountEntry) → owner_of e.body ≡ Some owner → account_at m owner ≡ Some a
       → (x : AccountId) → sponsor_of e ≡ Some x → n ≤ num_sponsored a
-  owner_has owner a own stands x is =
-      let s = counted_stands v id_pool owed sum m legal count.Sponsored owner n k e
+  owner_has owner a own exists x is =
+      let s = counted_exists v id_pool owed sum m legal count.Sponsored owner n k e
       (settled.sponsored (key.Account owner)) there
       (subst (λ i. pos i ≤ℤ counted v Sponsored (key.Account owner) e) times (counts_sponsored v e x is owner own))
       some in
-      let also = s.stands in
+      let also = s.exists in
       let same : s.account ≡ a = cc in
       subst (λ b. n ≤ num_sponsored b) same s.enough

@@ -1,11 +1,11 @@
 -- Tests that let a change through.
-use Rattle.std.proofs.Common.{◌≡◌, refl, Bool, true, false, ◌||◌, ◌∷◌, Some, None, Ok}
+use Rattle.std.proofs.Common.{◌≡◌, refl, Bool, true, false, ◌∷◌, Some, None, Ok}
 use Rattle.sponsor_laws.specs.entry_slots.Tests.{Tests, first_fault, unless_fault, unless_first}
 
 -- a change that was let through
-pub passed : {F M : Type 0} (tests : Tests F) (m new : M) → unless_first tests m ≡ Ok new
+pub unless_first_ok : {F M : Type 0} (tests : Tests F) (m new : M) → unless_first tests m ≡ Ok new
     → (first_fault tests ≡ None) × (m ≡ new)
-passed {F} {M} tests m new is = elim (first_fault tests) as (λ o. first_fault tests ≡ o → unless_fault o m ≡ Ok new
+unless_first_ok {F} {M} tests m new is = elim (first_fault tests) as (λ o. first_fault tests ≡ o → unless_fault o m ≡ Ok new
     → (first_fault tests ≡ None) × (m ≡ new)) [
       | None ↦ λ none done. (none, cc)
       | Some fault ↦ λ some done. absurd (cc)
@@ -15,7 +15,3 @@ pub first_passed : {F : Type 0} (b : Bool) (fault : F) (tests : Tests F) → fir
     → (b ≡ false) × (first_fault tests ≡ None)
 first_passed true fault tests is = absurd (cc)
 first_passed false fault tests is = (refl, is)
-
-pub neither : (a b : Bool) → (a || b) ≡ false → (a ≡ false) × (b ≡ false)
-neither true b is = absurd (cc)
-neither false b is = (refl, is)

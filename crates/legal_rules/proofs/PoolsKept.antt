@@ -1,35 +1,16 @@
 -- Pools that are made and removed.
-use Rattle.std.proofs.Common.{◌≡◌, inl, inr, refl, sym, ap, ◌∙◌, ℕ, Bool, true, false, Option, Some}
-use Rattle.std.proofs.Common.{None, arith}
-use Rattle.std.proofs.lemmas.Int.{ints}
-use Rattle.std.specs.Prelude.{ℤ, pos, ◌+ℤ◌, ◌-ℤ◌, ◌≤ℤ◌, ◌<ℤ◌, if◌then◌else◌}
-use Rattle.std.specs.FinMap.{get}
-use Rattle.hash_ids.specs.ledger_types.declared.ids.Hash.{Hash}
-use Rattle.hash_ids.specs.ledger_types.declared.asset.TrustLineAsset.{TrustLineAsset}
+use Rattle.legal_rules.proofs.Prelude as prelude
+use prelude.{◌≡◌, inl, inr, refl, sym, ap, ◌∙◌, ℕ, Bool, true, false, Option, Some, None, arith, ints, ℤ, pos, ◌+ℤ◌}
+use prelude.{◌-ℤ◌, ◌≤ℤ◌, ◌<ℤ◌, if◌then◌else◌, get, Hash, TrustLineAsset, LiquidityPoolEntry, LedgerEntry}
+use prelude.{LedgerEntryBody, LedgerKey, key_of, EntryMap, put, erase, sponsor_of, total, part, EachEntry, put_each}
+use prelude.{erase_each, total_put, total_erase, total_same, total_none, is_key, for_key, for_account, Pools}
+use prelude.{pool_named, shares_in, share_lines, uses, uses_by, uses_of, Kind, Sponsoring, Shares, ShareLines, Uses}
+use prelude.{View, stated, counted, stated_at, held, offer_with, IsFilledOrEmpty, params_of, view, pools_in, weight}
+use prelude.{nothing_owed, IsEntryLegal, IsLegalOwing, erase_get, put_get, if_zero, zero_sub_if_zero, zeros_add_to_zero}
 use Rattle.hash_ids.specs.ledger_types.declared.asset.TrustLineAsset.TheVariants as line
-use Rattle.hash_ids.specs.ledger_types.declared.liquidity_pool.LiquidityPoolEntry.{LiquidityPoolEntry}
-use Rattle.hash_ids.specs.ledger_types.declared.entry.LedgerEntry.{LedgerEntry}
-use Rattle.hash_ids.specs.ledger_types.declared.entry.LedgerEntryBody.{LedgerEntryBody}
 use Rattle.hash_ids.specs.ledger_types.declared.entry.LedgerEntryBody.TheVariants as body
-use Rattle.hash_ids.specs.ledger_types.declared.key.LedgerKey.{LedgerKey}
 use Rattle.hash_ids.specs.ledger_types.declared.key.LedgerKey.TheVariants as key
-use Rattle.hash_ids.specs.ledger_types.Keys.{key_of}
-use Rattle.entry_sums.specs.entry_map.EntryMap.{EntryMap, put, erase}
-use Rattle.sponsor_laws.specs.entry_slots.EntrySponsor.{sponsor_of}
-use Rattle.entry_sums.specs.Sums.{total, part, EachEntry}
-use Rattle.entry_sums.proofs.Lookups.{put_each, put_get, erase_each, erase_get}
-use Rattle.entry_sums.proofs.Summing.{total_put, total_erase, total_same, total_none}
-use Rattle.legal_rules.specs.EntryKeys.{is_key, for_key, for_account}
-use Rattle.legal_rules.specs.PoolShares.{Pools, pool_named, shares_in, share_lines, uses, uses_by, uses_of}
-use Rattle.legal_rules.specs.Books.{Kind, Sponsoring, Shares, ShareLines, Uses, View, stated}
-use Rattle.legal_rules.specs.Books.{counted, stated_at}
-use Rattle.legal_rules.specs.Supply.{held}
-use Rattle.legal_rules.specs.OfferIds.{offer_with}
-use Rattle.legal_rules.specs.Bounds.{IsFilledOrEmpty}
 use Rattle.legal_rules.specs.PoolLaws.{new_pool, IsNewPool, NewPoolsKeep, RemovedPoolsKeep}
-use Rattle.legal_rules.specs.Legal.{params_of, view, pools_in}
-use Rattle.legal_rules.specs.Owing.{weight, nothing_owed, IsEntryLegal, IsLegalOwing}
-use Rattle.legal_rules.proofs.Numbers.{both_none}
 use Rattle.legal_rules.proofs.Changed.{pool_entry, with_pool_body}
 use Rattle.legal_rules.proofs.Legality.{owing_nothing, legal_of}
 use Rattle.legal_rules.proofs.Merging.{nothing_counts}
@@ -45,19 +26,11 @@ added new was old is put nothing none = omega (arith, ints)
 still_one : (new was old is : ℤ) → (new +ℤ was) ≡ (old +ℤ is) → was ≡ pos 0 → is ≡ pos 0 → old ≤ℤ pos 1 → new ≤ℤ pos 1
 still_one new was old is put nothing none le = omega (arith, ints)
 
-taken : (new was old : ℤ) → (new +ℤ was) ≡ old → was ≡ pos 0 → new ≡ old
-taken new was old erased none = omega (arith, ints)
+same_without_zero : (new was old : ℤ) → (new +ℤ was) ≡ old → was ≡ pos 0 → new ≡ old
+same_without_zero new was old erased none = omega (arith, ints)
 
-no_more : (new was old : ℤ) → (new +ℤ was) ≡ old → was ≡ pos 0 → old ≤ℤ pos 1 → new ≤ℤ pos 1
-no_more new was old erased none le = omega (arith, ints)
-
-states_none : (t : Bool) (n : ℤ) → n ≡ pos 0 → (pos 0 -ℤ (if t then n else pos 0)) ≡ pos 0
-states_none true n none = omega (arith, ints)
-states_none false n none = refl
-
-no_asset : (t : Bool) (n : ℤ) → n ≡ pos 0 → (if t then n else pos 0) ≡ pos 0
-no_asset true n none = none
-no_asset false n none = refl
+at_most_one_without_zero : (new was old : ℤ) → (new +ℤ was) ≡ old → was ≡ pos 0 → old ≤ℤ pos 1 → new ≤ℤ pos 1
+at_most_one_without_zero new was old erased none le = omega (arith, ints)
 
 -- ---- lines don't use a pool that none is of
 
@@ -82,18 +55,18 @@ module _ (old now : Pools) (its_key : LedgerKey)
 pool_weighs : (v : View) (e : LedgerEntry) (p : LiquidityPoolEntry) → sponsor_of e ≡ None → p.total_pool_shares ≡ pos 0
     → p.pool_shares_trust_line_count ≡ pos 0 → (kind : Kind) (k : LedgerKey)
     → weight v kind k (with_pool_body e p) ≡ pos 0
-pool_weighs v e p unpaid shares lines Shares k = states_none
+pool_weighs v e p unpaid shares lines Shares k = zero_sub_if_zero
     (is_key (key.LiquidityPool p.pool_id) k) p.total_pool_shares shares
-pool_weighs v e p unpaid shares lines ShareLines k = states_none (is_key (key.LiquidityPool p.pool_id) k)
+pool_weighs v e p unpaid shares lines ShareLines k = zero_sub_if_zero (is_key (key.LiquidityPool p.pool_id) k)
     p.pool_shares_trust_line_count lines
 pool_weighs v e p unpaid shares lines Sponsoring k =
     (λ i. (for_account k (unpaid i) 0 +ℤ pos 0) -ℤ (if is_key (key.LiquidityPool p.pool_id) k then pos 0 else pos 0))
-    ∙ states_none (is_key (key.LiquidityPool p.pool_id) k) (pos 0) refl
-pool_weighs v e p unpaid shares lines kind k = states_none (is_key (key.LiquidityPool p.pool_id) k) (pos 0) refl
+    ∙ zero_sub_if_zero (is_key (key.LiquidityPool p.pool_id) k) (pos 0) refl
+pool_weighs v e p unpaid shares lines kind k = zero_sub_if_zero (is_key (key.LiquidityPool p.pool_id) k) (pos 0) refl
 
 pool_holds : (v : View) (e : LedgerEntry) (p : LiquidityPoolEntry) → p.reserve_a ≡ pos 0 → p.reserve_b ≡ pos 0
     → held v.asset (with_pool_body e p) ≡ pos 0
-pool_holds v e p a b = both_none _ _ (no_asset _ p.reserve_a a) (no_asset _ p.reserve_b b)
+pool_holds v e p a b = zeros_add_to_zero _ _ (if_zero _ p.reserve_a a) (if_zero _ p.reserve_b b)
 
 -- ---- a new pool
 
@@ -131,11 +104,11 @@ module _ (v : View) (id_pool : ℕ) (sum : ℤ) (m : EntryMap) (seq : ℕ) (pool
     offers = λ id. still_one _ _ _ (offer_with id e) (total_put (offer_with id) m e)
         (ap (part (offer_with id)) free) refl
         (legal.offers id);
-    books = λ kind k. added _ _ _ (weight later kind k e) (total_put (weight later kind k) m e)
+    aggregates = λ kind k. added _ _ _ (weight later kind k e) (total_put (weight later kind k) m e)
         (ap (part (weight later kind k)) free) (weighs kind k)
         ∙ total_same (weight later kind k) (weight v kind k) m
         (λ q x there. same_weight v.pools now its_key same_elsewhere v refl kind k x (no_lines q x there))
-        ∙ legal.books kind k;
+        ∙ legal.aggregates kind k;
     supply = added _ _ _ (held v.asset e) (total_put (held v.asset) m e) (ap (part (held v.asset)) free)
         (pool_holds v e pool new.reserve_a new.reserve_b) ∙ legal.supply;
   }
@@ -211,20 +184,20 @@ module _ (v : View) (id_pool : ℕ) (sum : ℤ) (m : EntryMap) (id : Hash) (e : 
     params = λ i. refl;
     keyed = erase_each (λ k x. key_of x ≡ k) m k0 legal.keyed;
     entries = erase_each (λ k x. IsEntryLegal id_pool x) m k0 legal.entries;
-    offers = λ n. no_more (total (offer_with n) (erase m k0)) (part (offer_with n) (get m k0)) (total (offer_with n) m)
+    offers = λ n. at_most_one_without_zero (total (offer_with n) (erase m k0)) (part (offer_with n) (get m k0)) (total (offer_with n) m)
         (total_erase (offer_with n) m k0) (ap (part (offer_with n)) there) (legal.offers n);
-    books = λ kind k. taken _ _ _ (total_erase (weight later_on kind k) m k0)
+    aggregates = λ kind k. same_without_zero _ _ _ (total_erase (weight later_on kind k) m k0)
         (ap (part (weight later_on kind k)) there ∙ pool_weighs later_on e pool was.range.paid shares lines kind k)
         ∙ total_same (weight later_on kind k) (weight v kind k) m
         (λ q x at. same_weight v.pools after k0 same_after v refl kind k x (without_lines q x at))
-        ∙ legal.books kind k;
-    supply = taken _ _ _ (total_erase (held v.asset) m k0) (ap (part (held v.asset)) there ∙ holds_nothing)
+        ∙ legal.aggregates kind k;
+    supply = same_without_zero _ _ _ (total_erase (held v.asset) m k0) (ap (part (held v.asset)) there ∙ holds_nothing)
         ∙ legal.supply;
   }
 
 pub removed_pools_keep : RemovedPoolsKeep
-removed_pools_keep h m id pool legal stands lines =
-    let found = pool_entry m id pool stands in
+removed_pools_keep h m id pool legal exists lines =
+    let found = pool_entry m id pool exists in
     legal_of h (pools_in (erase m (key.LiquidityPool id))) _ legal.header
     (pool_erased (view m) h.id_pool (h.total_coins -ℤ h.fee_pool) m id found.0 pool (owing_nothing h m legal)
     (found.1.there ∙ ap Some (λ i. record found.0 { body = found.1.is i })) lines)

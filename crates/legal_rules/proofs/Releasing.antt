@@ -1,55 +1,27 @@
--- What an offer that stands binds can always be released.
-use Rattle.std.proofs.Common.{◌≡◌, ◌⊎◌, inl, inr, refl, sym, ap, subst, ◌∙◌, ℕ, Bool, true, false}
-use Rattle.std.proofs.Common.{Option, Some}
-use Rattle.std.proofs.Common.{None, arith}
-use Rattle.std.proofs.lemmas.Int.{ints}
-use Rattle.std.specs.Prelude.{ℤ, pos, neg_ℤ, ◌+ℤ◌, ◌-ℤ◌, ◌≤ℤ◌, if◌then◌else◌}
-use Rattle.std.specs.FinMap.{get}
-use Rattle.hash_ids.specs.ledger_types.declared.ids.AccountId.{AccountId}
-use Rattle.hash_ids.specs.ledger_types.declared.asset.Asset.{Asset}
+-- What an offer that exists binds can always be released.
+use Rattle.legal_rules.proofs.Prelude as prelude
+use prelude.{◌≡◌, ◌⊎◌, inl, inr, refl, sym, ap, subst, ◌∙◌, ℕ, Bool, true, false, Option, Some, None, arith, ints, ℤ}
+use prelude.{pos, neg_ℤ, ◌+ℤ◌, ◌-ℤ◌, ◌≤ℤ◌, if◌then◌else◌, get, AccountId, Asset, TrustLineAsset, Liabilities}
+use prelude.{AccountEntry, TrustLineEntry, OfferEntry, LedgerEntry, LedgerEntryBody, LedgerKey, key_of, key_of_body}
+use prelude.{EntryMap, same_itself, account_of, account_at, account_liabilities, line_liabilities, line_of, line_at}
+use prelude.{offer_of, offer_at, with_offer, greatest_i64, IsInRange, IsLineInRange, is_same_account, EachEntry}
+use prelude.{bound_of, is_key, for_key, holder, Kind, Selling, Buying, View, stated, stated_at, IsOfferInRange, risen}
+use prelude.{binding, releasing, bound_account, bound_line, CanBind, CanBindBoth, trade_aggregates, AreTradesSettled}
+use prelude.{LiabilitiesReleased, ChangedOffersKeep, view, pools_in, Owed, nothing_owed, plus, IsEntryLegal}
+use prelude.{IsLegalOwing, put_elsewhere, add_natural_nonnegative, add_zero_at_most, fits_after_zero, natural_positive}
+use prelude.{nonnegative_from_positive, sub_nonnegative}
 use Rattle.hash_ids.specs.ledger_types.declared.asset.Asset.TheVariants as asset
-use Rattle.hash_ids.specs.ledger_types.declared.asset.TrustLineAsset.{TrustLineAsset}
 use Rattle.hash_ids.specs.ledger_types.declared.asset.TrustLineAsset.TheVariants as line
-use Rattle.hash_ids.specs.ledger_types.declared.price.Liabilities.{Liabilities}
-use Rattle.hash_ids.specs.ledger_types.declared.account.AccountEntry.{AccountEntry}
-use Rattle.hash_ids.specs.ledger_types.declared.trust_line.TrustLineEntry.{TrustLineEntry}
-use Rattle.hash_ids.specs.ledger_types.declared.offer.OfferEntry.{OfferEntry}
-use Rattle.hash_ids.specs.ledger_types.declared.entry.LedgerEntry.{LedgerEntry}
-use Rattle.hash_ids.specs.ledger_types.declared.entry.LedgerEntryBody.{LedgerEntryBody}
 use Rattle.hash_ids.specs.ledger_types.declared.entry.LedgerEntryBody.TheVariants as body
-use Rattle.hash_ids.specs.ledger_types.declared.key.LedgerKey.{LedgerKey}
 use Rattle.hash_ids.specs.ledger_types.declared.key.LedgerKey.TheVariants as key
-use Rattle.hash_ids.specs.ledger_types.Keys.{key_of, key_of_body}
-use Rattle.entry_sums.specs.entry_map.EntryMap.{EntryMap}
-use Rattle.entry_sums.proofs.entry_map_proofs.KeyMaps.{same_itself}
-use Rattle.sponsor_laws.specs.entry_slots.Accounts.{account_of, account_at}
-use Rattle.sponsor_laws.specs.entry_slots.AccountExtensions.{account_liabilities}
-use Rattle.sponsor_laws.specs.entry_slots.LineExtensions.{line_liabilities}
-use Rattle.sponsor_laws.specs.entry_slots.Lines.{line_of, line_at}
-use Rattle.sponsor_laws.specs.entry_slots.Offers.{offer_of, offer_at, with_offer}
-use Rattle.sponsor_laws.specs.reserve_rules.Reserve.{greatest_i64, IsInRange, IsLineInRange}
-use Rattle.sponsor_laws.specs.sponsor_rules.Payers.{is_same_account}
-use Rattle.entry_sums.specs.Sums.{EachEntry}
-use Rattle.entry_sums.proofs.Lookups.{put_elsewhere}
-use Rattle.legal_rules.specs.OfferLiabilities.{bound_of}
-use Rattle.legal_rules.specs.EntryKeys.{is_key, for_key}
-use Rattle.legal_rules.specs.Trades.{holder}
-use Rattle.legal_rules.specs.Books.{Kind, Selling, Buying, View, stated, stated_at}
-use Rattle.legal_rules.specs.Ranges.{IsOfferInRange}
-use Rattle.legal_rules.specs.Binding.{risen, binding, releasing, bound_account, bound_line, CanBind}
-use Rattle.legal_rules.specs.Binding.{CanBindBoth}
-use Rattle.legal_rules.specs.OfferLaws.{trade_books, AreTradesSettled, LiabilitiesReleased, ChangedOffersKeep}
-use Rattle.legal_rules.specs.Legal.{view, pools_in}
-use Rattle.legal_rules.specs.Owing.{Owed, nothing_owed, plus, IsEntryLegal, IsLegalOwing}
 use Rattle.legal_rules.proofs.Legality.{owing_nothing, legal_of}
 use Rattle.legal_rules.proofs.Liable.{stored, line_stored, line_entry, with_line_is, with_line_body}
 use Rattle.legal_rules.proofs.OffersKept.{trading_legal, binding_legal, unbound_if, nothing_bought, offer_entry}
 use Rattle.legal_rules.proofs.OffersKept.{with_offer_body}
 use Rattle.legal_rules.proofs.OffersKept.{IsOfferEntry, traded, offer_changed, acquiring_legal}
-use Rattle.legal_rules.proofs.Places.{kept_elsewhere}
-use Rattle.legal_rules.proofs.Standing.{counted_stated}
+use Rattle.legal_rules.proofs.Indices.{kept_elsewhere}
+use Rattle.legal_rules.proofs.Existing.{counted_stated}
 use Rattle.legal_rules.proofs.Steps.{legal_as}
-use Rattle.legal_rules.proofs.Numbers.{natural_some}
 
 -- ---- ranges
 
@@ -81,29 +53,14 @@ module _ (selling buying : ℤ) where
         fits = subst (λ (l : Liabilities). (t.balance +ℤ l.buying) ≤ℤ t.limit) now fits;
       }
 
-fallen : (x n : ℤ) → n ≤ℤ x → pos 0 ≤ℤ (x +ℤ neg_ℤ n)
-fallen x n le = omega (arith, ints)
-
-same_low : (x : ℤ) → pos 0 ≤ℤ x → pos 0 ≤ℤ (x +ℤ pos 0)
-same_low x le = omega (arith, ints)
-
 still_covered : (x n b : ℤ) → pos 0 ≤ℤ n → x ≤ℤ b → (x +ℤ neg_ℤ n) ≤ℤ b
 still_covered x n b low le = omega (arith, ints)
-
-same_covered : (x b : ℤ) → x ≤ℤ b → (x +ℤ pos 0) ≤ℤ b
-same_covered x b le = omega (arith, ints)
 
 still_fits : (b x n l : ℤ) → pos 0 ≤ℤ n → (b +ℤ x) ≤ℤ l → (b +ℤ (x +ℤ neg_ℤ n)) ≤ℤ l
 still_fits b x n l low le = omega (arith, ints)
 
-same_fits : (b x l : ℤ) → (b +ℤ x) ≤ℤ l → (b +ℤ (x +ℤ pos 0)) ≤ℤ l
-same_fits b x l le = omega (arith, ints)
-
 too_few : (n s : ℤ) → pos 1 ≤ℤ n → n ≤ℤ s → s ≡ pos 0 → ⊥
 too_few n s some le none = omega (arith, ints)
-
-low_of : (n : ℤ) → pos 1 ≤ℤ n → pos 0 ≤ℤ n
-low_of n some = omega (arith, ints)
 
 -- ---- where an offer's owner holds its assets
 
@@ -157,8 +114,8 @@ module _ (v : View) (id_pool : ℕ) (owed : Owed) (sum : ℤ) (m : EntryMap)
       let at : n ≤ℤ (account_liabilities found.0).selling = subst (λ b. n ≤ℤ stated Selling b) found.1 le in (
         found.0,
         ap account_of (there ∙ ap Some was),
-        bound_in_range (neg_ℤ n) (pos 0) found.0 r (fallen _ n at) (same_low _ r.buying)
-            (same_fits found.0.balance _ greatest_i64 r.fits),
+        bound_in_range (neg_ℤ n) (pos 0) found.0 r (sub_nonnegative _ n at) (add_natural_nonnegative _ 0 r.buying)
+            (fits_after_zero found.0.balance _ greatest_i64 r.fits),
       )
 
   buys_account : (id : AccountId) (o : Option LedgerEntry) → get m (key.Account id) ≡ o → n ≤ℤ stated_at Buying o
@@ -173,8 +130,8 @@ module _ (v : View) (id_pool : ℕ) (owed : Owed) (sum : ℤ) (m : EntryMap)
       let at : n ≤ℤ (account_liabilities found.0).buying = subst (λ b. n ≤ℤ stated Buying b) found.1 le in (
         found.0,
         ap account_of (there ∙ ap Some was),
-        bound_in_range (pos 0) (neg_ℤ n) found.0 r (same_low _ r.selling) (fallen _ n at)
-            (still_fits found.0.balance _ n greatest_i64 (low_of n some) r.fits),
+        bound_in_range (pos 0) (neg_ℤ n) found.0 r (add_natural_nonnegative _ 0 r.selling) (sub_nonnegative _ n at)
+            (still_fits found.0.balance _ n greatest_i64 (nonnegative_from_positive n some) r.fits),
       )
 
   sells_line : (id : AccountId) (x : TrustLineAsset) (o : Option LedgerEntry) → get m (key.TrustLine id x) ≡ o
@@ -185,15 +142,15 @@ module _ (v : View) (id_pool : ℕ) (owed : Owed) (sum : ℤ) (m : EntryMap)
       let found = line_by id x e.body (legal.keyed (key.TrustLine id x) e there) in
       let e0 : LedgerEntry = record e { body = body.TrustLine found.0 } in
       let was : e ≡ e0 = λ i. record e { body = found.1 i } in
-      let whole = subst (IsEntryLegal id_pool) was (legal.entries (key.TrustLine id x) e there) in
-      let r = whole.range.body.range in
+      let entire = subst (IsEntryLegal id_pool) was (legal.entries (key.TrustLine id x) e there) in
+      let r = entire.range.body.range in
       let at : n ≤ℤ (line_liabilities found.0).selling = subst (λ b. n ≤ℤ stated Selling b) found.1 le in (
         found.0,
         ap line_of (there ∙ ap Some was),
-        line_in_range (neg_ℤ n) (pos 0) found.0 r (fallen _ n at) (same_low _ r.buying)
-            (still_covered _ n found.0.balance (low_of n some) r.covered)
-            (same_fits found.0.balance _ found.0.limit r.fits),
-        λ none. too_few n _ some at (whole.bound none).0,
+        line_in_range (neg_ℤ n) (pos 0) found.0 r (sub_nonnegative _ n at) (add_natural_nonnegative _ 0 r.buying)
+            (still_covered _ n found.0.balance (nonnegative_from_positive n some) r.covered)
+            (fits_after_zero found.0.balance _ found.0.limit r.fits),
+        λ none. too_few n _ some at (entire.bound none).0,
       )
 
   buys_line : (id : AccountId) (x : TrustLineAsset) (o : Option LedgerEntry) → get m (key.TrustLine id x) ≡ o
@@ -204,15 +161,15 @@ module _ (v : View) (id_pool : ℕ) (owed : Owed) (sum : ℤ) (m : EntryMap)
       let found = line_by id x e.body (legal.keyed (key.TrustLine id x) e there) in
       let e0 : LedgerEntry = record e { body = body.TrustLine found.0 } in
       let was : e ≡ e0 = λ i. record e { body = found.1 i } in
-      let whole = subst (IsEntryLegal id_pool) was (legal.entries (key.TrustLine id x) e there) in
-      let r = whole.range.body.range in
+      let entire = subst (IsEntryLegal id_pool) was (legal.entries (key.TrustLine id x) e there) in
+      let r = entire.range.body.range in
       let at : n ≤ℤ (line_liabilities found.0).buying = subst (λ b. n ≤ℤ stated Buying b) found.1 le in (
         found.0,
         ap line_of (there ∙ ap Some was),
-        line_in_range (pos 0) (neg_ℤ n) found.0 r (same_low _ r.selling) (fallen _ n at)
-            (same_covered _ found.0.balance r.covered)
-            (still_fits found.0.balance _ n found.0.limit (low_of n some) r.fits),
-        λ none. too_few n _ some at (whole.bound none).1,
+        line_in_range (pos 0) (neg_ℤ n) found.0 r (add_natural_nonnegative _ 0 r.selling) (sub_nonnegative _ n at)
+            (add_zero_at_most _ found.0.balance r.covered)
+            (still_fits found.0.balance _ n found.0.limit (nonnegative_from_positive n some) r.fits),
+        λ none. too_few n _ some at (entire.bound none).1,
       )
 
   sells_at : (k : LedgerKey) → IsHolder k → n ≤ℤ stated_at Selling (get m k) → CanBind m (Some k) (neg_ℤ n) (pos 0)
@@ -231,7 +188,7 @@ module _ (v : View) (id_pool : ℕ) (owed : Owed) (sum : ℤ) (m : EntryMap)
       (buys_line found.0 found.1.0 (get m (key.TrustLine found.0 found.1.0)) refl
       (subst (λ q. n ≤ℤ stated_at Buying (get m q)) found.1.1 le))
 
--- an offer still stands after its owner's liabilities changed
+-- an offer still exists after its owner's liabilities changed
 bound_elsewhere : (m : EntryMap) (o : Option LedgerKey) (selling buying : ℤ) (seller : AccountId) (id : ℤ)
     → EachEntry (λ k e. key_of e ≡ k) m → CanBind m o selling buying
     → get (binding o selling buying m) (key.Offer seller id) ≡ get m (key.Offer seller id)
@@ -253,7 +210,7 @@ back_again k (Some q) n = elim (is_key q k) as (λ t. neg_ℤ (if t then neg_ℤ
     [ true ↦ omega (arith, ints) | false ↦ refl ]
 
 released : (o : OfferEntry) (kind : Kind) (k : LedgerKey)
-    → traded o (neg_ℤ (pos (bound_of o).wheat)) (neg_ℤ (pos (bound_of o).sheep)) kind k ≡ trade_books o kind k
+    → traded o (neg_ℤ (pos (bound_of o).wheat)) (neg_ℤ (pos (bound_of o).sheep)) kind k ≡ trade_aggregates o kind k
 released o Selling k = back_again k (holder o.seller_id o.selling) _
 released o Buying k = back_again k (holder o.seller_id o.buying) _
 released o kind k = refl
@@ -278,7 +235,7 @@ module _ (v : View) (id_pool : ℕ) (owed : Owed) (sum : ℤ) (o : OfferEntry) (
 
   can_sell : (h : Option LedgerKey) → holder o.seller_id o.selling ≡ h → CanBind m h (neg_ℤ wheat) (pos 0)
   can_sell None is = tt
-  can_sell (Some k) is = sells_at v id_pool owed sum m legal wheat (natural_some _ range.wheat) k
+  can_sell (Some k) is = sells_at v id_pool owed sum m legal wheat (natural_positive _ range.wheat) k
       (holder_is o.seller_id o.selling k is)
       (counted_stated v id_pool owed sum m legal Selling k its_key (with_offer_body e o) wheat (settled.selling k) there
       (for_named k (holder o.seller_id o.selling) wheat is))
@@ -299,7 +256,7 @@ module _ (v : View) (id_pool : ℕ) (owed : Owed) (sum : ℤ) (o : OfferEntry) (
 
   can_buy : (h : Option LedgerKey) → holder o.seller_id o.buying ≡ h → CanBind sold h (pos 0) (neg_ℤ sheep)
   can_buy None is = tt
-  can_buy (Some k) is = buys_at v id_pool owed_then sum sold legal_then sheep (natural_some _ range.sheep) k
+  can_buy (Some k) is = buys_at v id_pool owed_then sum sold legal_then sheep (natural_positive _ range.sheep) k
       (holder_is o.seller_id o.buying k is)
       (counted_stated v id_pool owed_then sum sold legal_then Buying k its_key (with_offer_body e o) sheep
       (not_more (owed Buying k) _ (nothing_bought (holder o.seller_id o.selling) k (neg_ℤ wheat)) (settled.buying k))
@@ -318,8 +275,8 @@ there_of m o found = found.1.there ∙ ap Some (λ i. record found.0 { body = fo
 
 pub releasing_legal : LiabilitiesReleased
 unfolding offer_at
-releasing_legal v id_pool owed sum o m legal settled stands =
-    let found = offer_entry m o.seller_id o.offer_id o stands in
+releasing_legal v id_pool owed sum o m legal settled exists =
+    let found = offer_entry m o.seller_id o.offer_id o exists in
     let there = there_of m o found in (
       legal_as v (IsEntryLegal id_pool) _ _ _ _ _
           (trading_legal v id_pool owed sum m o _ _ legal
@@ -335,12 +292,12 @@ all_in_all : (a b : ℤ) → (((pos 0 +ℤ a) +ℤ (neg_ℤ a +ℤ b)) +ℤ neg_
 all_in_all a b = omega (arith, ints)
 
 pub changed_offers_keep : ChangedOffersKeep
-changed_offers_keep h old new m legal stands seller id range acquire =
+changed_offers_keep h old new m legal exists seller id range acquire =
     let v = view m in
     let coins = h.total_coins -ℤ h.fee_pool in
-    let first = releasing_legal v h.id_pool nothing_owed coins old m (owing_nothing h m legal) nothing_traded stands in
+    let first = releasing_legal v h.id_pool nothing_owed coins old m (owing_nothing h m legal) nothing_traded exists in
     let second = offer_changed v h.id_pool _ coins old new (releasing old m) first.0 first.1 seller id range in
     let now = with_offer (releasing old m) old.seller_id old.offer_id (λ was. new) in
     let third = acquiring_legal v h.id_pool _ coins new now second acquire in
     legal_of h (pools_in m) _ legal.header (legal_as v (IsEntryLegal h.id_pool) _ nothing_owed coins coins _ third
-    (λ kind k. all_in_all (trade_books old kind k) (trade_books new kind k)) refl)
+    (λ kind k. all_in_all (trade_aggregates old kind k) (trade_aggregates new kind k)) refl)

@@ -1,24 +1,11 @@
 -- What an account can spend after counts of it change: what adding, moving and removing do to available balances.
-use Rattle.std.proofs.Common.{◌≡◌, inl, inr, refl, sym, ap, subst, ◌∙◌, ℕ, ◌+◌, ◌-◌, ◌*◌, ◌≤◌, false}
-use Rattle.std.proofs.Common.{Option, Some, None, arith}
-use Rattle.std.proofs.lemmas.Int.{ints}
-use Rattle.std.specs.Prelude.{ℤ, pos, neg_ℤ, ◌+ℤ◌, ◌-ℤ◌, ◌*ℤ◌, ◌≤ℤ◌}
-use Rattle.std.specs.Ordering.{is_lt, int_cmp}
-use Rattle.hash_ids.specs.ledger_types.declared.ids.AccountId.{AccountId}
-use Rattle.hash_ids.specs.ledger_types.declared.account.AccountEntry.{AccountEntry}
-use Rattle.sponsor_laws.specs.entry_slots.AccountExtensions.{account_liabilities, num_sponsoring, num_sponsored}
-use Rattle.sponsor_laws.specs.reserve_rules.Reserve.{available}
-use Rattle.sponsor_laws.specs.sponsor_rules.declared.count.Count.{Count}
+use Rattle.legal_rules.proofs.Prelude as prelude
+use prelude.{◌≡◌, inl, inr, refl, sym, ap, subst, ◌∙◌, ℕ, ◌+◌, ◌-◌, ◌*◌, ◌≤◌, false, Option, Some, None, arith, ints, ℤ}
+use prelude.{pos, neg_ℤ, ◌+ℤ◌, ◌-ℤ◌, ◌*ℤ◌, ◌≤ℤ◌, is_lt, int_cmp, AccountId, AccountEntry, account_liabilities}
+use prelude.{num_sponsoring, num_sponsored, available, Count, count_in, with_count, with_more, with_less, KeepsCore}
+use prelude.{with_subentry, without_subentry, with_other_payer, is_short, with_count_is, with_count_keeps}
+use prelude.{with_count_core, core_kept, core_kept_twice, with_count-keeps, add_neg_self, add_zero}
 use Rattle.sponsor_laws.specs.sponsor_rules.declared.count.Count.TheVariants as count
-use Rattle.sponsor_laws.specs.sponsor_rules.Counting.{count_in, with_count, with_more, with_less}
-use Rattle.sponsor_laws.specs.sponsor_rules.Keeping.{KeepsMeans}
-use Rattle.sponsor_laws.specs.sponsor_rules.Paying.{with_subentry, without_subentry}
-use Rattle.sponsor_laws.specs.sponsor_rules.Paying.{with_other_payer}
-use Rattle.sponsor_laws.specs.sponsor_rules.Payers.{is_short}
-use Rattle.sponsor_laws.proofs.sponsor_rules_proofs.Keeping.{with_count_is, with_count_keeps, with_count_means}
-use Rattle.sponsor_laws.proofs.sponsor_rules_proofs.Keeping.{means_kept}
-use Rattle.sponsor_laws.proofs.sponsor_rules_proofs.Keeping.{means_kept_twice}
-use Rattle.sponsor_laws.proofs.Accounts.{with_count-keeps}
 use Rattle.legal_rules.proofs.Multiples.{still_available, covers}
 use Rattle.legal_rules.proofs.Leaving.{IsNext}
 
@@ -26,9 +13,9 @@ use Rattle.legal_rules.proofs.Leaving.{IsNext}
 abbrev pub reserves_of : AccountEntry → ℤ
 reserves_of a = pos (2 + a.num_sub_entries + num_sponsoring a) -ℤ pos (num_sponsored a)
 
--- an account with its means and signers, and at most so many reserves more
+-- an account with its core fields and signers, and at most so many reserves more
 pub record IsCharged (more : ℤ) (a b : AccountEntry) : Type 0 where
-  pub means : KeepsMeans a b
+  pub core : KeepsCore a b
   pub signers : b.signers ≡ a.signers
   pub reserves : reserves_of b ≤ℤ (reserves_of a +ℤ more)
 
@@ -37,17 +24,17 @@ pub record IsCharged (more : ℤ) (a b : AccountEntry) : Type 0 where
 abbrev left_of : AccountEntry → ℤ → ℕ → ℤ
 left_of a reserves base = a.balance -ℤ (reserves *ℤ pos base) -ℤ (account_liabilities a).selling
 
-same_left : (a b : AccountEntry) (base : ℕ) → KeepsMeans a b → left_of a (reserves_of b) base ≡ available b base
-same_left a b base means i =
-    (sym means.balance i -ℤ (reserves_of b *ℤ pos base)) -ℤ (sym means.liabilities i).selling
+same_left : (a b : AccountEntry) (base : ℕ) → KeepsCore a b → left_of a (reserves_of b) base ≡ available b base
+same_left a b base core i =
+    (sym core.balance i -ℤ (reserves_of b *ℤ pos base)) -ℤ (sym core.liabilities i).selling
 
 weak : (x y : ℤ) → y ≤ℤ (x +ℤ pos 0) → y ≤ℤ x
 weak x y le = omega (arith, ints)
 
 -- with no reserve more, no less is available
-available_by : (base : ℕ) (a b : AccountEntry) → KeepsMeans a b → reserves_of b ≤ℤ reserves_of a
+available_by : (base : ℕ) (a b : AccountEntry) → KeepsCore a b → reserves_of b ≤ℤ reserves_of a
     → available a base ≤ℤ available b base
-available_by base a b means fewer = subst (λ x. available a base ≤ℤ x) (same_left a b base means)
+available_by base a b core fewer = subst (λ x. available a base ≤ℤ x) (same_left a b base core)
     (still_available a.balance a.balance (reserves_of a) (reserves_of b) (account_liabilities a).selling base
     (itself a.balance) fewer)
   where
@@ -100,7 +87,7 @@ reserves_by a b subs pays paid more is le =
 set_charged : (which : Count) (n : ℕ) (a : AccountEntry) (more : ℤ)
     → reserves_of (with_count which n a) ≤ℤ (reserves_of a +ℤ more) → IsCharged more a (with_count which n a)
 set_charged which n a more le = record {
-  means = with_count_means which n a;
+  core = with_count_core which n a;
   signers = (with_count-keeps which n a).signers;
   reserves = le;
 }
@@ -121,11 +108,11 @@ pub pays_from : (base k : ℕ) (a : AccountEntry)
 pays_from base k a =
     let b = with_more count.Sponsoring k a in
     let set = pays_set (num_sponsoring a + k) a b refl in
-    available_by base b a (means_back a b (pays_more k a).means) (no_fewer a.num_sub_entries (num_sponsoring a)
+    available_by base b a (core_back a b (pays_more k a).core) (no_fewer a.num_sub_entries (num_sponsoring a)
     (num_sponsored a) b.num_sub_entries (num_sponsoring b) (num_sponsored b) set.0 set.1 set.2)
   where
-    means_back : (a b : AccountEntry) → KeepsMeans a b → KeepsMeans b a
-    means_back a b h = record {
+    core_back : (a b : AccountEntry) → KeepsCore a b → KeepsCore b a
+    core_back a b h = record {
       id = sym h.id;
       balance = sym h.balance;
       liabilities = sym h.liabilities;
@@ -195,13 +182,13 @@ in_a_row x y z d e f first second is = omega (arith, ints)
 
 charged_both : (d e f : ℤ) (a b c : AccountEntry) → IsCharged d a b → IsCharged e b c → (d +ℤ e) ≡ f → IsCharged f a c
 charged_both d e f a b c first second is = record {
-  means = means_kept_twice a b c first.means second.means;
+  core = core_kept_twice a b c first.core second.core;
   signers = second.signers ∙ first.signers;
   reserves = in_a_row (reserves_of a) (reserves_of b) (reserves_of c) d e f first.reserves second.reserves is;
 }
 
 charged_none : (a : AccountEntry) → IsCharged (pos 0) a a
-charged_none a = record { means = means_kept a; signers = refl; reserves = same (reserves_of a) }
+charged_none a = record { core = core_kept a; signers = refl; reserves = same (reserves_of a) }
   where
     same : (x : ℤ) → x ≤ℤ (x +ℤ pos 0)
     same x = omega (arith, ints)
@@ -213,9 +200,6 @@ abbrev pub unless_paid : Option AccountId → ℕ → ℤ
 unless_paid None k = pos k
 unless_paid (Some sponsor) k = pos 0
 
-there_and_back : (k : ℤ) → (k +ℤ neg_ℤ k) ≡ pos 0
-there_and_back k = omega (arith, ints)
-
 back_and_there : (k : ℤ) → (neg_ℤ k +ℤ k) ≡ pos 0
 back_and_there k = omega (arith, ints)
 
@@ -223,10 +207,10 @@ pub subentry_charged : (k : ℕ) (sponsor : Option AccountId) (a : AccountEntry)
     → IsCharged (unless_paid sponsor k) a (with_subentry k sponsor a)
 subentry_charged k None a = has_more k a
 subentry_charged k (Some x) a = charged_both (pos k) (neg_ℤ (pos k)) (pos 0) a (with_more count.SubEntries k a) _
-    (has_more k a) (paid_more k (with_more count.SubEntries k a)) (there_and_back (pos k))
+    (has_more k a) (paid_more k (with_more count.SubEntries k a)) (add_neg_self (pos k))
 
 less_as : (k : ℕ) (a b : AccountEntry) → IsCharged (neg_ℤ (pos k)) a b → IsCharged (pos 0) a b
-less_as k a b h = record { means = h.means; signers = h.signers; reserves = weaker _ _ h.reserves }
+less_as k a b h = record { core = h.core; signers = h.signers; reserves = weaker _ _ h.reserves }
   where
     weaker : (x y : ℤ) → y ≤ℤ (x +ℤ neg_ℤ (pos k)) → y ≤ℤ (x +ℤ pos 0)
     weaker x y le = omega (arith, ints)
@@ -238,12 +222,12 @@ no_subentry_charged k (Some x) a enough = charged_both (neg_ℤ (pos k)) (pos k)
     (with_less count.SubEntries k a) _ (has_less k a enough) (paid_less k (with_less count.SubEntries k a))
     (back_and_there (pos k))
 
-pub no_subentry_means : (k : ℕ) (sponsor : Option AccountId) (a : AccountEntry)
-    → KeepsMeans a (without_subentry k sponsor a)
-no_subentry_means k None a = with_count_means count.SubEntries (a.num_sub_entries - k) a
-no_subentry_means k (Some x) a = means_kept_twice a (with_less count.SubEntries k a) _
-    (with_count_means count.SubEntries (a.num_sub_entries - k) a)
-    (paid_less k (with_less count.SubEntries k a)).means
+pub no_subentry_core : (k : ℕ) (sponsor : Option AccountId) (a : AccountEntry)
+    → KeepsCore a (without_subentry k sponsor a)
+no_subentry_core k None a = with_count_core count.SubEntries (a.num_sub_entries - k) a
+no_subentry_core k (Some x) a = core_kept_twice a (with_less count.SubEntries k a) _
+    (with_count_core count.SubEntries (a.num_sub_entries - k) a)
+    (paid_less k (with_less count.SubEntries k a)).core
 
 -- k for an owner who pays himself from now on
 abbrev pub if_back : (old new : Option AccountId) → ℕ → ℤ
@@ -257,17 +241,17 @@ other_payer_charged k None (Some y) a = less_as k a _ (paid_more k a)
 other_payer_charged k (Some x) None a = paid_less k a
 other_payer_charged k (Some x) (Some y) a = charged_both (pos k) (neg_ℤ (pos k)) (pos 0) a
     (with_less count.Sponsored k a) _ (paid_less k a) (paid_more k (with_less count.Sponsored k a))
-    (there_and_back (pos k))
+    (add_neg_self (pos k))
 
 -- ---- what changes leave available
 
 pub available_still : (base : ℕ) (a b : AccountEntry) → IsCharged (pos 0) a b → available a base ≤ℤ available b base
-available_still base a b h = available_by base a b h.means (weak (reserves_of a) (reserves_of b) h.reserves)
+available_still base a b h = available_by base a b h.core (weak (reserves_of a) (reserves_of b) h.reserves)
 
 -- with k reserves more, none is missing where these were available
 pub available_covers : (base k : ℕ) (a b : AccountEntry) → IsCharged (pos k) a b → pos (k * base) ≤ℤ available a base
     → pos 0 ≤ℤ available b base
-available_covers base k a b h enough = subst (λ x. pos 0 ≤ℤ x) (same_left a b base h.means)
+available_covers base k a b h enough = subst (λ x. pos 0 ≤ℤ x) (same_left a b base h.core)
     (covers a.balance (reserves_of a) (reserves_of b) (account_liabilities a).selling k base enough h.reserves)
 
 pub enough_of : (base k : ℕ) (a : AccountEntry) → is_short base (Some a) k ≡ false
@@ -277,36 +261,33 @@ enough_of base k a test = not_less (available a base) (pos (k * base)) test
     not_less : (x y : ℤ) → is_lt (int_cmp x y) ≡ false → y ≤ℤ x
     not_less x y h = grind (arith, ints)
 
-no_more : (x : ℤ) → x ≡ (x +ℤ pos 0)
-no_more x = omega (arith, ints)
-
 -- ---- the next account
 
 pub next_still : (base : ℕ) (a b : AccountEntry) → IsCharged (pos 0) a b → IsNext base (pos 0) a b
 next_still base a b h = record {
-  id = h.means.id;
-  balance = h.means.balance ∙ no_more a.balance;
+  id = h.core.id;
+  balance = h.core.balance ∙ sym (add_zero a.balance);
   covered = inr (available_still base a b h);
 }
 
 pub next_covers : (base k : ℕ) (a b : AccountEntry) → IsCharged (pos k) a b → pos (k * base) ≤ℤ available a base
     → IsNext base (pos 0) a b
 next_covers base k a b h enough = record {
-  id = h.means.id;
-  balance = h.means.balance ∙ no_more a.balance;
+  id = h.core.id;
+  balance = h.core.balance ∙ sym (add_zero a.balance);
   covered = inl (available_covers base k a b h enough);
 }
 
 -- an account with other signers, that counts what it counted
-pub next_edited : (base : ℕ) (more : ℤ) (a b c : AccountEntry) → IsNext base more a b → KeepsMeans b c
+pub next_edited : (base : ℕ) (more : ℤ) (a b c : AccountEntry) → IsNext base more a b → KeepsCore b c
     → ((which : Count) → count_in which c ≡ count_in which b) → IsNext base more a c
-next_edited base more a b c next means same =
-    let le = available_by base b c means (fewer b.num_sub_entries (num_sponsoring b) (num_sponsored b)
+next_edited base more a b c next core same =
+    let le = available_by base b c core (fewer b.num_sub_entries (num_sponsoring b) (num_sponsored b)
     c.num_sub_entries (num_sponsoring c) (num_sponsored c) (same count.SubEntries) (same count.Sponsoring)
     (same count.Sponsored)) in
     record {
-      id = means.id ∙ next.id;
-      balance = means.balance ∙ next.balance;
+      id = core.id ∙ next.id;
+      balance = core.balance ∙ next.balance;
       covered = elim next.covered [
         | inl low ↦ inl (omega (arith, ints))
         | inr as_much ↦ inr (omega (arith, ints))

@@ -1,7 +1,5 @@
 -- What offers bind, evaluated.
-use Rattle.std.proofs.Common.{refl}
-use Rattle.offer_exchange.specs.Exchange.{liabilities, wheat_stays}
-use Rattle.legal_rules.specs.WholeStates.{BoundsAreRounded}
+use Rattle.legal_rules.proofs.Prelude.{refl, liabilities, wheat_stays, BoundsAreRounded}
 
 pub bounds_are_rounded : BoundsAreRounded
 unfolding liabilities wheat_stays

@@ -1,61 +1,31 @@
 -- Lines of pool shares that are added and removed, with what their pools and the lines that they need count.
-use Rattle.std.proofs.Common.{◌≡◌, ◌≢◌, refl, sym, ap, subst, ◌∙◌, ℕ, Bool, true, false, cond, List, [], ◌++◌, All}
-use Rattle.std.proofs.Common.{Option, Some, None, Ok, arith}
-use Rattle.std.proofs.lemmas.List.Elements.{All-nil, All-cons, All-head, All-tail}
-use Rattle.std.proofs.lemmas.Int.{ints}
-use Rattle.std.specs.Prelude.{◌%◌, ℤ, pos, neg_ℤ, ◌+ℤ◌, ◌-ℤ◌, ◌≤ℤ◌, if◌then◌else◌}
-use Rattle.std.specs.FinMap.{get}
-use Rattle.hash_ids.specs.ledger_types.declared.ids.AccountId.{AccountId}
-use Rattle.hash_ids.specs.ledger_types.declared.ids.Hash.{Hash}
-use Rattle.hash_ids.specs.ledger_types.declared.asset.Asset.{Asset}
+use Rattle.legal_rules.proofs.Prelude as prelude
+use prelude.{◌≡◌, ◌≢◌, refl, sym, ap, subst, ◌∙◌, ℕ, Bool, true, false, cond, List, [], ◌++◌, All, Option, Some, None}
+use prelude.{Ok, arith, All-nil, All-cons, All-head, All-tail, ints, ◌%◌, ℤ, pos, neg_ℤ, ◌+ℤ◌, ◌-ℤ◌, ◌≤ℤ◌}
+use prelude.{if◌then◌else◌, get, AccountId, Hash, Asset, PoolParams, TrustLineAsset, TrustLineEntry, LiquidityPoolEntry}
+use prelude.{LedgerEntry, LedgerEntryBody, LedgerKey, key_of, key_of_body, EntryMap, put, HasAccount, line_in, line_of}
+use prelude.{line_at, with_line, line_liabilities, use_count, with_use_count, pool_in, pool_of, pool_at, Ctx}
+use prelude.{map_after_adding, map_after_removing, is_same_account, total, EachEntry, total_none, total_not_below}
+use prelude.{is_key, for_key, Pools, needed_line, uses, uses_by, uses_of, Kind, Subentries, Sponsoring, Sponsored}
+use prelude.{Selling, Buying, Shares, ShareLines, Uses, View, counted, stated, stated_at, held_in, IsBodyInRange}
+use prelude.{IsPoolInRange, offer_with, IsSponsorReady, keys_in, params_in, params_of, view, pools_in, weighed, Owed}
+use prelude.{nothing_owed, in_aggregate, plus, less, beside_reserves, IsEntryLegal, IsLegalOwing, share_line}
+use prelude.{share_aggregates, with_uses, map_with_uses_at, map_with_uses, with_lines, map_with_lines}
+use prelude.{map_with_share_lines, HasNeededLines, AddingShareLinesKeep, RemovingShareLinesKeep, apart_keys, put_get}
+use prelude.{add_neg_zero, add_sub_self, add_zero, add_zero_at_most, natural_nonnegative, natural_positive, zero_add}
+use prelude.{zeros_add_to_zero}
 use Rattle.hash_ids.specs.ledger_types.declared.asset.Asset.TheVariants as asset
-use Rattle.hash_ids.specs.ledger_types.declared.asset.PoolParams.{PoolParams}
-use Rattle.hash_ids.specs.ledger_types.declared.asset.TrustLineAsset.{TrustLineAsset}
 use Rattle.hash_ids.specs.ledger_types.declared.asset.TrustLineAsset.TheVariants as line
-use Rattle.hash_ids.specs.ledger_types.declared.trust_line.TrustLineEntry.{TrustLineEntry}
-use Rattle.hash_ids.specs.ledger_types.declared.liquidity_pool.LiquidityPoolEntry.{LiquidityPoolEntry}
-use Rattle.hash_ids.specs.ledger_types.declared.entry.LedgerEntry.{LedgerEntry}
-use Rattle.hash_ids.specs.ledger_types.declared.entry.LedgerEntryBody.{LedgerEntryBody}
 use Rattle.hash_ids.specs.ledger_types.declared.entry.LedgerEntryBody.TheVariants as body
-use Rattle.hash_ids.specs.ledger_types.declared.key.LedgerKey.{LedgerKey}
 use Rattle.hash_ids.specs.ledger_types.declared.key.LedgerKey.TheVariants as key
-use Rattle.hash_ids.specs.ledger_types.Keys.{key_of, key_of_body}
-use Rattle.entry_sums.specs.entry_map.EntryMap.{EntryMap, put}
-use Rattle.sponsor_laws.specs.entry_slots.Accounts.{HasAccount}
-use Rattle.sponsor_laws.specs.entry_slots.Lines.{line_in, line_of, line_at, with_line}
-use Rattle.sponsor_laws.specs.entry_slots.LineExtensions.{line_liabilities, use_count, with_use_count}
-use Rattle.sponsor_laws.specs.entry_slots.Pools.{pool_in, pool_of, pool_at}
-use Rattle.sponsor_laws.specs.sponsor_rules.declared.context.Ctx.{Ctx}
-use Rattle.sponsor_laws.specs.sponsor_rules.Adding.{map_after_adding}
-use Rattle.sponsor_laws.specs.sponsor_rules.Removing.{map_after_removing}
-use Rattle.sponsor_laws.specs.sponsor_rules.Payers.{is_same_account}
-use Rattle.entry_sums.specs.Sums.{total, EachEntry}
-use Rattle.entry_sums.proofs.Lookups.{put_get, apart_keys}
-use Rattle.entry_sums.proofs.Summing.{total_none, total_not_below}
-use Rattle.legal_rules.specs.EntryKeys.{is_key, for_key}
-use Rattle.legal_rules.specs.PoolShares.{Pools, needed_line, uses, uses_by, uses_of}
-use Rattle.legal_rules.specs.Books.{Kind, Subentries, Sponsoring, Sponsored, Selling, Buying, Shares, ShareLines, Uses}
-use Rattle.legal_rules.specs.Books.{View, counted, stated, stated_at}
-use Rattle.legal_rules.specs.Supply.{held_in}
-use Rattle.legal_rules.specs.Ranges.{IsBodyInRange, IsPoolInRange}
-use Rattle.legal_rules.specs.OfferIds.{offer_with}
-use Rattle.legal_rules.specs.Sponsorships.{IsSponsorReady}
-use Rattle.legal_rules.specs.Needs.{keys_in}
-use Rattle.legal_rules.specs.Legal.{params_in, params_of, view, pools_in}
-use Rattle.legal_rules.specs.Owing.{weighed, Owed, nothing_owed, in_book, plus, less, beside_reserves, IsEntryLegal}
-use Rattle.legal_rules.specs.Owing.{IsLegalOwing}
-use Rattle.legal_rules.specs.ShareLaws.{share_line, share_books, with_uses, map_with_uses_at, map_with_uses, with_lines}
-use Rattle.legal_rules.specs.ShareLaws.{map_with_lines, map_with_share_lines, HasNeededLines, AddingShareLinesKeep}
-use Rattle.legal_rules.specs.ShareLaws.{RemovingShareLinesKeep}
-use Rattle.legal_rules.proofs.Adding.{stands_still}
+use Rattle.legal_rules.proofs.Adding.{exists_still}
 use Rattle.legal_rules.proofs.Changed.{uses_counted, pool_changed_by, pool_entry, with_pool_body}
-use Rattle.legal_rules.proofs.Counting.{neg_in_book}
-use Rattle.legal_rules.proofs.Kept.{subentry_removed_so, plus_none, minus_zero}
+use Rattle.legal_rules.proofs.Counting.{neg_in_aggregate}
+use Rattle.legal_rules.proofs.Kept.{subentry_removed_so}
 use Rattle.legal_rules.proofs.Legality.{owing_nothing, legal_of}
 use Rattle.legal_rules.proofs.Liable.{line_entry, with_line_body, with_line_is}
-use Rattle.legal_rules.proofs.Lows.{natural_low, counted_low, for_key_low}
+use Rattle.legal_rules.proofs.Lows.{counted_low, for_key_low}
 use Rattle.legal_rules.proofs.Needed.{for_itself}
-use Rattle.legal_rules.proofs.Numbers.{plus_nothing, nothing_plus, natural_some, kept_sum, both_none}
 use Rattle.legal_rules.proofs.PaidFor.{nothing_settled}
 use Rattle.legal_rules.proofs.SharesKept.{share_line_added}
 use Rattle.legal_rules.proofs.Steps.{legal_as}
@@ -64,12 +34,12 @@ use Rattle.legal_rules.proofs.Weighing.{total_of}
 
 -- ---- lines that are used more or less
 
--- what books owe once the line under a key, where one is named, is used n times more
+-- what aggregates owe once the line under a key, where one is named, is used n times more
 abbrev used : Option LedgerKey → ℤ → Owed
 used None n = nothing_owed
-used (Some k) n = in_book Uses k (neg_ℤ n)
+used (Some k) n = in_aggregate Uses k (neg_ℤ n)
 
--- the line under a key, where one is named, stands and can be used n times more
+-- the line under a key, where one is named, exists and can be used n times more
 abbrev CanUse : ℤ → EntryMap → Option LedgerKey → Type 0
 CanUse n m None = Unit {0}
 CanUse n m (Some (key.TrustLine id x)) =
@@ -79,31 +49,31 @@ CanUse n m (Some other) = ⊥
 fallen : (old n : ℤ) → (old -ℤ (old +ℤ n)) ≡ neg_ℤ n
 fallen old n = omega (arith, ints)
 
--- for the line that stands, n more than its use count is a count
+-- for the line that exists, n more than its use count is a count
 same_use : (m : EntryMap) (id : AccountId) (x : TrustLineAsset) (n : ℤ) (t : TrustLineEntry) → line_at m id x ≡ Some t
     → with_line m id x (with_use_count (use_count t +ℤ n)) ≡ with_line m id x (with_uses n)
-same_use m id x n t stands =
-    let found = line_entry m id x t stands in
+same_use m id x n t exists =
+    let found = line_entry m id x t exists in
     with_line_is m id x (with_use_count (use_count t +ℤ n)) t found.0 found.1
     ∙ sym (with_line_is m id x (with_uses n) t found.0 found.1)
 
--- The line under a key is used n times more: its book owes so much less.
+-- The line under a key is used n times more: its aggregate owes so much less.
 uses_legal : (v : View) (id_pool : ℕ) (owed : Owed) (sum n : ℤ) (m : EntryMap) (o : Option LedgerKey)
     → IsLegalOwing v id_pool owed sum m → CanUse n m o
     → IsLegalOwing v id_pool (plus owed (used o n)) sum (map_with_uses_at n o m)
 uses_legal v id_pool owed sum n m None legal can =
-    legal_as v (IsEntryLegal id_pool) owed _ sum sum m legal (λ kind k. sym (plus_nothing (owed kind k))) refl
+    legal_as v (IsEntryLegal id_pool) owed _ sum sum m legal (λ kind k. sym (add_zero (owed kind k))) refl
 uses_legal v id_pool owed sum n m (Some (key.TrustLine id x)) legal can =
     subst (IsLegalOwing v id_pool (plus owed (used (Some (key.TrustLine id x)) n)) sum)
     (same_use m id x n can.0 can.1)
     (legal_as v (IsEntryLegal id_pool) _ _ sum sum _
     (uses_counted v id_pool owed sum m id x (use_count can.0 +ℤ n) can.0 legal can.1 can.2)
-    (λ kind k. ap (λ y. owed kind k +ℤ in_book Uses (key.TrustLine id x) y kind k) (fallen (use_count can.0) n)) refl)
+    (λ kind k. ap (λ y. owed kind k +ℤ in_aggregate Uses (key.TrustLine id x) y kind k) (fallen (use_count can.0) n)) refl)
 uses_legal v id_pool owed sum n m (Some other) legal can = absurd can
 
 -- ---- lines that can be used
 
--- what stands under a line's key is a line
+-- what is under a line's key is a line
 by_body : (m : EntryMap) (id : AccountId) (x : TrustLineAsset) (n : ℤ) (e : LedgerEntry) (b : LedgerEntryBody)
     → e.body ≡ b → get m (key.TrustLine id x) ≡ Some e → key_of_body b ≡ key.TrustLine id x
     → pos 0 ≤ℤ (stated Uses b +ℤ n) → CanUse n m (Some (key.TrustLine id x))
@@ -122,8 +92,8 @@ by_entry m id x n (Some e) there keyed some low = by_body m id x n e e.body refl
 
 -- a pool's shares stay, so its count of lines alone is owed
 lines_only : (q : LedgerKey) (shares lines n : ℤ) (kind : Kind) (k : LedgerKey)
-    → plus (in_book Shares q (shares -ℤ shares)) (in_book ShareLines q (lines -ℤ (lines +ℤ n))) kind k
-    ≡ in_book ShareLines q (neg_ℤ n) kind k
+    → plus (in_aggregate Shares q (shares -ℤ shares)) (in_aggregate ShareLines q (lines -ℤ (lines +ℤ n))) kind k
+    ≡ in_aggregate ShareLines q (neg_ℤ n) kind k
 lines_only q shares lines n Shares k = by_test (is_key q k)
   where
     by_test : (t : Bool) → ((if t then shares -ℤ shares else pos 0) +ℤ pos 0) ≡ pos 0
@@ -136,19 +106,19 @@ lines_only q shares lines n ShareLines k = by_test (is_key q k)
     by_test false = refl
 lines_only q shares lines n kind k = refl
 
--- A pool has n lines more: its book owes so much less.
+-- A pool has n lines more: its aggregate owes so much less.
 lines_legal : (v : View) (id_pool : ℕ) (owed : Owed) (sum n : ℤ) (m : EntryMap) (pool : Hash) (p : LiquidityPoolEntry)
     → IsLegalOwing v id_pool owed sum m → pool_at m pool ≡ Some p → pos 0 ≤ℤ (p.pool_shares_trust_line_count +ℤ n)
-    → IsLegalOwing v id_pool (plus owed (in_book ShareLines (key.LiquidityPool pool) (neg_ℤ n))) sum
+    → IsLegalOwing v id_pool (plus owed (in_aggregate ShareLines (key.LiquidityPool pool) (neg_ℤ n))) sum
     (map_with_lines n pool m)
-lines_legal v id_pool owed sum n m pool p legal stands low =
-    let found = pool_entry m pool p stands in
+lines_legal v id_pool owed sum n m pool p legal exists low =
+    let found = pool_entry m pool p exists in
     let there : get m (key.LiquidityPool pool) ≡ Some (with_pool_body found.0 p) =
     found.1.there ∙ ap Some (λ i. record found.0 { body = found.1.is i }) in
     let was = legal.entries (key.LiquidityPool pool) (with_pool_body found.0 p) there in
     let range : IsPoolInRange p = was.range.body in
     legal_as v (IsEntryLegal id_pool) _ _ _ sum _
-    (pool_changed_by v id_pool owed sum m pool (with_lines n) p legal stands (record { id = refl; params = refl })
+    (pool_changed_by v id_pool owed sum m pool (with_lines n) p legal exists (record { id = refl; params = refl })
     (record {
       fee = range.fee;
       assets = range.assets;
@@ -160,7 +130,7 @@ lines_legal v id_pool owed sum n m pool p legal stands low =
     }) was.filled)
     (λ kind k. ap (λ y. owed kind k +ℤ y)
     (lines_only (key.LiquidityPool pool) p.total_pool_shares p.pool_shares_trust_line_count n kind k))
-    (kept_sum sum (held_in v.asset (body.LiquidityPool p)))
+    (add_sub_self sum (held_in v.asset (body.LiquidityPool p)))
 
 -- ---- what n empty lines of an account in a pool count, and what is left once that is stated
 
@@ -172,7 +142,7 @@ counts_of n id pool params kind k = pos 0
 
 for_less : (k : LedgerKey) (o : Option LedgerKey) (n : ℤ) → for_key k o (neg_ℤ n) ≡ neg_ℤ (for_key k o n)
 for_less k None n = refl
-for_less k (Some q) n = neg_in_book Uses q n Uses k
+for_less k (Some q) n = neg_in_aggregate Uses q n Uses k
 
 used_is : (o : Option LedgerKey) (k : LedgerKey) (n : ℤ) → used o n Uses k ≡ neg_ℤ (for_key k o n)
 used_is None k n = refl
@@ -209,7 +179,7 @@ module _ (n : ℤ) (id : AccountId) (pool : Hash) (params : PoolParams) where
   Twice = plus Once (used line_b n)
 
   abbrev Settled : Owed
-  Settled = plus Twice (in_book ShareLines (key.LiquidityPool pool) (neg_ℤ n))
+  Settled = plus Twice (in_aggregate ShareLines (key.LiquidityPool pool) (neg_ℤ n))
 
   nothing_left : (kind : Kind) (k : LedgerKey) → Settled kind k ≡ nothing_owed kind k
   nothing_left Uses k = both_taken (for_key k line_a n) (for_key k line_b n) _ _ (used_is line_a k n)
@@ -237,10 +207,10 @@ module _ (n : ℤ) (id : AccountId) (pool : Hash) (params : PoolParams) where
     settled : IsLegalOwing v id_pool Twice sum after_b → (p : LiquidityPoolEntry) → pool_at after_b pool ≡ Some p
         → pos 0 ≤ℤ (p.pool_shares_trust_line_count +ℤ n)
         → IsLegalOwing v id_pool nothing_owed sum (map_with_share_lines n id pool params m)
-    settled so_far p stands low = legal_as v (IsEntryLegal id_pool) Settled nothing_owed sum sum _
-        (lines_legal v id_pool Twice sum n after_b pool p so_far stands low) nothing_left refl
+    settled so_far p exists low = legal_as v (IsEntryLegal id_pool) Settled nothing_owed sum sum _
+        (lines_legal v id_pool Twice sum n after_b pool p so_far exists low) nothing_left refl
 
--- ---- the pool stands
+-- ---- the pool exists
 
 pool_body_known : (b : LedgerEntryBody) (params : PoolParams) → params_in b ≡ Some params
     → (p : LiquidityPoolEntry) × (pool_in b ≡ Some p)
@@ -252,23 +222,23 @@ pool_entry_known : (o : Option LedgerEntry) (params : PoolParams) → params_of 
 pool_entry_known None params is = absurd (cc)
 pool_entry_known (Some e) params is = pool_body_known e.body params is
 
--- a pool whose parameters are known stands
+-- a pool whose parameters are known exists
 pub pool_known : (m : EntryMap) (pool : Hash) (params : PoolParams) → pools_in m pool ≡ Some params
     → (p : LiquidityPoolEntry) × (pool_at m pool ≡ Some p)
 unfolding pool_at
 pool_known m pool params is = pool_entry_known (get m (key.LiquidityPool pool)) params is
 
--- the parameters of a pool that stands are known
+-- the parameters of a pool that exists are known
 pub params_known : (m : EntryMap) (pool : Hash) (p : LiquidityPoolEntry) → pool_at m pool ≡ Some p
     → pools_in m pool ≡ Some p.params
-params_known m pool p stands =
-    let found = pool_entry m pool p stands in
+params_known m pool p exists =
+    let found = pool_entry m pool p exists in
     ap params_of found.1.there ∙ ap params_in found.1.is
 
 pub pool_low : (v : View) (id_pool : ℕ) (owed : Owed) (sum : ℤ) (m : EntryMap) (pool : Hash) (p : LiquidityPoolEntry)
     → IsLegalOwing v id_pool owed sum m → pool_at m pool ≡ Some p → pos 0 ≤ℤ p.pool_shares_trust_line_count
-pool_low v id_pool owed sum m pool p legal stands =
-    let found = pool_entry m pool p stands in
+pool_low v id_pool owed sum m pool p legal exists =
+    let found = pool_entry m pool p exists in
     let range : IsBodyInRange id_pool found.0.body = (legal.entries _ found.0 found.1.there).range.body in
     (subst (IsBodyInRange id_pool) found.1.is range).lines
 
@@ -301,39 +271,39 @@ needs_line id (asset.Alphanum12 code issuer) = elim (is_same_account issuer id) 
     (λ t. IsLineKey (if t then None else Some (key.TrustLine id (line.Alphanum12 code issuer))))
     [ true ↦ tt | false ↦ tt ]
 
--- a line that stands can be used once more
+-- a line that exists can be used once more
 can_use_more : (v : View) (id_pool : ℕ) (owed : Owed) (sum : ℤ) (m : EntryMap) (o : Option LedgerKey) → IsLineKey o
     → IsLegalOwing v id_pool owed sum m → All (λ k. get m k ≢ None) (keys_in o) → CanUse (pos 1) m o
-can_use_more v id_pool owed sum m None is legal stands = tt
-can_use_more v id_pool owed sum m (Some (key.TrustLine id x)) is legal stands =
+can_use_more v id_pool owed sum m None is legal exists = tt
+can_use_more v id_pool owed sum m (Some (key.TrustLine id x)) is legal exists =
     by_entry m id x (pos 1) (get m (key.TrustLine id x)) refl legal.keyed
-    (All-head (λ k. get m k ≢ None) (key.TrustLine id x) [] stands)
+    (All-head (λ k. get m k ≢ None) (key.TrustLine id x) [] exists)
     (one_more _ (stated_uses_low id_pool (get m (key.TrustLine id x)) (legal.entries (key.TrustLine id x))))
-can_use_more v id_pool owed sum m (Some other) is legal stands = absurd is
+can_use_more v id_pool owed sum m (Some other) is legal exists = absurd is
 
--- what stands still does once a line is used
-stands_put : (m : EntryMap) (e : LedgerEntry) (q : LedgerKey) → get m q ≢ None → get (put m e) q ≢ None
-stands_put m e q stands missing = elim (is_key q (key_of e)) as (λ t. cond t (Some e) (get m q) ≡ None → ⊥)
-    [ true ↦ λ none. absurd (cc) | false ↦ stands ] (sym (put_get m e q) ∙ missing)
+-- what exists still does once a line is used
+exists_put : (m : EntryMap) (e : LedgerEntry) (q : LedgerKey) → get m q ≢ None → get (put m e) q ≢ None
+exists_put m e q exists missing = elim (is_key q (key_of e)) as (λ t. cond t (Some e) (get m q) ≡ None → ⊥)
+    [ true ↦ λ none. absurd (cc) | false ↦ exists ] (sym (put_get m e q) ∙ missing)
 
-stands_used : (n : ℤ) (m : EntryMap) (o : Option LedgerKey) → CanUse n m o → (q : LedgerKey) → get m q ≢ None
+exists_used : (n : ℤ) (m : EntryMap) (o : Option LedgerKey) → CanUse n m o → (q : LedgerKey) → get m q ≢ None
     → get (map_with_uses_at n o m) q ≢ None
-stands_used n m None can q stands = stands
-stands_used n m (Some (key.TrustLine id x)) can q stands =
+exists_used n m None can q exists = exists
+exists_used n m (Some (key.TrustLine id x)) can q exists =
     let found = line_entry m id x can.0 can.1 in
     subst (λ now. get now q ≢ None) (sym (with_line_is m id x (with_uses n) can.0 found.0 found.1))
-    (stands_put m (with_line_body found.0 (with_uses n can.0)) q stands)
-stands_used n m (Some other) can q stands = absurd can
+    (exists_put m (with_line_body found.0 (with_uses n can.0)) q exists)
+exists_used n m (Some other) can q exists = absurd can
 
 -- each of the lines by itself
 each_line : (m now : EntryMap) (o : Option LedgerKey) → IsLineKey o
     → ((id : AccountId) (x : TrustLineAsset) → get m (key.TrustLine id x) ≢ None → get now (key.TrustLine id x) ≢ None)
     → All (λ k. get m k ≢ None) (keys_in o) → All (λ k. get now k ≢ None) (keys_in o)
-each_line m now None is still stands = All-nil (λ k. get now k ≢ None)
-each_line m now (Some (key.TrustLine id x)) is still stands =
+each_line m now None is still exists = All-nil (λ k. get now k ≢ None)
+each_line m now (Some (key.TrustLine id x)) is still exists =
     All-cons (λ k. get now k ≢ None) (key.TrustLine id x) []
-    (still id x (All-head (λ k. get m k ≢ None) (key.TrustLine id x) [] stands)) (All-nil (λ k. get now k ≢ None))
-each_line m now (Some other) is still stands = absurd is
+    (still id x (All-head (λ k. get m k ≢ None) (key.TrustLine id x) [] exists)) (All-nil (λ k. get now k ≢ None))
+each_line m now (Some other) is still exists = absurd is
 
 first_lines : (P : LedgerKey → Type 0) (o : Option LedgerKey) (more : List LedgerKey) → All P (keys_in o ++ more)
     → All P (keys_in o)
@@ -345,21 +315,21 @@ other_lines : (P : LedgerKey → Type 0) (o : Option LedgerKey) (more : List Led
 other_lines P None more all = all
 other_lines P (Some k) more all = All-tail P k more all
 
-nothing_more : (t : Bool) → (pos 0 +ℤ (if t then pos 0 else pos 0)) ≡ pos 0
-nothing_more true = refl
-nothing_more false = refl
+zero_add_if_zeros : (t : Bool) → (pos 0 +ℤ (if t then pos 0 else pos 0)) ≡ pos 0
+zero_add_if_zeros true = refl
+zero_add_if_zeros false = refl
 
 -- a line without shares counts itself, and uses
 counted_alone : (id : AccountId) (pool : Hash) (params : PoolParams) (kind : Kind) (k : LedgerKey)
-    → plus nothing_owed (share_books id pool params (pos 0)) kind k ≡ counts_of (pos 1) id pool params kind k
-counted_alone id pool params Shares k = nothing_more (is_key (key.LiquidityPool pool) k)
-counted_alone id pool params ShareLines k = sym (nothing_plus _)
-counted_alone id pool params Uses k = sym (nothing_plus _)
+    → plus nothing_owed (share_aggregates id pool params (pos 0)) kind k ≡ counts_of (pos 1) id pool params kind k
+counted_alone id pool params Shares k = zero_add_if_zeros (is_key (key.LiquidityPool pool) k)
+counted_alone id pool params ShareLines k = zero_add _
+counted_alone id pool params Uses k = zero_add _
 counted_alone id pool params kind k = refl
 
 module _ (v : View) (id_pool : ℕ) (coins : ℤ) (ctx : Ctx) (seq : ℕ) (id : AccountId) (pool : Hash)
     (p : LiquidityPoolEntry) (limit : ℤ) (old added : EntryMap) (start : IsLegalOwing v id_pool nothing_owed coins old)
-    (stands : pool_at old pool ≡ Some p) (free : get old (key.TrustLine id (line.PoolShare pool)) ≡ None)
+    (exists : pool_at old pool ≡ Some p) (free : get old (key.TrustLine id (line.PoolShare pool)) ≡ None)
     (range : IsEntryLegal id_pool (share_line seq None id pool (pos 0) limit)) (owner : HasAccount old id)
     (ready : IsSponsorReady ctx id old)
     (done : map_after_adding ctx id (share_line seq None id pool (pos 0) limit) old ≡ Ok added) where
@@ -367,24 +337,24 @@ module _ (v : View) (id_pool : ℕ) (coins : ℤ) (ctx : Ctx) (seq : ℕ) (id : 
   new_line = share_line seq None id pool (pos 0) limit
 
   known : v.pools pool ≡ Some p.params
-  known = sym (start.params pool) ∙ params_known old pool p stands
+  known = sym (start.params pool) ∙ params_known old pool p exists
 
-  open_books : IsLegalOwing v id_pool (counts_of (pos 1) id pool p.params) coins added
-  open_books = legal_as v (IsEntryLegal id_pool) _ _ coins coins added
+  open_aggregates : IsLegalOwing v id_pool (counts_of (pos 1) id pool p.params) coins added
+  open_aggregates = legal_as v (IsEntryLegal id_pool) _ _ coins coins added
       (share_line_added v id_pool id_pool nothing_owed coins ctx seq id pool p.params (pos 0) limit old added start
       known free (omega arith) range owner ready done) (counted_alone id pool p.params) refl
 
-  line_stands : (i : AccountId) (x : TrustLineAsset) → get old (key.TrustLine i x) ≢ None
+  line_exists : (i : AccountId) (x : TrustLineAsset) → get old (key.TrustLine i x) ≢ None
       → get added (key.TrustLine i x) ≢ None
-  line_stands i x there missing = there (sym (stands_still v id_pool id_pool nothing_owed coins ctx id new_line 2
+  line_exists i x there missing = there (sym (exists_still v id_pool id_pool nothing_owed coins ctx id new_line 2
       old start (record {
         subentry = subentry_of new_line.body id 2 refl;
         free = free;
         unsponsored = refl;
         legal = range;
         wide = omega arith;
-        offers = λ n. plus_none (total (offer_with n) old) (start.offers n);
-        owner_stands = owner;
+        offers = λ n. add_zero_at_most (total (offer_with n) old) (pos 1) (start.offers n);
+        owner_exists = owner;
         ready = ready;
       }) added done (key.TrustLine i x) (λ a same. absurd (cc)) (λ same. there (ap (get old) same ∙ free))) ∙ missing)
 
@@ -397,23 +367,23 @@ module _ (v : View) (id_pool : ℕ) (coins : ℤ) (ctx : Ctx) (seq : ℕ) (id : 
       let had_b = other_lines (λ k. get old k ≢ None) a (keys_in b) lines in
       let is_a = needs_line id p.params.asset_a in
       let is_b = needs_line id p.params.asset_b in
-      let can_a = can_use_more v id_pool _ coins added a is_a open_books
-      (each_line old added a is_a line_stands had_a) in
-      let one = once (pos 1) id pool p.params v id_pool coins added open_books can_a in
+      let can_a = can_use_more v id_pool _ coins added a is_a open_aggregates
+      (each_line old added a is_a line_exists had_a) in
+      let one = once (pos 1) id pool p.params v id_pool coins added open_aggregates can_a in
       let after = map_with_uses (pos 1) id p.params.asset_a added in
       let can_b = can_use_more v id_pool _ coins after b is_b one
-      (each_line old after b is_b (λ i x there. stands_used (pos 1) added a can_a (key.TrustLine i x)
-      (line_stands i x there)) had_b) in
+      (each_line old after b is_b (λ i x there. exists_used (pos 1) added a can_a (key.TrustLine i x)
+      (line_exists i x there)) had_b) in
       let two = twice (pos 1) id pool p.params v id_pool coins added one can_b in
       let now = pool_known _ pool p.params (two.params pool ∙ known) in
       settled (pos 1) id pool p.params v id_pool coins added two now.0 now.1
       (one_more _ (pool_low v id_pool _ coins _ pool now.0 two now.1))
 
 pub adding_share_lines_keep : AddingShareLinesKeep
-adding_share_lines_keep h ctx seq id pool p limit old added legal stands lines free range owner ready done =
+adding_share_lines_keep h ctx seq id pool p limit old added legal exists lines free range owner ready done =
     legal_of h (pools_in old) _ legal.header
     (share_line_counted (view old) h.id_pool (h.total_coins -ℤ h.fee_pool) ctx seq id pool p limit old added
-    (owing_nothing h old legal) stands free range owner ready done lines)
+    (owing_nothing h old legal) exists free range owner ready done lines)
 
 -- ---- a line of pool shares states nothing
 
@@ -446,7 +416,7 @@ module _ (id : AccountId) (pool : Hash) where
 
   not_used_of : (other : AccountId) (o : Option PoolParams) → uses_of its_key other o ≡ pos 0
   not_used_of other None = refl
-  not_used_of other (Some params) = both_none _ _ (not_needed other params.asset_a (pos 1))
+  not_used_of other (Some params) = zeros_add_to_zero _ _ (not_needed other params.asset_a (pos 1))
       (not_needed other params.asset_b (pos 1))
 
   not_used_by : (pools : Pools) (other : AccountId) (a : TrustLineAsset) → uses_by pools its_key other a ≡ pos 0
@@ -524,7 +494,7 @@ module _ (v : View) (id_pool : ℕ) (owed : Owed) (sum : ℤ) (m : EntryMap)
   states_least kind k = subst (λ n. pos 0 ≤ℤ n) (total_of v (IsEntryLegal id_pool) owed sum m legal kind k)
       (total_not_below (counted v kind k) m (λ q x at. counted_low id_pool v kind k x (legal.entries q x at).range))
 
-  -- a line of which more uses are stated than are counted stands, and can be used once less
+  -- a line of which more uses are stated than are counted exists, and can be used once less
   pub can_use_less : (o : Option LedgerKey) → IsLineKey o
       → ((k : LedgerKey) → o ≡ Some k → owed Uses k ≤ℤ neg_ℤ (pos 1)) → CanUse (neg_ℤ (pos 1)) m o
   can_use_less None is less = tt
@@ -538,8 +508,8 @@ module _ (v : View) (id_pool : ℕ) (owed : Owed) (sum : ℤ) (m : EntryMap)
   pub can_count_less : (pool : Hash) (p : LiquidityPoolEntry) → pool_at m pool ≡ Some p
       → owed ShareLines (key.LiquidityPool pool) ≤ℤ neg_ℤ (pos 1)
       → pos 0 ≤ℤ (p.pool_shares_trust_line_count +ℤ neg_ℤ (pos 1))
-  can_count_less pool p stands less =
-      let found = pool_entry m pool p stands in
+  can_count_less pool p exists less =
+      let found = pool_entry m pool p exists in
       let states = ap (stated_at ShareLines) found.1.there ∙ ap (stated ShareLines) found.1.is in
       subst (λ n. pos 0 ≤ℤ (n +ℤ neg_ℤ (pos 1))) states
       (one_less (stated_at ShareLines (get m (key.LiquidityPool pool))) (owed ShareLines (key.LiquidityPool pool)) less
@@ -587,19 +557,19 @@ module _ (now_v : View) (id_pool : ℕ) (lumens : ℤ) (id : AccountId) (pool : 
     without = legal_as now_v (IsEntryLegal id_pool) _ fewer _ lumens _
         (subentry_removed_so now_v id_pool nothing_owed lumens id 2 share_key its m at_first nothing_settled there
         refl)
-        counted_less (minus_zero lumens)
+        counted_less (add_neg_zero lumens)
 
     left : IsLegalOwing now_v id_pool nothing_owed lumens
         (map_with_share_lines (neg_ℤ (pos 1)) id pool p.params (map_after_removing share_key m))
     left =
         let n = neg_ℤ (pos 1) in
-        let one_self = natural_some 1 (omega arith) in
+        let one_self = natural_positive 1 (omega arith) in
         let gone = map_after_removing share_key m in
         let a = needed_line id p.params.asset_a in
         let b = needed_line id p.params.asset_b in
         let can_a = can_use_less now_v id_pool fewer lumens gone without a (needs_line id p.params.asset_a)
         (λ k is. first_owes (for_key k a (pos 1)) (for_key k b (pos 1)) _ _ (for_itself k a (pos 1) is one_self)
-        (for_key_low k b (pos 1) (natural_low 1)) (for_less k a (pos 1)) (for_less k b (pos 1))) in
+        (for_key_low k b (pos 1) (natural_nonnegative 1)) (for_less k a (pos 1)) (for_less k b (pos 1))) in
         let one = once n id pool p.params now_v id_pool lumens gone without can_a in
         let after = map_with_uses n id p.params.asset_a gone in
         let can_b = can_use_less now_v id_pool _ lumens after one b (needs_line id p.params.asset_b)
@@ -619,8 +589,8 @@ pub share_line_gone : (v : View) (id_pool : ℕ) (sum : ℤ) (id : AccountId) (p
     → line_at m id (line.PoolShare pool) ≡ Some t → t.balance ≡ pos 0 → pool_at m pool ≡ Some p
     → IsLegalOwing v id_pool nothing_owed sum (map_with_share_lines (neg_ℤ (pos 1)) id pool p.params
     (map_after_removing (key.TrustLine id (line.PoolShare pool)) m))
-share_line_gone v id_pool sum id pool t p m legal stands empty pool_stands =
-    let found = line_entry m id (line.PoolShare pool) t stands in
+share_line_gone v id_pool sum id pool t p m legal exists empty pool_exists =
+    let found = line_entry m id (line.PoolShare pool) t exists in
     let e = found.0 in
     let own : key.TrustLine t.account_id t.asset ≡ key.TrustLine id (line.PoolShare pool) =
     sym (ap key_of_body found.1.is) ∙ legal.keyed (key.TrustLine id (line.PoolShare pool)) e found.1.there in
@@ -630,10 +600,10 @@ share_line_gone v id_pool sum id pool t p m legal stands empty pool_stands =
     (λ i. record e { body = found.1.is i })
     ∙ (λ i. with_line_body e (record t { account_id = ids i; asset = assets i })) in
     left v id_pool sum id pool t p m legal e (found.1.there ∙ ap Some same) empty
-    (sym (legal.params pool) ∙ params_known m pool p pool_stands)
+    (sym (legal.params pool) ∙ params_known m pool p pool_exists)
 
 pub removing_share_lines_keep : RemovingShareLinesKeep
-removing_share_lines_keep h id pool t p m legal stands empty pool_stands =
+removing_share_lines_keep h id pool t p m legal exists empty pool_exists =
     legal_of h (pools_in m) _ legal.header
-    (share_line_gone (view m) h.id_pool (h.total_coins -ℤ h.fee_pool) id pool t p m (owing_nothing h m legal) stands
-    empty pool_stands)
+    (share_line_gone (view m) h.id_pool (h.total_coins -ℤ h.fee_pool) id pool t p m (owing_nothing h m legal) exists
+    empty pool_exists)

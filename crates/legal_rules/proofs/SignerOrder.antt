@@ -1,61 +1,44 @@
 -- Signers that stay in range when one is added, taken away or given another sponsor.
-use Rattle.std.proofs.Common.{◌≡◌, ◌≢◌, ◌⊎◌, inl, inr, refl, sym, ap, subst, ◌∙◌, ℕ, suc, ◌-◌, ◌<◌, ◌≤◌, true}
-use Rattle.std.proofs.Common.{false, List}
-use Rattle.std.proofs.Common.{◌∷◌, length, get_or, take, drop, All, Option, Some, slice_set, arith}
-use Rattle.std.proofs.lemmas.Bool.{cases_lt, cases_eq}
-use Rattle.std.proofs.lemmas.List.{length-set}
-use Rattle.std.proofs.lemmas.List.Edits.{length-insert, length-remove, get_or-insert_below, get_or-insert_at}
-use Rattle.std.proofs.lemmas.List.Edits.{get_or-insert_above}
-use Rattle.std.proofs.lemmas.List.Elements.{All-append, All-cons, All-take, All-drop, All-set}
+use Rattle.legal_rules.proofs.Prelude as prelude
+use prelude.{◌≡◌, ◌≢◌, ◌⊎◌, inl, inr, refl, sym, ap, subst, ◌∙◌, ℕ, ◌-◌, ◌<◌, ◌≤◌, true, false, List, length, get_or}
+use prelude.{All, Option, Some, slice_set, arith, cases_lt, cases_eq, length-set, length-insert, length-remove}
+use prelude.{get_or-insert_below, get_or-insert_at, get_or-insert_above, All-set, prefix_len-le-length}
+use prelude.{prefix_len_passes, prefix_len_stops, insert, remove, AllPairs, is_lt, ordering_reverse, Ordering, Less}
+use prelude.{Equal, Greater, AccountId, Signer, signer_key_cmp, signer_keys_total, signer_keys_exact, index_for}
+use prelude.{AreSignersInRange, IsNewSigner, all_insert, all_remove}
 use Rattle.std.proofs.lemmas.List.Quantifiers.{all_pairs_remove}
-use Rattle.std.proofs.lemmas.List.Sums.{prefix_len-le-length, prefix_len_passes, prefix_len_stops}
-use Rattle.std.specs.List.{insert, remove, AllPairs}
-use Rattle.std.specs.Ordering.{is_lt, ordering_reverse}
-use Rattle.std.specs.declared.cmp.Ordering.{Ordering}
-use Rattle.std.specs.declared.cmp.Ordering.TheVariants.{Less, Equal, Greater}
-use Rattle.hash_ids.specs.ledger_types.declared.ids.AccountId.{AccountId}
-use Rattle.hash_ids.specs.ledger_types.declared.signer.Signer.{Signer}
 use Rattle.hash_ids.specs.ledger_types.declared.signer.SignerKey.TheVariants as signer
-use Rattle.hash_ids.specs.ledger_types.KeyOrder.{signer_key_cmp}
-use Rattle.hash_ids.proofs.ledger_types_proofs.KeyOrdering.{signer_keys_total, signer_keys_exact}
-use Rattle.sponsor_laws.specs.sponsor_rules.SignerPlace.{place_for}
-use Rattle.legal_rules.specs.Ranges.{AreSignersInRange}
-use Rattle.legal_rules.specs.SignerLaws.{IsNewSigner}
+use Rattle.hash_ids.proofs.ledger_types_proofs.Booleans.{is_lt_true_Less}
 
 abbrev IsBelow : Signer → Signer → Type 0
 IsBelow x y = signer_key_cmp x.key y.key ≡ Less
 
-is_less : (o : Ordering) → is_lt o ≡ true → o ≡ Less
-is_less Less h = refl
-is_less Equal h = absurd (cc)
-is_less Greater h = absurd (cc)
-
-turned : (o back : Ordering) → o ≡ ordering_reverse back → is_lt o ≡ false → (o ≡ Equal → ⊥) → back ≡ Less
-turned o Less is not_less apart = refl
-turned o Equal is not_less apart = absurd (apart is)
-turned o Greater is not_less apart = absurd (let less : is_lt o ≡ true = ap is_lt is in cc)
+less_from_turned : (o back : Ordering) → o ≡ ordering_reverse back → is_lt o ≡ false → (o ≡ Equal → ⊥) → back ≡ Less
+less_from_turned o Less is not_less apart = refl
+less_from_turned o Equal is not_less apart = absurd (apart is)
+less_from_turned o Greater is not_less apart = absurd (let less : is_lt o ≡ true = ap is_lt is in cc)
 
 -- a new key among rising ones
 module _ (xs : List Signer) (y : Signer) (rising : AllPairs IsBelow xs) (new : All (λ s. s.key ≢ y.key) xs) where
   abbrev n : ℕ
-  n = place_for y.key xs
+  n = index_for y.key xs
 
   n_le : n ≤ length xs
   n_le = prefix_len-le-length (λ s. is_lt (signer_key_cmp s.key y.key)) xs
 
   below : (k : ℕ) (d : Signer) → k < n → IsBelow (get_or xs k d) y
-  below k d lt = is_less _ (prefix_len_passes (λ s. is_lt (signer_key_cmp s.key y.key)) xs k d lt)
+  below k d lt = is_lt_true_Less _ (prefix_len_passes (λ s. is_lt (signer_key_cmp s.key y.key)) xs k d lt)
 
-  at_place : (d : Signer) → n < length xs → IsBelow y (get_or xs n d)
-  at_place d lt = turned (signer_key_cmp (get_or xs n d).key y.key) (signer_key_cmp y.key (get_or xs n d).key)
+  at_index : (d : Signer) → n < length xs → IsBelow y (get_or xs n d)
+  at_index d lt = less_from_turned (signer_key_cmp (get_or xs n d).key y.key) (signer_key_cmp y.key (get_or xs n d).key)
       (signer_keys_total.antisymm (get_or xs n d).key y.key)
       (prefix_len_stops (λ s. is_lt (signer_key_cmp s.key y.key)) xs d lt)
       (λ tied. new n d lt (signer_keys_exact (get_or xs n d).key y.key tied))
 
   above : (k : ℕ) (d : Signer) → n ≤ k → k < length xs → IsBelow y (get_or xs k d)
   above k d le lt = elim (cases_eq n k) [
-    | inl same ↦ subst (λ i. IsBelow y (get_or xs i d)) same (at_place d (omega arith))
-    | inr apart ↦ signer_keys_total.trans y.key (get_or xs n d).key (get_or xs k d).key (at_place d (omega arith))
+    | inl same ↦ subst (λ i. IsBelow y (get_or xs i d)) same (at_index d (omega arith))
+    | inr apart ↦ signer_keys_total.trans y.key (get_or xs n d).key (get_or xs k d).key (at_index d (omega arith))
         (rising n k d (before apart) lt)
   ]
     where
@@ -96,8 +79,8 @@ module _ (xs : List Signer) (y : Signer) (rising : AllPairs IsBelow xs) (new : A
                 (ap (λ k. get_or more k d) (sym at) ∙ get_or-insert_at xs n y d n_le) (kept_above j d past)
                 (above (j - 1) d (omega arith) (omega arith))
             | inr differ ↦
-                let behind : n < i = also differ le in
-                as_kept i j d _ _ (kept_above i d behind) (kept_above j d past)
+                let later : n < i = also differ le in
+                as_kept i j d _ _ (kept_above i d later) (kept_above j d past)
                 (rising (i - 1) (j - 1) d (omega arith) (omega arith))
           ]
         ]
@@ -112,20 +95,13 @@ module _ (xs : List Signer) (y : Signer) (rising : AllPairs IsBelow xs) (new : A
   pub rising_inserted : AllPairs IsBelow more
   rising_inserted i j d lt within = by_second i j d lt within (cases_lt i n) (cases_lt j n)
 
-all_inserted : {X : Type 0} (P : X → Type 0) (xs : List X) (n : ℕ) (x : X) → All P xs → P x → All P (insert xs n x)
-all_inserted P xs n x all has = All-append P (take n xs) (x ∷ drop n xs) (All-take P n xs all)
-    (All-cons P x (drop n xs) has (All-drop P n xs all))
-
-all_removed : {X : Type 0} (P : X → Type 0) (xs : List X) (n : ℕ) → All P xs → All P (remove xs n)
-all_removed P xs n all = All-append P (take n xs) (drop (suc n) xs) (All-take P n xs all) (All-drop P (suc n) xs all)
-
 module _ (id : AccountId) (signers : List Signer) (sponsors : List (Option AccountId))
     (was : AreSignersInRange id signers sponsors) where
   pub signers_with : (s : Signer) (sponsor : Option AccountId) → IsNewSigner id signers s → sponsor ≢ Some id
-      → AreSignersInRange id (insert signers (place_for s.key signers) s)
-      (insert sponsors (place_for s.key signers) sponsor)
+      → AreSignersInRange id (insert signers (index_for s.key signers) s)
+      (insert sponsors (index_for s.key signers) sponsor)
   signers_with s sponsor fresh apart =
-      let n = place_for s.key signers in
+      let n = index_for s.key signers in
       let le : n ≤ length signers = prefix_len-le-length (λ x. is_lt (signer_key_cmp x.key s.key)) signers in
       let items = was.items in
       let more = length-insert signers n s le in
@@ -134,10 +110,10 @@ module _ (id : AccountId) (signers : List Signer) (sponsors : List (Option Accou
       record {
         few = omega arith;
         rising = rising_inserted signers s was.rising fresh.new;
-        weights = all_inserted (λ (x : Signer). (1 ≤ x.weight) × (x.weight ≤ 255)) signers n s was.weights fresh.weight;
-        others = all_inserted (λ (x : Signer). x.key ≢ signer.Ed25519 id.0) signers n s was.others fresh.other;
+        weights = all_insert (λ (x : Signer). (1 ≤ x.weight) × (x.weight ≤ 255)) signers n s was.weights fresh.weight;
+        others = all_insert (λ (x : Signer). x.key ≢ signer.Ed25519 id.0) signers n s was.others fresh.other;
         items = omega arith;
-        paid_by_others = all_inserted (λ (x : Option AccountId). x ≢ Some id) sponsors n sponsor was.paid_by_others
+        paid_by_others = all_insert (λ (x : Option AccountId). x ≢ Some id) sponsors n sponsor was.paid_by_others
             apart;
       }
 
@@ -151,10 +127,10 @@ module _ (id : AccountId) (signers : List Signer) (sponsors : List (Option Accou
       record {
         few = omega arith;
         rising = all_pairs_remove IsBelow signers n within was.rising;
-        weights = all_removed (λ (x : Signer). (1 ≤ x.weight) × (x.weight ≤ 255)) signers n was.weights;
-        others = all_removed (λ (x : Signer). x.key ≢ signer.Ed25519 id.0) signers n was.others;
+        weights = all_remove (λ (x : Signer). (1 ≤ x.weight) × (x.weight ≤ 255)) signers n was.weights;
+        others = all_remove (λ (x : Signer). x.key ≢ signer.Ed25519 id.0) signers n was.others;
         items = omega arith;
-        paid_by_others = all_removed (λ (x : Option AccountId). x ≢ Some id) sponsors n was.paid_by_others;
+        paid_by_others = all_remove (λ (x : Option AccountId). x ≢ Some id) sponsors n was.paid_by_others;
       }
 
   pub signers_moved : (n : ℕ) (sponsor : Option AccountId) → sponsor ≢ Some id

@@ -1,55 +1,44 @@
 -- What the sponsor of an entry adds to what it counts.
-use Rattle.std.proofs.Common.{◌≡◌, refl, sym, ap, ◌∙◌, ℕ, ◌+◌, Bool, true, false, Option, Some, None, arith}
-use Rattle.std.proofs.lemmas.Int.{ints}
-use Rattle.std.specs.Prelude.{ℤ, pos, neg_ℤ, ◌+ℤ◌, ◌-ℤ◌, if◌then◌else◌}
-use Rattle.std.specs.List.{count_by}
-use Rattle.hash_ids.specs.ledger_types.declared.ids.AccountId.{AccountId}
-use Rattle.hash_ids.specs.ledger_types.declared.entry.LedgerEntry.{LedgerEntry}
-use Rattle.hash_ids.specs.ledger_types.declared.key.LedgerKey.{LedgerKey}
+use Rattle.legal_rules.proofs.Prelude as prelude
+use prelude.{◌≡◌, refl, sym, ap, ◌∙◌, ℕ, ◌+◌, Bool, true, false, Option, Some, None, arith, ints, ℤ, pos, neg_ℤ, ◌+ℤ◌}
+use prelude.{◌-ℤ◌, if◌then◌else◌, count_by, AccountId, LedgerEntry, LedgerKey, key_of, sponsor_of, with_sponsor}
+use prelude.{multiplicity, owner_of, is_there, is_key, for_account, signer_sponsors_in, for_each, Kind, Sponsoring}
+use prelude.{Sponsored, View, stated, weight, Owed, nothing_owed, in_aggregate, plus, less, add_zero, zero_add}
 use Rattle.hash_ids.specs.ledger_types.declared.key.LedgerKey.TheVariants as key
-use Rattle.hash_ids.specs.ledger_types.Keys.{key_of}
-use Rattle.sponsor_laws.specs.entry_slots.EntrySponsor.{sponsor_of, with_sponsor}
 use Rattle.sponsor_laws.proofs.entry_slots_proofs.RecordedSponsor.{recorded_sponsor}
-use Rattle.sponsor_laws.specs.sponsor_rules.Charge.{multiplicity, owner_of}
-use Rattle.sponsor_laws.specs.Sums.{is_there}
-use Rattle.legal_rules.specs.EntryKeys.{is_key, for_account}
-use Rattle.legal_rules.specs.Reserves.{signer_sponsors_in, for_each}
-use Rattle.legal_rules.specs.Books.{Kind, Sponsoring, Sponsored, View, stated}
-use Rattle.legal_rules.specs.Owing.{weight, Owed, nothing_owed, in_book, plus, less}
-use Rattle.legal_rules.proofs.Numbers.{plus_nothing, nothing_plus}
 
--- ---- what books owe for what is paid
+-- ---- what aggregates owe for what is paid
 
 -- for n reserves of an owner, if somebody pays them
-abbrev pub paid_books : ℕ → (owner payer : Option AccountId) → Owed
-paid_books n owner None kind k = pos 0
-paid_books n owner (Some x) Sponsored k = for_account k owner n
-paid_books n owner (Some x) Sponsoring k = for_account k (Some x) n
-paid_books n owner (Some x) kind k = pos 0
+abbrev pub paid_aggregates : ℕ → (owner payer : Option AccountId) → Owed
+paid_aggregates n owner None kind k = pos 0
+paid_aggregates n owner (Some x) Sponsored k = for_account k owner n
+paid_aggregates n owner (Some x) Sponsoring k = for_account k (Some x) n
+paid_aggregates n owner (Some x) kind k = pos 0
 
 -- of that the owner's part
-abbrev pub owner_books : ℕ → AccountId → Option AccountId → Owed
-owner_books n id None = nothing_owed
-owner_books n id (Some x) = in_book Sponsored (key.Account id) (pos n)
+abbrev pub owner_aggregates : ℕ → AccountId → Option AccountId → Owed
+owner_aggregates n id None = nothing_owed
+owner_aggregates n id (Some x) = in_aggregate Sponsored (key.Account id) (pos n)
 
 -- and the payer's
-abbrev pub payer_books : ℕ → Option AccountId → Owed
-payer_books n None = nothing_owed
-payer_books n (Some x) = in_book Sponsoring (key.Account x) (pos n)
+abbrev pub payer_aggregates : ℕ → Option AccountId → Owed
+payer_aggregates n None = nothing_owed
+payer_aggregates n (Some x) = in_aggregate Sponsoring (key.Account x) (pos n)
 
-pub split_books : (n : ℕ) (id : AccountId) (o : Option AccountId) (kind : Kind) (k : LedgerKey)
-    → paid_books n (Some id) o kind k ≡ plus (owner_books n id o) (payer_books n o) kind k
-split_books n id None kind k = refl
-split_books n id (Some x) Sponsored k = sym (plus_nothing _)
-split_books n id (Some x) Sponsoring k = nothing_plus _
-split_books n id (Some x) kind k = refl
+pub split_aggregates : (n : ℕ) (id : AccountId) (o : Option AccountId) (kind : Kind) (k : LedgerKey)
+    → paid_aggregates n (Some id) o kind k ≡ plus (owner_aggregates n id o) (payer_aggregates n o) kind k
+split_aggregates n id None kind k = refl
+split_aggregates n id (Some x) Sponsored k = sym (add_zero _)
+split_aggregates n id (Some x) Sponsoring k = sym (zero_add _)
+split_aggregates n id (Some x) kind k = refl
 
-pub unowned_books : (n : ℕ) (o : Option AccountId) (kind : Kind) (k : LedgerKey)
-    → paid_books n None o kind k ≡ payer_books n o kind k
-unowned_books n None kind k = refl
-unowned_books n (Some x) Sponsored k = refl
-unowned_books n (Some x) Sponsoring k = refl
-unowned_books n (Some x) kind k = refl
+pub unowned_aggregates : (n : ℕ) (o : Option AccountId) (kind : Kind) (k : LedgerKey)
+    → paid_aggregates n None o kind k ≡ payer_aggregates n o kind k
+unowned_aggregates n None kind k = refl
+unowned_aggregates n (Some x) Sponsored k = refl
+unowned_aggregates n (Some x) Sponsoring k = refl
+unowned_aggregates n (Some x) kind k = refl
 
 -- ---- an entry and its sponsor
 
@@ -79,16 +68,16 @@ module _ (v : View) (e : LedgerEntry) where
 
   abbrev IsWeighed : Option AccountId → Kind → LedgerKey → Type 0
   IsWeighed o kind k = weight v kind k e
-      ≡ (weight v kind k (unsponsored e) +ℤ paid_books (multiplicity e.body) (owner_of e.body) o kind k)
+      ≡ (weight v kind k (unsponsored e) +ℤ paid_aggregates (multiplicity e.body) (owner_of e.body) o kind k)
 
   by_sponsor : (o : Option AccountId) → sponsor_of e ≡ o → (kind : Kind) (k : LedgerKey) → IsWeighed o kind k
   by_sponsor None is Sponsored k =
       (λ i. for_account k (owner_of e.body) ((if is_there (is i) then multiplicity e.body else 0) + signed)
-      -ℤ states Sponsored k) ∙ sym (plus_nothing _)
+      -ℤ states Sponsored k) ∙ sym (add_zero _)
   by_sponsor None is Sponsoring k =
       (λ i. (for_account k (is i) (multiplicity e.body) +ℤ for_each k (signer_sponsors_in e.body))
-      -ℤ states Sponsoring k) ∙ sym (plus_nothing _)
-  by_sponsor None is kind k = sym (plus_nothing _)
+      -ℤ states Sponsoring k) ∙ sym (add_zero _)
+  by_sponsor None is kind k = sym (add_zero _)
   by_sponsor (Some x) is Sponsored k =
       (λ i. for_account k (owner_of e.body) ((if is_there (is i) then multiplicity e.body else 0) + signed)
       -ℤ states Sponsored k) ∙ more_for k (owner_of e.body) (multiplicity e.body) signed (states Sponsored k)
@@ -96,7 +85,7 @@ module _ (v : View) (e : LedgerEntry) where
       (λ i. (for_account k (is i) (multiplicity e.body) +ℤ for_each k (signer_sponsors_in e.body))
       -ℤ states Sponsoring k) ∙ more_by (for_account k (Some x) (multiplicity e.body))
       (for_each k (signer_sponsors_in e.body)) (states Sponsoring k)
-  by_sponsor (Some x) is kind k = sym (plus_nothing _)
+  by_sponsor (Some x) is kind k = sym (add_zero _)
 
   pub sponsor_weighs : (kind : Kind) (k : LedgerKey) → IsWeighed (sponsor_of e) kind k
   sponsor_weighs kind k = by_sponsor (sponsor_of e) refl kind k
@@ -111,11 +100,11 @@ changed w u new p q is now = omega (arith, ints)
 
 pub recorded_weighs : (v : View) (e : LedgerEntry) (t : Option AccountId) (kind : Kind) (k : LedgerKey)
     → weight v kind k (with_sponsor t e) ≡ (weight v kind k e
-    +ℤ plus (paid_books (multiplicity e.body) (owner_of e.body) t)
-    (less (paid_books (multiplicity e.body) (owner_of e.body) (sponsor_of e))) kind k)
+    +ℤ plus (paid_aggregates (multiplicity e.body) (owner_of e.body) t)
+    (less (paid_aggregates (multiplicity e.body) (owner_of e.body) (sponsor_of e))) kind k)
 recorded_weighs v e t kind k = changed (weight v kind k e) (weight v kind k (unsponsored e)) _
-    (paid_books (multiplicity e.body) (owner_of e.body) (sponsor_of e) kind k)
-    (paid_books (multiplicity e.body) (owner_of e.body) t kind k)
+    (paid_aggregates (multiplicity e.body) (owner_of e.body) (sponsor_of e) kind k)
+    (paid_aggregates (multiplicity e.body) (owner_of e.body) t kind k)
     (sponsor_weighs v e kind k)
     (sponsor_weighs v (with_sponsor t e) kind k ∙ ap (λ o. weight v kind k (unsponsored e)
-    +ℤ paid_books (multiplicity e.body) (owner_of e.body) o kind k) (recorded t e))
+    +ℤ paid_aggregates (multiplicity e.body) (owner_of e.body) o kind k) (recorded t e))

@@ -1,41 +1,20 @@
 -- A state within a transaction after one entry is changed in its place.
-use Rattle.std.proofs.Common.{◌≡◌, refl, sym, ap, subst, ◌∙◌, true, false, cond, Option, Some, None, arith}
-use Rattle.std.proofs.lemmas.Int.{ints}
-use Rattle.std.specs.Prelude.{ℤ, ◌+ℤ◌, ◌-ℤ◌}
-use Rattle.std.specs.FinMap.{get}
-use Rattle.hash_ids.specs.ledger_types.declared.ids.AccountId.{AccountId}
-use Rattle.hash_ids.specs.ledger_types.declared.ids.Hash.{Hash}
-use Rattle.hash_ids.specs.ledger_types.declared.account.AccountEntry.{AccountEntry}
-use Rattle.hash_ids.specs.ledger_types.declared.entry.LedgerEntry.{LedgerEntry}
-use Rattle.hash_ids.specs.ledger_types.declared.entry.LedgerEntryBody.{LedgerEntryBody}
+use Rattle.legal_rules.proofs.Prelude as prelude
+use prelude.{◌≡◌, refl, sym, ap, subst, ◌∙◌, true, false, cond, Option, Some, None, arith, ints, ℤ, ◌+ℤ◌, ◌-ℤ◌, get}
+use prelude.{AccountId, Hash, AccountEntry, LedgerEntry, LedgerKey, key_of, key_of_body, EntryMap, put, account_of}
+use prelude.{account_at, with_account, with_account_in, with_account_of, Weight, part, EachEntry, put_each, total_put}
+use prelude.{is_key, Kind, View, held, lumens_of, offer_with, params_in, params_of, pools_in, weight, Owed}
+use prelude.{nothing_owed, plus, IsLegalWith, put_get, add_zero, changes_add, same_keys}
 use Rattle.hash_ids.specs.ledger_types.declared.entry.LedgerEntryBody.TheVariants as body
-use Rattle.hash_ids.specs.ledger_types.declared.key.LedgerKey.{LedgerKey}
 use Rattle.hash_ids.specs.ledger_types.declared.key.LedgerKey.TheVariants as key
-use Rattle.hash_ids.specs.ledger_types.Keys.{key_of, key_of_body}
-use Rattle.entry_sums.specs.entry_map.EntryMap.{EntryMap, put}
-use Rattle.entry_sums.proofs.entry_map_proofs.KeyMaps.{same_keys}
-use Rattle.sponsor_laws.specs.entry_slots.Accounts.{account_in, account_of, account_at, with_account, with_account_in}
-use Rattle.sponsor_laws.specs.entry_slots.Accounts.{with_account_of}
-use Rattle.entry_sums.specs.Sums.{Weight, part, EachEntry}
-use Rattle.entry_sums.proofs.Lookups.{put_each, put_get}
-use Rattle.entry_sums.proofs.Summing.{total_put}
-use Rattle.legal_rules.specs.EntryKeys.{is_key}
-use Rattle.legal_rules.specs.Books.{Kind, View}
-use Rattle.legal_rules.specs.Supply.{held, lumens_of}
-use Rattle.legal_rules.specs.OfferIds.{offer_with}
-use Rattle.legal_rules.specs.Legal.{params_in, params_of, pools_in}
-use Rattle.legal_rules.specs.Owing.{weight, Owed, nothing_owed, plus, IsLegalWith}
-use Rattle.legal_rules.proofs.Numbers.{moved_by, no_more_than, difference, plus_nothing}
+use Rattle.legal_rules.proofs.Numbers.{moved_by, no_more_than, difference}
+use Rattle.sponsor_laws.proofs.Even.{account_body}
 
 -- ---- the entry of an account
 
 pub record IsAccountEntry (m : EntryMap) (id : AccountId) (a : AccountEntry) (e : LedgerEntry) : Type 0 where
   pub there : get m (key.Account id) ≡ Some e
   pub is : e.body ≡ body.Account a
-
-account_body : (b : LedgerEntryBody) (a : AccountEntry) → account_in b ≡ Some a → b ≡ body.Account a
-account_body (body.Account x) a h = let same : x ≡ a = cc in ap body.Account same
-account_body other a h = absurd (cc)
 
 entry_of : (o : Option LedgerEntry) (a : AccountEntry) → account_of o ≡ Some a
     → (e : LedgerEntry) × (o ≡ Some e) × (e.body ≡ body.Account a)
@@ -48,10 +27,10 @@ unfolding account_at
 account_entry m id a h = let found = entry_of (get m (key.Account id)) a h in
     (found.0, record { there = found.1; is = found.2 })
 
-pub account_stands : (m : EntryMap) (id : AccountId) (a : AccountEntry) (e : LedgerEntry) → IsAccountEntry m id a e
+pub account_exists : (m : EntryMap) (id : AccountId) (a : AccountEntry) (e : LedgerEntry) → IsAccountEntry m id a e
     → account_at m id ≡ Some a
 unfolding account_at
-account_stands m id a e here = ap account_of here.there ∙ ap (λ b. account_of (Some (record e { body = b }))) here.is
+account_exists m id a e here = ap account_of here.there ∙ ap (λ b. account_of (Some (record e { body = b }))) here.is
 
 abbrev pub with_body : LedgerEntry → AccountEntry → LedgerEntry
 with_body e b = record e { body = body.Account b }
@@ -63,12 +42,12 @@ with_account_is m id f a e here = ap (with_account_of m f) here.there ∙ ap (wi
 
 -- ---- an entry in place of another one
 
--- an entry that stands in another's place, with which books owe so much more
+-- an entry that is in another's place, with which aggregates owe so much more
 pub record IsReplaced (v : View) (more : Owed) (e e' : LedgerEntry) : Type 0 where
   pub own : key_of e' ≡ key_of e
   pub params : params_in e'.body ≡ params_in e.body
   pub offers : (id : ℤ) → offer_with id e' ≡ offer_with id e
-  pub books : (kind : Kind) (k : LedgerKey) → weight v kind k e' ≡ (weight v kind k e +ℤ more kind k)
+  pub aggregates : (kind : Kind) (k : LedgerKey) → weight v kind k e' ≡ (weight v kind k e +ℤ more kind k)
 
 module _ (v : View) (P : LedgerEntry → Type 0) (owed more : Owed) (sum : ℤ) (m : EntryMap) (k : LedgerKey)
     (e e' : LedgerEntry) (there : get m k ≡ Some e) (legal : IsLegalWith v P owed sum m)
@@ -95,10 +74,10 @@ module _ (v : View) (P : LedgerEntry → Type 0) (owed more : Owed) (sum : ℤ) 
     entries = put_each (λ q x. P x) m e' legal.entries holds;
     offers = λ id. no_more_than _ _ _ _ (total_put (offer_with id) m e')
         (move.offers id ∙ sym (old_part (offer_with id))) (legal.offers id);
-    books = λ kind q.
+    aggregates = λ kind q.
         moved_by _ _ _ _ (more kind q) (total_put (weight v kind q) m e')
-        (move.books kind q ∙ ap (λ w. w +ℤ more kind q) (sym (old_part (weight v kind q))))
-        ∙ ap (λ n. n +ℤ more kind q) (legal.books kind q);
+        (move.aggregates kind q ∙ ap (λ w. w +ℤ more kind q) (sym (old_part (weight v kind q))))
+        ∙ ap (λ n. n +ℤ more kind q) (legal.aggregates kind q);
     supply =
         moved_by _ _ _ _ (held v.asset e' -ℤ held v.asset e) (total_put (held v.asset) m e')
         (difference (held v.asset e) (held v.asset e')
@@ -106,7 +85,7 @@ module _ (v : View) (P : LedgerEntry → Type 0) (owed more : Owed) (sum : ℤ) 
         ∙ ap (λ n. n +ℤ (held v.asset e' -ℤ held v.asset e)) legal.supply;
   }
 
--- the same with other words for what books owe and for the supply
+-- the same with other words for what aggregates owe and for the supply
 pub legal_as : (v : View) (P : LedgerEntry → Type 0) (owed other : Owed) (sum new : ℤ) (m : EntryMap)
     → IsLegalWith v P owed sum m → ((kind : Kind) (k : LedgerKey) → owed kind k ≡ other kind k) → sum ≡ new
     → IsLegalWith v P other new m
@@ -115,16 +94,16 @@ legal_as v P owed other sum new m legal same sums = record {
   keyed = legal.keyed;
   entries = legal.entries;
   offers = legal.offers;
-  books = λ kind k. legal.books kind k ∙ same kind k;
+  aggregates = λ kind k. legal.aggregates kind k ∙ same kind k;
   supply = legal.supply ∙ sums;
 }
 
 -- ---- a change of an account
 
--- an account that stands in another's place
+-- an account that is in another's place
 pub record IsMove (more : Owed) (a b : AccountEntry) : Type 0 where
   pub id : b.account_id ≡ a.account_id
-  pub books : (v : View) (kind : Kind) (k : LedgerKey) (e : LedgerEntry)
+  pub aggregates : (v : View) (kind : Kind) (k : LedgerKey) (e : LedgerEntry)
       → weight v kind k (with_body e b) ≡ (weight v kind k (with_body e a) +ℤ more kind k)
 
 -- P holds of an account's entry with b in place of a
@@ -133,8 +112,8 @@ KeepsRange P a b = (e : LedgerEntry) → P (with_body e a) → P (with_body e b)
 
 pub same_id_at : (m : EntryMap) (id : AccountId) (a : AccountEntry) → EachEntry (λ k e. key_of e ≡ k) m
     → account_at m id ≡ Some a → a.account_id ≡ id
-same_id_at m id a keyed stands =
-    let found = account_entry m id a stands in
+same_id_at m id a keyed exists =
+    let found = account_entry m id a exists in
     let same : key.Account a.account_id ≡ key.Account id = sym (ap key_of_body found.1.is)
     ∙ keyed (key.Account id) found.0 found.1.there in
     cc
@@ -143,14 +122,14 @@ pub body_there : (m : EntryMap) (id : AccountId) (a : AccountEntry) (e : LedgerE
     → get m (key.Account id) ≡ Some (with_body e a)
 body_there m id a e here = here.there ∙ ap Some (λ i. record e { body = here.is i })
 
--- An account that stands is changed.
+-- An account that exists is changed.
 pub with_account_legal : (v : View) (P : LedgerEntry → Type 0) (owed more : Owed) (sum : ℤ) (m : EntryMap)
     (id : AccountId) (f : AccountEntry → AccountEntry) (a : AccountEntry) → IsLegalWith v P owed sum m
     → account_at m id ≡ Some a → IsMove more a (f a) → KeepsRange P a (f a)
     → IsLegalWith v P (plus owed more) (sum +ℤ (lumens_of v.asset (f a).balance -ℤ lumens_of v.asset a.balance))
     (with_account m id f)
-with_account_legal v P owed more sum m id f a legal stands move keeps =
-    let found = account_entry m id a stands in
+with_account_legal v P owed more sum m id f a legal exists move keeps =
+    let found = account_entry m id a exists in
     let there = body_there m id a found.0 found.1 in
     subst (IsLegalWith v P (plus owed more) (sum +ℤ (lumens_of v.asset (f a).balance -ℤ lumens_of v.asset a.balance)))
     (sym (with_account_is m id f a found.0 found.1))
@@ -159,7 +138,7 @@ with_account_legal v P owed more sum m id f a legal stands move keeps =
       own = ap key.Account move.id;
       params = refl;
       offers = λ n. refl;
-      books = λ kind k. move.books v kind k found.0;
+      aggregates = λ kind k. move.aggregates v kind k found.0;
     }) (keeps found.0 (legal.entries _ _ there)))
 
 -- ---- a step: a change of an account that leaves its balance
@@ -171,21 +150,18 @@ pub record IsStep (P : LedgerEntry → Type 0) (more : Owed) (a b : AccountEntry
 
 pub no_step : (P : LedgerEntry → Type 0) (a : AccountEntry) → IsStep P nothing_owed a a
 no_step P a = record {
-  move = record { id = refl; books = λ v kind k e. sym (plus_nothing _) };
+  move = record { id = refl; aggregates = λ v kind k e. sym (add_zero _) };
   balance = refl;
   keeps = λ e was. was;
 }
-
-twice : (w0 w1 w2 x y : ℤ) → w1 ≡ (w0 +ℤ x) → w2 ≡ (w1 +ℤ y) → w2 ≡ (w0 +ℤ (x +ℤ y))
-twice w0 w1 w2 x y first second = omega (arith, ints)
 
 pub steps : (P : LedgerEntry → Type 0) (more then : Owed) (a b c : AccountEntry) → IsStep P more a b
     → IsStep P then b c → IsStep P (plus more then) a c
 steps P more then a b c first second = record {
   move = record {
     id = second.move.id ∙ first.move.id;
-    books = λ v kind k e. twice _ _ _ (more kind k) (then kind k) (first.move.books v kind k e)
-        (second.move.books v kind k e);
+    aggregates = λ v kind k e. changes_add _ _ _ (more kind k) (then kind k) (first.move.aggregates v kind k e)
+        (second.move.aggregates v kind k e);
   };
   balance = second.balance ∙ first.balance;
   keeps = λ e was. second.keeps e (first.keeps e was);
@@ -196,7 +172,7 @@ pub step_as : (P : LedgerEntry → Type 0) (more other : Owed) (a b : AccountEnt
 step_as P more other a b step same = record {
   move = record {
     id = step.move.id;
-    books = λ v kind k e. step.move.books v kind k e ∙ ap (λ n. weight v kind k (with_body e a) +ℤ n) (same kind k);
+    aggregates = λ v kind k e. step.move.aggregates v kind k e ∙ ap (λ n. weight v kind k (with_body e a) +ℤ n) (same kind k);
   };
   balance = step.balance;
   keeps = step.keeps;
@@ -208,7 +184,7 @@ kept_sum sum new old same = omega (arith, ints)
 pub stepped : (v : View) (P : LedgerEntry → Type 0) (owed more : Owed) (sum : ℤ) (m : EntryMap) (id : AccountId)
     (f : AccountEntry → AccountEntry) (a : AccountEntry) → IsLegalWith v P owed sum m → account_at m id ≡ Some a
     → IsStep P more a (f a) → IsLegalWith v P (plus owed more) sum (with_account m id f)
-stepped v P owed more sum m id f a legal stands step =
+stepped v P owed more sum m id f a legal exists step =
     legal_as v P (plus owed more) (plus owed more) _ sum (with_account m id f)
-    (with_account_legal v P owed more sum m id f a legal stands step.move step.keeps) (λ kind k. refl)
+    (with_account_legal v P owed more sum m id f a legal exists step.move step.keeps) (λ kind k. refl)
     (kept_sum sum (lumens_of v.asset (f a).balance) (lumens_of v.asset a.balance) (ap (lumens_of v.asset) step.balance))

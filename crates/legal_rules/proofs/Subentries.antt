@@ -1,36 +1,19 @@
 -- Lines, offers and data: what they count for their owners and payers.
-use Rattle.std.proofs.Common.{◌≡◌, ◌≢◌, refl, sym, ap, subst, ◌∙◌, ℕ, ◌+◌, ◌≤◌, Bool, true, false, [], Option, Some}
-use Rattle.std.proofs.Common.{None, arith}
-use Rattle.std.proofs.lemmas.Int.{ints}
-use Rattle.std.specs.Prelude.{ℤ, pos, neg_ℤ, ◌+ℤ◌, ◌-ℤ◌, if◌then◌else◌}
-use Rattle.std.specs.List.{count_by}
-use Rattle.hash_ids.specs.ledger_types.declared.ids.AccountId.{AccountId}
-use Rattle.hash_ids.specs.ledger_types.declared.trust_line.TrustLineEntry.{TrustLineEntry}
-use Rattle.hash_ids.specs.ledger_types.declared.offer.OfferEntry.{OfferEntry}
-use Rattle.hash_ids.specs.ledger_types.declared.data_entry.DataEntry.{DataEntry}
-use Rattle.hash_ids.specs.ledger_types.declared.entry.LedgerEntry.{LedgerEntry}
-use Rattle.hash_ids.specs.ledger_types.declared.entry.LedgerEntryBody.{LedgerEntryBody}
+use Rattle.legal_rules.proofs.Prelude as prelude
+use prelude.{◌≡◌, ◌≢◌, refl, sym, ap, subst, ◌∙◌, ℕ, ◌+◌, ◌≤◌, Bool, true, false, [], Option, Some, None, arith, ints}
+use prelude.{ℤ, pos, neg_ℤ, ◌+ℤ◌, if◌then◌else◌, count_by, AccountId, TrustLineEntry, OfferEntry, DataEntry}
+use prelude.{LedgerEntry, LedgerEntryBody, LedgerKey, key_of, key_of_body, sponsor_of, with_sponsor, sponsored_entry}
+use prelude.{line_multiplicity, multiplicity, owner_of, charge_of, Count, is_there, is_key, for_account, subentries_in}
+use prelude.{signer_sponsors_in, for_each, Kind, Subentries, Sponsoring, Sponsored, View, counted, stated}
+use prelude.{IsPaidRightly, weight, weighed, in_aggregate, beside_reserves, IsEntryLegal, add_zero, sub_if_zero}
+use prelude.{zero_add, counts_once}
 use Rattle.hash_ids.specs.ledger_types.declared.entry.LedgerEntryBody.TheVariants as body
-use Rattle.hash_ids.specs.ledger_types.declared.key.LedgerKey.{LedgerKey}
 use Rattle.hash_ids.specs.ledger_types.declared.key.LedgerKey.TheVariants as key
-use Rattle.hash_ids.specs.ledger_types.Keys.{key_of, key_of_body}
-use Rattle.sponsor_laws.specs.entry_slots.EntrySponsor.{sponsor_of, with_sponsor}
-use Rattle.sponsor_laws.specs.sponsor_rules.Adding.{sponsored_entry}
-use Rattle.sponsor_laws.specs.sponsor_rules.Charge.{line_multiplicity, multiplicity, owner_of, charge_of}
 use Rattle.sponsor_laws.specs.sponsor_rules.declared.charge.Charge.TheVariants as charge
-use Rattle.sponsor_laws.specs.sponsor_rules.declared.count.Count.{Count}
 use Rattle.sponsor_laws.specs.sponsor_rules.declared.count.Count.TheVariants as count
-use Rattle.sponsor_laws.specs.Sums.{is_there}
-use Rattle.legal_rules.specs.EntryKeys.{is_key, for_account}
-use Rattle.legal_rules.specs.Reserves.{subentries_in, signer_sponsors_in, for_each}
-use Rattle.legal_rules.specs.Books.{Kind, Subentries, Sponsoring, Sponsored, View, counted, stated}
-use Rattle.legal_rules.specs.Ranges.{IsPaidRightly}
-use Rattle.legal_rules.specs.Owing.{weight, weighed, in_book, beside_reserves, IsEntryLegal}
-use Rattle.legal_rules.proofs.Numbers.{plus_nothing, nothing_plus}
-use Rattle.legal_rules.proofs.Needed.{line_some}
 use Rattle.legal_rules.proofs.Putting.{IsNoPool}
-use Rattle.legal_rules.proofs.Sponsors.{unsponsored, paid_books, sponsor_weighs, recorded, recorded_weighs}
-use Rattle.legal_rules.proofs.Standing.{book_of}
+use Rattle.legal_rules.proofs.Sponsors.{unsponsored, paid_aggregates, sponsor_weighs, recorded, recorded_weighs}
+use Rattle.legal_rules.proofs.Existing.{aggregate_of}
 
 -- ---- what such an entry counts
 
@@ -41,22 +24,22 @@ pub record IsSubentry (b : LedgerEntryBody) (owner : AccountId) (n : ℕ) : Type
   pub counts : subentries_in b ≡ n
   pub times : multiplicity b ≡ n
   pub unsigned : signer_sponsors_in b ≡ []
-  pub states : (which : Count) → stated (book_of which) b ≡ pos 0
+  pub states : (which : Count) → stated (aggregate_of which) b ≡ pos 0
   pub some : 1 ≤ n
   pub no_account : (id : AccountId) → key_of_body b ≢ key.Account id
   pub no_pool : IsNoPool (key_of_body b)
 
-line_states : (t : TrustLineEntry) (which : Count) → stated (book_of which) (body.TrustLine t) ≡ pos 0
+line_states : (t : TrustLineEntry) (which : Count) → stated (aggregate_of which) (body.TrustLine t) ≡ pos 0
 line_states t count.SubEntries = refl
 line_states t count.Sponsoring = refl
 line_states t count.Sponsored = refl
 
-offer_states : (o : OfferEntry) (which : Count) → stated (book_of which) (body.Offer o) ≡ pos 0
+offer_states : (o : OfferEntry) (which : Count) → stated (aggregate_of which) (body.Offer o) ≡ pos 0
 offer_states o count.SubEntries = refl
 offer_states o count.Sponsoring = refl
 offer_states o count.Sponsored = refl
 
-data_states : (d : DataEntry) (which : Count) → stated (book_of which) (body.Data d) ≡ pos 0
+data_states : (d : DataEntry) (which : Count) → stated (aggregate_of which) (body.Data d) ≡ pos 0
 data_states d count.SubEntries = refl
 data_states d count.Sponsoring = refl
 data_states d count.Sponsored = refl
@@ -74,7 +57,7 @@ subentry_of (body.TrustLine t) owner n is =
       times = times;
       unsigned = refl;
       states = line_states t;
-      some = subst (λ x. 1 ≤ x) times (line_some t.asset);
+      some = subst (λ x. 1 ≤ x) times (counts_once t.asset);
       no_account = λ id same. absurd (cc);
       no_pool = λ id same. absurd (cc);
     }
@@ -108,10 +91,6 @@ subentry_of (body.Data d) owner n is =
     }
 subentry_of other owner n is = absurd (cc)
 
-states_nothing : (t : Bool) (x states : ℤ) → states ≡ pos 0 → (x -ℤ (if t then states else pos 0)) ≡ x
-states_nothing true x states none = omega (arith, ints)
-states_nothing false x states none = omega (arith, ints)
-
 nothing_for : (t : Bool) → ◌≡◌ {A = ℤ} (if t then pos (0 + 0) else pos 0) (pos 0)
 nothing_for true = refl
 nothing_for false = refl
@@ -120,32 +99,32 @@ grouped : (w u p s b : ℤ) → w ≡ (u +ℤ p) → u ≡ (s +ℤ b) → w ≡ 
 grouped w u p s b is also = omega (arith, ints)
 
 module _ (v : View) (e : LedgerEntry) (owner : AccountId) (n : ℕ) (s : IsSubentry e.body owner n) where
-  -- without its sponsor it counts as a subentry alone, beside what it counts in no book of reserves
+  -- without its sponsor it counts as a subentry alone, beside what it counts in no aggregate of reserves
   alone : (kind : Kind) (k : LedgerKey) → weight v kind k (unsponsored e)
-      ≡ (in_book Subentries (key.Account owner) (pos n) kind k +ℤ beside_reserves (weighed v e) kind k)
+      ≡ (in_aggregate Subentries (key.Account owner) (pos n) kind k +ℤ beside_reserves (weighed v e) kind k)
   alone Subentries k =
-      states_nothing (is_key (key_of e) k) (counted v Subentries k e) (stated Subentries e.body)
+      sub_if_zero (is_key (key_of e) k) (counted v Subentries k e) (stated Subentries e.body)
       (s.states count.SubEntries)
-      ∙ (λ i. for_account k (s.owns i) (s.counts i)) ∙ sym (plus_nothing _)
+      ∙ (λ i. for_account k (s.owns i) (s.counts i)) ∙ sym (add_zero _)
   alone Sponsored k =
-      states_nothing (is_key (key_of e) k) (counted v Sponsored k (unsponsored e)) (stated Sponsored e.body)
+      sub_if_zero (is_key (key_of e) k) (counted v Sponsored k (unsponsored e)) (stated Sponsored e.body)
       (s.states count.Sponsored)
       ∙ (λ i. for_account k (s.owns i) (0 + count_by is_there (s.unsigned i)))
       ∙ nothing_for (is_key (key.Account owner) k)
   alone Sponsoring k =
-      states_nothing (is_key (key_of e) k) (counted v Sponsoring k (unsponsored e)) (stated Sponsoring e.body)
+      sub_if_zero (is_key (key_of e) k) (counted v Sponsoring k (unsponsored e)) (stated Sponsoring e.body)
       (s.states count.Sponsoring)
       ∙ (λ i. pos 0 +ℤ for_each k (s.unsigned i))
-  alone kind k = nothing_plus _
+  alone kind k = sym (zero_add _)
 
-  -- in all books
+  -- in all aggregates
   pub subentry_weighs : (kind : Kind) (k : LedgerKey) → weight v kind k e
-      ≡ ((in_book Subentries (key.Account owner) (pos n) kind k +ℤ paid_books n (Some owner) (sponsor_of e) kind k)
+      ≡ ((in_aggregate Subentries (key.Account owner) (pos n) kind k +ℤ paid_aggregates n (Some owner) (sponsor_of e) kind k)
       +ℤ beside_reserves (weighed v e) kind k)
-  subentry_weighs kind k = grouped _ (weight v kind k (unsponsored e)) (paid_books n (Some owner) (sponsor_of e) kind k)
-      (in_book Subentries (key.Account owner) (pos n) kind k) (beside_reserves (weighed v e) kind k)
+  subentry_weighs kind k = grouped _ (weight v kind k (unsponsored e)) (paid_aggregates n (Some owner) (sponsor_of e) kind k)
+      (in_aggregate Subentries (key.Account owner) (pos n) kind k) (beside_reserves (weighed v e) kind k)
       (sponsor_weighs v e kind k ∙ (λ i. weight v kind k (unsponsored e)
-      +ℤ paid_books (s.times i) (s.owns i) (sponsor_of e) kind k)) (alone kind k)
+      +ℤ paid_aggregates (s.times i) (s.owns i) (sponsor_of e) kind k)) (alone kind k)
 
 -- ---- an entry whose sponsor is another one
 
@@ -184,9 +163,9 @@ taken_out w x p is = omega (arith, ints)
 -- an entry that gets its first sponsor, if it gets one
 pub sponsored_weighs : (v : View) (e : LedgerEntry) (t : Option AccountId) → sponsor_of e ≡ None
     → (kind : Kind) (k : LedgerKey) → weight v kind k (sponsored_entry t e)
-    ≡ (weight v kind k e +ℤ paid_books (multiplicity e.body) (owner_of e.body) t kind k)
-sponsored_weighs v e None none kind k = sym (plus_nothing _)
+    ≡ (weight v kind k e +ℤ paid_aggregates (multiplicity e.body) (owner_of e.body) t kind k)
+sponsored_weighs v e None none kind k = sym (add_zero _)
 sponsored_weighs v e (Some x) none kind k = taken_out _ (weight v kind k e)
-    (paid_books (multiplicity e.body) (owner_of e.body) (Some x) kind k) (recorded_weighs v e (Some x) kind k
-    ∙ (λ i. weight v kind k e +ℤ (paid_books (multiplicity e.body) (owner_of e.body) (Some x) kind k
-    +ℤ neg_ℤ (paid_books (multiplicity e.body) (owner_of e.body) (none i) kind k))))
+    (paid_aggregates (multiplicity e.body) (owner_of e.body) (Some x) kind k) (recorded_weighs v e (Some x) kind k
+    ∙ (λ i. weight v kind k e +ℤ (paid_aggregates (multiplicity e.body) (owner_of e.body) (Some x) kind k
+    +ℤ neg_ℤ (paid_aggregates (multiplicity e.body) (owner_of e.body) (none i) kind k))))

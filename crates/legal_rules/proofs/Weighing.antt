@@ -1,21 +1,11 @@
--- What is counted in a book is what it owes and what is stated.
-use Rattle.std.proofs.Common.{◌≡◌, ◌≢◌, refl, sym, ap, ◌∙◌, Option, Some, None}
-use Rattle.std.specs.Prelude.{ℤ, pos, ◌+ℤ◌, if◌then◌else◌}
-use Rattle.std.specs.FinMap.{get}
-use Rattle.hash_ids.specs.ledger_types.declared.entry.LedgerEntry.{LedgerEntry}
-use Rattle.hash_ids.specs.ledger_types.declared.key.LedgerKey.{LedgerKey}
-use Rattle.hash_ids.specs.ledger_types.Keys.{key_of}
-use Rattle.entry_sums.specs.entry_map.EntryMap.{EntryMap}
-use Rattle.entry_sums.proofs.entry_map_proofs.KeyMaps.{same_itself}
-use Rattle.entry_sums.specs.Sums.{Weight, total, part, EachEntry}
-use Rattle.entry_sums.proofs.Lookups.{apart_keys}
-use Rattle.entry_sums.proofs.Summing.{total_plus, total_only}
-use Rattle.legal_rules.specs.EntryKeys.{is_key}
-use Rattle.legal_rules.specs.Books.{Kind, View, counted, stated, stated_at}
-use Rattle.legal_rules.specs.Owing.{weight, Owed, IsLegalWith}
+-- What is counted in an aggregate is what it owes and what is stated.
+use Rattle.legal_rules.proofs.Prelude.{◌≡◌, ◌≢◌, refl, sym, ap, ◌∙◌, Option, Some, None, ℤ, pos, ◌+ℤ◌, if◌then◌else◌}
+use Rattle.legal_rules.proofs.Prelude.{get, LedgerEntry, LedgerKey, key_of, EntryMap, same_itself, Weight, total, part}
+use Rattle.legal_rules.proofs.Prelude.{EachEntry, total_plus, total_only, is_key, Kind, View, counted, stated}
+use Rattle.legal_rules.proofs.Prelude.{stated_at, weight, Owed, IsLegalWith, apart_keys}
 use Rattle.legal_rules.proofs.Numbers.{split}
 
--- what an entry states in the book of a key
+-- what an entry states in the aggregate of a key
 abbrev states_for : Kind → LedgerKey → Weight
 states_for kind k e = if is_key (key_of e) k then stated kind e.body else pos 0
 
@@ -45,4 +35,4 @@ total_weight v kind m k keyed =
 pub total_of : (v : View) (P : LedgerEntry → Type 0) (owed : Owed) (sum : ℤ) (m : EntryMap) → IsLegalWith v P owed sum m
     → (kind : Kind) (k : LedgerKey) → total (counted v kind k) m ≡ (owed kind k +ℤ stated_at kind (get m k))
 total_of v P owed sum m legal kind k = total_weight v kind m k legal.keyed
-    ∙ ap (λ n. n +ℤ stated_at kind (get m k)) (legal.books kind k)
+    ∙ ap (λ n. n +ℤ stated_at kind (get m k)) (legal.aggregates kind k)

@@ -26,7 +26,7 @@ bound_account selling buying a = with_account_liabilities (risen selling buying 
 abbrev pub bound_line : (selling buying : ℤ) → TrustLineEntry → TrustLineEntry
 bound_line selling buying t = with_line_liabilities (risen selling buying (line_liabilities t)) t
 
--- the map, in which the liabilities of what stands under the key of an account or a line rise by these
+-- the map, in which the liabilities of what is under the key of an account or a line rise by these
 abbrev pub binding : Option LedgerKey → (selling buying : ℤ) → EntryMap → EntryMap
 binding (Some (key.Account id)) selling buying m = with_account m id (bound_account selling buying)
 binding (Some (key.TrustLine id asset)) selling buying m = with_line m id asset (bound_line selling buying)

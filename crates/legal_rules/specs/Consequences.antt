@@ -1,4 +1,4 @@
--- What a legal state gives of an account that stands.
+-- What a legal state gives of an account that exists.
 use Rattle.std.specs.Prelude.{◌≡◌, ℕ, ◌≤◌, pos, ◌≤ℤ◌, length, Some}
 use Rattle.hash_ids.specs.ledger_types.declared.ids.AccountId.{AccountId}
 use Rattle.hash_ids.specs.ledger_types.declared.account.AccountEntry.{AccountEntry}
@@ -11,7 +11,7 @@ use Rattle.sponsor_laws.specs.sponsor_rules.declared.context.Ctx.{Ctx}
 use Rattle.sponsor_laws.specs.sponsor_rules.Payers.{IsReadyAccount}
 use Rattle.sponsor_laws.specs.Sums.{SponsorsNothing}
 use Rattle.legal_rules.specs.Sponsorships.{AreSponsorshipsSound, IsSponsorReady}
-use Rattle.legal_rules.specs.Books.{Kind}
+use Rattle.legal_rules.specs.Aggregates.{Kind}
 use Rattle.hash_ids.specs.ledger_types.declared.key.LedgerKey.{LedgerKey}
 use Rattle.std.specs.Prelude.{ℤ, ◌-ℤ◌, ◌↔◌}
 use Rattle.legal_rules.specs.Headers.{IsHeaderInRange}
@@ -44,16 +44,16 @@ abbrev pub IdleSponsorsNothing : Type 0
 IdleSponsorsNothing = (h : LedgerHeader) (m : EntryMap) (id : AccountId) (a : AccountEntry) → IsLegal h m
     → account_at m id ≡ Some a → num_sponsoring a ≡ 0 → SponsorsNothing m id
 
--- where open sponsorships are sound, each account's open sponsor stands and is another one
+-- where open sponsorships are sound, each account's open sponsor exists and is another one
 abbrev pub SponsorsReady : Type 0
 SponsorsReady = (ctx : Ctx) (m : EntryMap) (owner : AccountId) → AreSponsorshipsSound ctx m → IsSponsorReady ctx owner m
 
--- a state in which a book owes anything isn't legal
+-- a state in which an aggregate owes anything isn't legal
 abbrev pub LegalOwesNothing : Type 0
 LegalOwesNothing = (h : LedgerHeader) (m : EntryMap) (owed : Owed) (sum : ℤ) → IsLegal h m
     → IsLegalOwing (view m) h.id_pool owed sum m → (kind : Kind) (k : LedgerKey) → owed kind k ≡ pos 0
 
--- The two forms of legality say the same: books that balance, and books that owe nothing.
+-- The two forms of legality say the same: aggregates that balance, and aggregates that owe nothing.
 abbrev pub LegalIsOwingNothing : Type 0
 LegalIsOwingNothing = (h : LedgerHeader) (m : EntryMap) → IsLegal h m
     ↔ (IsHeaderInRange h × IsLegalOwing (view m) h.id_pool nothing_owed (h.total_coins -ℤ h.fee_pool) m)

@@ -22,9 +22,9 @@ use Rattle.sponsor_laws.specs.sponsor_rules.Charge.{charge_of}
 use Rattle.sponsor_laws.specs.sponsor_rules.Moving.{map_after_moving}
 use Rattle.sponsor_laws.specs.sponsor_rules.Payers.{payer_of}
 use Rattle.sponsor_laws.specs.sponsor_rules.Removing.{map_after_removing}
-use Rattle.sponsor_laws.specs.Laws.{PayerStands}
+use Rattle.sponsor_laws.specs.Laws.{PayerExists}
 use Rattle.entry_sums.specs.Sums.{total}
-use Rattle.legal_rules.specs.Books.{Subentries, Sponsoring, Sponsored, View}
+use Rattle.legal_rules.specs.Aggregates.{Subentries, Sponsoring, Sponsored, View}
 use Rattle.hash_ids.specs.ledger_types.declared.claimable_balance.ClaimableBalanceEntry.{ClaimableBalanceEntry}
 use Rattle.legal_rules.specs.Supply.{of_asset, held}
 use Rattle.legal_rules.specs.OfferIds.{offer_with}
@@ -40,7 +40,7 @@ use Rattle.legal_rules.specs.Payments.{with_paid}
 abbrev pub IsIdFree : EntryMap → LedgerEntry → Type 0
 IsIdFree m entry = (id : ℤ) → (total (offer_with id) m +ℤ offer_with id entry) ≤ℤ pos 1
 
--- an entry that nobody pays for yet, under a key where nothing stands
+-- an entry that nobody pays for yet, under a key where nothing is
 pub record IsFresh (m : EntryMap) (entry : LedgerEntry) : Type 0 where
   pub free : get m (key_of entry) ≡ None
   pub unsponsored : sponsor_of entry ≡ None
@@ -81,8 +81,8 @@ AccountAdded =
 
 -- ---- removing
 
--- no book of reserves owes anything: more may be stated there than is counted, as for an entry that is out of the map
--- for a while
+-- no aggregate of reserves owes anything: more may be stated there than is counted, as for an entry that is out of the
+-- map for a while
 pub record AreReservesSettled (owed : Owed) : Type 0 where
   pub subentries : (k : LedgerKey) → owed Subentries k ≤ℤ pos 0
   pub sponsored : (k : LedgerKey) → owed Sponsored k ≤ℤ pos 0
@@ -106,14 +106,14 @@ BalanceRemoved =
 
 -- ---- moving
 
--- Any entry moves to another payer, or to its owner: books and supply stay.
+-- Any entry moves to another payer, or to its owner: aggregates and supply stay.
 abbrev pub EntryMoved : Type 0
 EntryMoved =
     (v : View) (id_pool : ℕ) (owed : Owed) (sum : ℤ) (ctx : Ctx) (k : LedgerKey) (payer : Option AccountId)
-    (old new : EntryMap) → IsLegalOwing v id_pool owed sum old → AreReservesSettled owed → PayerStands payer old
+    (old new : EntryMap) → IsLegalOwing v id_pool owed sum old → AreReservesSettled owed → PayerExists payer old
     → map_after_moving ctx k payer old ≡ Ok new → IsLegalOwing v id_pool owed sum new
 
--- ---- whole changes
+-- ---- complete changes
 
 -- data that nobody pays for yet
 abbrev pub new_data : ℕ → DataEntry → LedgerEntry
@@ -134,7 +134,7 @@ RemovingDataKeeps = (h : LedgerHeader) (id : AccountId) (name : List ℕ) (m : E
 abbrev pub MovingKeeps : Type 0
 MovingKeeps =
     (h : LedgerHeader) (ctx : Ctx) (k : LedgerKey) (payer : Option AccountId) (old new : EntryMap) → IsLegal h old
-    → PayerStands payer old → map_after_moving ctx k payer old ≡ Ok new → IsLegal h new
+    → PayerExists payer old → map_after_moving ctx k payer old ≡ Ok new → IsLegal h new
 
 -- an account without subentries that sponsors nothing is removed, and its lumens go to another one
 abbrev pub MergesKeep : Type 0

@@ -54,6 +54,6 @@ IsCoveredBy base old a =
     (pos 0 ≤ℤ available a base)
     ⊎ ((was : AccountEntry) × (old ≡ Some was) × (available was base ≤ℤ available a base))
 
--- what stands under an account's id after a change
+-- what is under an account's id after a change
 pub record IsAfter (base : ℕ) (old new : Option AccountEntry) : Type 0 where
   pub covered : (a : AccountEntry) → new ≡ Some a → IsCoveredBy base old a

@@ -5,7 +5,7 @@ pub mod Reserves
 pub mod Trades
 pub mod PoolShares
 pub mod Supply
-pub mod Books
+pub mod Aggregates
 pub mod OfferIds
 pub mod Bounds
 pub mod Ranges
@@ -23,7 +23,7 @@ pub mod ChangeLaws
 pub mod PoolLaws
 pub mod Consequences
 pub mod FirstStates
-pub mod WholeStates
+pub mod FullStates
 pub mod ShareLaws
 pub mod Holdings
 pub mod OneMore

@@ -1,4 +1,4 @@
--- Under which keys something has to stand beside an entry.
+-- Under which keys something has to exist beside an entry.
 use Rattle.std.specs.Prelude.{List, [], ◌∷◌, ◌++◌, Option, Some, None}
 use Rattle.std.specs.List.{flat_map}
 use Rattle.hash_ids.specs.ledger_types.declared.ids.AccountId.{AccountId}
@@ -25,7 +25,7 @@ abbrev pub keys_in : Option LedgerKey → List LedgerKey
 keys_in None = []
 keys_in (Some k) = k ∷ []
 
--- the lines that the holder of pool shares needs, where the pool stands
+-- the lines that the holder of pool shares needs, where the pool exists
 abbrev pub share_keys : AccountId → Option PoolParams → List LedgerKey
 share_keys id None = []
 share_keys id (Some params) = keys_in (needed_line id params.asset_a) ++ keys_in (needed_line id params.asset_b)
@@ -41,7 +41,7 @@ holding_keys pools (body.Offer offer) =
     keys_in (holder offer.seller_id offer.selling) ++ keys_in (holder offer.seller_id offer.buying)
 holding_keys pools other = []
 
--- under which keys something has to stand beside an entry: its owner, its sponsor, its signers' sponsors, and what it
+-- under which keys something has to exist beside an entry: its owner, its sponsor, its signers' sponsors, and what it
 -- holds or trades in
 abbrev pub needed_keys : Pools → LedgerEntry → List LedgerKey
 needed_keys pools e =

@@ -15,7 +15,7 @@ use Rattle.sponsor_laws.specs.sponsor_rules.Adding.{map_after_adding}
 use Rattle.legal_rules.specs.OfferLiabilities.{bound_of}
 use Rattle.legal_rules.specs.EntryKeys.{for_key}
 use Rattle.legal_rules.specs.Trades.{holder}
-use Rattle.legal_rules.specs.Books.{Selling, Buying, View}
+use Rattle.legal_rules.specs.Aggregates.{Selling, Buying, View}
 use Rattle.legal_rules.specs.Sponsorships.{IsSponsorReady}
 use Rattle.legal_rules.specs.Ranges.{IsOfferInRange}
 use Rattle.legal_rules.specs.Binding.{acquiring, releasing, CanBindBoth}
@@ -25,29 +25,29 @@ use Rattle.legal_rules.specs.Owing.{Owed, plus, less, IsLegalOwing}
 -- ---- within a transaction
 
 -- what an offer counts beside its reserve
-abbrev pub trade_books : OfferEntry → Owed
-trade_books o Selling k = for_key k (holder o.seller_id o.selling) (pos (bound_of o).wheat)
-trade_books o Buying k = for_key k (holder o.seller_id o.buying) (pos (bound_of o).sheep)
-trade_books o kind k = pos 0
+abbrev pub trade_aggregates : OfferEntry → Owed
+trade_aggregates o Selling k = for_key k (holder o.seller_id o.selling) (pos (bound_of o).wheat)
+trade_aggregates o Buying k = for_key k (holder o.seller_id o.buying) (pos (bound_of o).sheep)
+trade_aggregates o kind k = pos 0
 
 -- Liabilities are acquired: what the offer counts isn't owed any more.
 abbrev pub LiabilitiesAcquired : Type 0
 LiabilitiesAcquired =
     (v : View) (id_pool : ℕ) (owed : Owed) (sum : ℤ) (o : OfferEntry) (m : EntryMap) → IsLegalOwing v id_pool owed sum m
     → CanBindBoth o (pos (bound_of o).wheat) (pos (bound_of o).sheep) m
-    → IsLegalOwing v id_pool (plus owed (less (trade_books o))) sum (acquiring o m)
+    → IsLegalOwing v id_pool (plus owed (less (trade_aggregates o))) sum (acquiring o m)
 
--- no book of liabilities owes anything
+-- no aggregate of liabilities owes anything
 pub record AreTradesSettled (owed : Owed) : Type 0 where
   pub selling : (k : LedgerKey) → owed Selling k ≤ℤ pos 0
   pub buying : (k : LedgerKey) → owed Buying k ≤ℤ pos 0
 
--- The liabilities of an offer that stands can always be released: then what it counts is owed. The offer still stands.
+-- The liabilities of an offer that exists can always be released: then what it counts is owed. The offer still exists.
 abbrev pub LiabilitiesReleased : Type 0
 LiabilitiesReleased =
     (v : View) (id_pool : ℕ) (owed : Owed) (sum : ℤ) (o : OfferEntry) (m : EntryMap) → IsLegalOwing v id_pool owed sum m
     → AreTradesSettled owed → offer_at m o.seller_id o.offer_id ≡ Some o
-    → IsLegalOwing v id_pool (plus owed (trade_books o)) sum (releasing o m)
+    → IsLegalOwing v id_pool (plus owed (trade_aggregates o)) sum (releasing o m)
     × (offer_at (releasing o m) o.seller_id o.offer_id ≡ Some o)
 
 -- An offer is changed: so much more is owed as it counts more.
@@ -56,10 +56,10 @@ OfferChanged =
     (v : View) (id_pool : ℕ) (owed : Owed) (sum : ℤ) (old new : OfferEntry) (m : EntryMap)
     → IsLegalOwing v id_pool owed sum m → offer_at m old.seller_id old.offer_id ≡ Some old
     → new.seller_id ≡ old.seller_id → new.offer_id ≡ old.offer_id → IsOfferInRange id_pool new
-    → IsLegalOwing v id_pool (plus owed (plus (less (trade_books old)) (trade_books new))) sum
+    → IsLegalOwing v id_pool (plus owed (plus (less (trade_aggregates old)) (trade_aggregates new))) sum
     (with_offer m old.seller_id old.offer_id (λ was. new))
 
--- ---- whole changes
+-- ---- complete changes
 
 abbrev pub new_offer : ℕ → OfferEntry → LedgerEntry
 new_offer seq offer = record { last_modified_ledger_seq = seq; body = body.Offer offer; ext = None }

@@ -1,4 +1,4 @@
--- One subentry more that is counted than stands: an offer whose reserve is paid before it is known what rests of it.
+-- One subentry more that is counted than exists: an offer whose reserve is paid before it is known what rests of it.
 use Rattle.std.specs.Prelude.{◌≡◌, ◌≢◌, ℕ, ℤ, pos, neg_ℤ, ◌≤ℤ◌, Option, Some, Ok, if◌then◌else◌}
 use Rattle.std.specs.FinMap.{get}
 use Rattle.hash_ids.specs.ledger_types.declared.ids.AccountId.{AccountId}
@@ -11,22 +11,22 @@ use Rattle.sponsor_laws.specs.sponsor_rules.Adding.{map_after_counting_subentry}
 use Rattle.sponsor_laws.specs.sponsor_rules.Payers.{open_sponsor}
 use Rattle.sponsor_laws.specs.sponsor_rules.Removing.{map_after_discounting}
 use Rattle.sponsor_laws.specs.Sums.{is_there}
-use Rattle.legal_rules.specs.Books.{Subentries, Sponsoring, Sponsored, View}
+use Rattle.legal_rules.specs.Aggregates.{Subentries, Sponsoring, Sponsored, View}
 use Rattle.legal_rules.specs.EntryKeys.{for_account}
 use Rattle.legal_rules.specs.EntryLaws.{AreReservesSettled}
 use Rattle.legal_rules.specs.OfferLaws.{AreTradesSettled}
 use Rattle.legal_rules.specs.Owing.{Owed, nothing_owed, IsLegalOwing}
 use Rattle.legal_rules.specs.Sponsorships.{IsSponsorReady}
 
--- what books owe where one subentry of an account, for which a sponsor may pay, is counted and doesn't stand: more is
--- stated than is counted
+-- what aggregates owe where one subentry of an account, for which a sponsor may pay, is counted and doesn't exist: more
+-- is stated than is counted
 abbrev pub one_more : AccountId → Option AccountId → Owed
 one_more id sponsor Subentries k = neg_ℤ (for_account k (Some id) 1)
 one_more id sponsor Sponsored k = neg_ℤ (for_account k (Some id) (if is_there sponsor then 1 else 0))
 one_more id sponsor Sponsoring k = neg_ℤ (for_account k sponsor 1)
 one_more id sponsor kind k = pos 0
 
--- No book owes anything, and where more subentries are stated than are counted, no more are paid for by others.
+-- No aggregate owes anything, and where more subentries are stated than are counted, no more are paid for by others.
 pub record IsOwedRightly (owed : Owed) : Type 0 where
   pub reserves : AreReservesSettled owed
   pub trades : AreTradesSettled owed
@@ -35,7 +35,7 @@ pub record IsOwedRightly (owed : Owed) : Type 0 where
 abbrev pub OneMoreIsRight : Type 0
 OneMoreIsRight = (id : AccountId) (sponsor : Option AccountId) → IsOwedRightly (one_more id sponsor)
 
--- A subentry is counted that doesn't stand. What stands under other keys than accounts' is as it was.
+-- A subentry is counted that doesn't exist. What is under other keys than accounts' is as it was.
 abbrev pub SubentriesCounted : Type 0
 SubentriesCounted =
     (v : View) (id_pool : ℕ) (sum : ℤ) (ctx : Ctx) (owner : AccountId) (m new : EntryMap)

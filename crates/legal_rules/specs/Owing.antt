@@ -1,4 +1,4 @@
--- A state within a transaction: what books owe, and the supply of one asset at hand.
+-- A state within a transaction: what aggregates owe, and the supply of one asset at hand.
 use Rattle.std.specs.Prelude.{◌≡◌, ℕ, ◌%◌, ℤ, pos, neg_ℤ, ◌+ℤ◌, ◌-ℤ◌, Some, if◌then◌else◌}
 use Rattle.hash_ids.specs.ledger_types.declared.ids.Hash.{Hash}
 use Rattle.hash_ids.specs.ledger_types.declared.asset.Asset.TheVariants as asset
@@ -11,34 +11,34 @@ use Rattle.entry_sums.specs.entry_map.EntryMap.{EntryMap}
 use Rattle.sponsor_laws.specs.entry_slots.LineExtensions.{line_liabilities}
 use Rattle.entry_sums.specs.Sums.{Weight, total, EachEntry}
 use Rattle.legal_rules.specs.EntryKeys.{is_key, for_key}
-use Rattle.legal_rules.specs.Books.{Kind, Subentries, Sponsoring, Sponsored, Selling, Buying, Shares, ShareLines, Uses}
-use Rattle.legal_rules.specs.Books.{View, counted, stated}
+use Rattle.legal_rules.specs.Aggregates.{Kind, Subentries, Sponsoring, Sponsored, Selling, Buying, Shares, ShareLines, Uses}
+use Rattle.legal_rules.specs.Aggregates.{View, counted, stated}
 use Rattle.legal_rules.specs.Supply.{held}
 use Rattle.legal_rules.specs.OfferIds.{AreOffersApart}
 use Rattle.legal_rules.specs.Bounds.{AreSubentriesFew, DoReservesFit, IsFilledOrEmpty}
 use Rattle.legal_rules.specs.Ranges.{IsEntryInRange}
 use Rattle.legal_rules.specs.Legal.{view, pools_in}
 
--- ---- what books owe
+-- ---- what aggregates owe
 
--- what is counted in each book and not stated; below 0 where more is stated than is counted
+-- what is counted in each aggregate and not stated; below 0 where more is stated than is counted
 abbrev pub Owed : Type 0
 Owed = Kind → LedgerKey → ℤ
 
 abbrev pub nothing_owed : Owed
 nothing_owed kind k = pos 0
 
--- n in one book
-abbrev pub in_book : Kind → LedgerKey → ℤ → Owed
-in_book Subentries named n Subentries k = for_key k (Some named) n
-in_book Sponsoring named n Sponsoring k = for_key k (Some named) n
-in_book Sponsored named n Sponsored k = for_key k (Some named) n
-in_book Selling named n Selling k = for_key k (Some named) n
-in_book Buying named n Buying k = for_key k (Some named) n
-in_book Shares named n Shares k = for_key k (Some named) n
-in_book ShareLines named n ShareLines k = for_key k (Some named) n
-in_book Uses named n Uses k = for_key k (Some named) n
-in_book kind named n other k = pos 0
+-- n in one aggregate
+abbrev pub in_aggregate : Kind → LedgerKey → ℤ → Owed
+in_aggregate Subentries named n Subentries k = for_key k (Some named) n
+in_aggregate Sponsoring named n Sponsoring k = for_key k (Some named) n
+in_aggregate Sponsored named n Sponsored k = for_key k (Some named) n
+in_aggregate Selling named n Selling k = for_key k (Some named) n
+in_aggregate Buying named n Buying k = for_key k (Some named) n
+in_aggregate Shares named n Shares k = for_key k (Some named) n
+in_aggregate ShareLines named n ShareLines k = for_key k (Some named) n
+in_aggregate Uses named n Uses k = for_key k (Some named) n
+in_aggregate kind named n other k = pos 0
 
 abbrev pub plus : Owed → Owed → Owed
 plus owed more kind k = owed kind k +ℤ more kind k
@@ -46,7 +46,7 @@ plus owed more kind k = owed kind k +ℤ more kind k
 abbrev pub less : Owed → Owed
 less owed kind k = neg_ℤ (owed kind k)
 
--- what is owed in the books that aren't of reserves
+-- what is owed in the aggregates that aren't of reserves
 abbrev pub beside_reserves : Owed → Owed
 beside_reserves owed Subentries k = pos 0
 beside_reserves owed Sponsoring k = pos 0
@@ -57,7 +57,7 @@ beside_reserves owed kind k = owed kind k
 abbrev pub weight : View → Kind → LedgerKey → Weight
 weight view kind k e = counted view kind k e -ℤ (if is_key (key_of e) k then stated kind e.body else pos 0)
 
--- what books owe once an entry is put
+-- what aggregates owe once an entry is put
 abbrev pub weighed : View → LedgerEntry → Owed
 weighed view e kind k = weight view kind k e
 
@@ -77,17 +77,17 @@ pub record IsEntryLegal (id_pool : ℕ) (e : LedgerEntry) : Type 0 where
   pub fits : DoReservesFit e.body
   pub filled : IsFilledOrEmpty e.body
 
--- Legal, but that P holds of each entry, that books may owe, and that the supply of the asset at hand is this.
+-- Legal, but that P holds of each entry, that aggregates may owe, and that the supply of the asset at hand is this.
 pub record IsLegalWith (view : View) (P : LedgerEntry → Type 0) (owed : Owed) (sum : ℤ) (m : EntryMap)
     : Type 0 where
   pub params : (id : Hash) → pools_in m id ≡ view.pools id
   pub keyed : EachEntry (λ k e. key_of e ≡ k) m
   pub entries : EachEntry (λ k e. P e) m
   pub offers : AreOffersApart m
-  pub books : (kind : Kind) (k : LedgerKey) → total (weight view kind k) m ≡ owed kind k
+  pub aggregates : (kind : Kind) (k : LedgerKey) → total (weight view kind k) m ≡ owed kind k
   pub supply : total (held view.asset) m ≡ sum
 
--- legal, but for what books owe, and with this supply of the asset at hand
+-- legal, but for what aggregates owe, and with this supply of the asset at hand
 abbrev pub IsLegalOwing : View → (id_pool : ℕ) → Owed → (sum : ℤ) → EntryMap → Type 0
 IsLegalOwing view id_pool owed sum m = IsLegalWith view (IsEntryLegal id_pool) owed sum m
 

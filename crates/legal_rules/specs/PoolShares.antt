@@ -14,7 +14,7 @@ use Rattle.hash_ids.specs.ledger_types.declared.key.LedgerKey.TheVariants as key
 use Rattle.legal_rules.specs.EntryKeys.{for_key}
 use Rattle.legal_rules.specs.Trades.{holder}
 
--- the parameters of each pool that stands
+-- the parameters of each pool that exists
 abbrev pub Pools : Type 0
 Pools = Hash → Option PoolParams
 

@@ -76,7 +76,7 @@ IsHeldIn id (line.Alphanum4 code issuer) = (is_valid_code 1 code ≡ true) × (i
 IsHeldIn id (line.Alphanum12 code issuer) = (is_valid_code 5 code ≡ true) × (issuer ≢ id)
 IsHeldIn id (line.PoolShare pool) = Unit {0}
 
--- AUTHORIZED (1) and AUTHORIZED_TO_MAINTAIN_LIABILITIES (2) don't stand together; a line of pool shares has no flag
+-- AUTHORIZED (1) and AUTHORIZED_TO_MAINTAIN_LIABILITIES (2) aren't set together; a line of pool shares has no flag
 abbrev pub AreLineFlags : TrustLineAsset → ℕ → Type 0
 AreLineFlags (line.PoolShare pool) flags = flags ≡ 0
 AreLineFlags other flags = (flags ≤ 7) × (flags % 4 ≢ 3)

@@ -25,7 +25,7 @@ use Rattle.sponsor_laws.specs.sponsor_rules.Adding.{map_after_adding}
 use Rattle.sponsor_laws.specs.sponsor_rules.Removing.{map_after_removing}
 use Rattle.legal_rules.specs.EntryKeys.{for_key}
 use Rattle.legal_rules.specs.PoolShares.{needed_line}
-use Rattle.legal_rules.specs.Books.{Shares, ShareLines, Uses, View}
+use Rattle.legal_rules.specs.Aggregates.{Shares, ShareLines, Uses, View}
 use Rattle.legal_rules.specs.Sponsorships.{IsSponsorReady}
 use Rattle.legal_rules.specs.EntryLaws.{AreReservesSettled}
 use Rattle.legal_rules.specs.Needs.{share_keys}
@@ -49,12 +49,12 @@ share_line seq ext id pool balance limit = record {
 
 -- what such a line counts beside its reserve: its shares and itself for the pool, and one use for each of the lines
 -- that its account needs for the pool's assets
-abbrev pub share_books : AccountId → Hash → PoolParams → (balance : ℤ) → Owed
-share_books id pool params balance Shares k = for_key k (Some (key.LiquidityPool pool)) balance
-share_books id pool params balance ShareLines k = for_key k (Some (key.LiquidityPool pool)) (pos 1)
-share_books id pool params balance Uses k = for_key k (needed_line id params.asset_a) (pos 1) +ℤ
+abbrev pub share_aggregates : AccountId → Hash → PoolParams → (balance : ℤ) → Owed
+share_aggregates id pool params balance Shares k = for_key k (Some (key.LiquidityPool pool)) balance
+share_aggregates id pool params balance ShareLines k = for_key k (Some (key.LiquidityPool pool)) (pos 1)
+share_aggregates id pool params balance Uses k = for_key k (needed_line id params.asset_a) (pos 1) +ℤ
     for_key k (needed_line id params.asset_b) (pos 1)
-share_books id pool params balance kind k = pos 0
+share_aggregates id pool params balance kind k = pos 0
 
 -- ---- within a transaction
 
@@ -65,7 +65,7 @@ ShareLineAdded =
     → v.pools pool ≡ Some params → get old (key.TrustLine id (line.PoolShare pool)) ≡ None → id_pool ≤ next
     → IsEntryLegal next (share_line seq None id pool balance limit) → HasAccount old id → IsSponsorReady ctx id old
     → map_after_adding ctx id (share_line seq None id pool balance limit) old ≡ Ok new
-    → IsLegalOwing v next (plus owed (share_books id pool params balance)) sum new
+    → IsLegalOwing v next (plus owed (share_aggregates id pool params balance)) sum new
 
 abbrev pub ShareLineRemoved : Type 0
 ShareLineRemoved =
@@ -73,10 +73,10 @@ ShareLineRemoved =
     (pool : Hash) (params : PoolParams) (balance limit : ℤ) (m : EntryMap) → IsLegalOwing v id_pool owed sum m
     → AreReservesSettled owed → v.pools pool ≡ Some params
     → get m (key.TrustLine id (line.PoolShare pool)) ≡ Some (share_line seq ext id pool balance limit)
-    → IsLegalOwing v id_pool (plus owed (less (share_books id pool params balance))) sum
+    → IsLegalOwing v id_pool (plus owed (less (share_aggregates id pool params balance))) sum
     (map_after_removing (key.TrustLine id (line.PoolShare pool)) m)
 
--- ---- whole changes
+-- ---- complete changes
 
 -- a line that is used n times more
 abbrev pub with_uses : ℤ → TrustLineEntry → TrustLineEntry
@@ -105,7 +105,7 @@ abbrev pub map_with_share_lines : ℤ → AccountId → Hash → PoolParams → 
 map_with_share_lines n id pool params m =
     map_with_lines n pool (map_with_uses n id params.asset_b (map_with_uses n id params.asset_a m))
 
--- the lines that an account needs for shares of a pool with these parameters stand
+-- the lines that an account needs for shares of a pool with these parameters exist
 abbrev pub HasNeededLines : EntryMap → AccountId → PoolParams → Type 0
 HasNeededLines m id params = All (λ k. get m k ≢ None) (share_keys id (Some params))
 

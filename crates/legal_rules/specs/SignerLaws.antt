@@ -12,8 +12,8 @@ use Rattle.sponsor_laws.specs.entry_slots.Accounts.{account_at}
 use Rattle.sponsor_laws.specs.sponsor_rules.declared.context.Ctx.{Ctx}
 use Rattle.sponsor_laws.specs.sponsor_rules.Signers.{map_after_adding_signer, map_after_removing_signer}
 use Rattle.sponsor_laws.specs.sponsor_rules.Signers.{map_after_moving_signer}
-use Rattle.sponsor_laws.specs.Laws.{PayerStands}
-use Rattle.legal_rules.specs.Books.{View}
+use Rattle.sponsor_laws.specs.Laws.{PayerExists}
+use Rattle.legal_rules.specs.Aggregates.{View}
 use Rattle.legal_rules.specs.EntryLaws.{AreReservesSettled}
 use Rattle.legal_rules.specs.Sponsorships.{IsSponsorReady}
 use Rattle.legal_rules.specs.Legal.{IsLegal}
@@ -45,10 +45,10 @@ abbrev pub SignerMoved : Type 0
 SignerMoved =
     (v : View) (id_pool : ℕ) (owed : Owed) (sum : ℤ) (ctx : Ctx) (id : AccountId) (which : SignerKey)
     (payer : Option AccountId) (old new : EntryMap) → IsLegalOwing v id_pool owed sum old → AreReservesSettled owed
-    → PayerStands payer old → map_after_moving_signer ctx id which payer old ≡ Ok new
+    → PayerExists payer old → map_after_moving_signer ctx id which payer old ≡ Ok new
     → IsLegalOwing v id_pool owed sum new
 
--- ---- whole changes
+-- ---- complete changes
 
 abbrev pub AddingSignersKeep : Type 0
 AddingSignersKeep =
@@ -63,4 +63,4 @@ RemovingSignersKeep = (h : LedgerHeader) (id : AccountId) (which : SignerKey) (m
 abbrev pub MovingSignersKeep : Type 0
 MovingSignersKeep =
     (h : LedgerHeader) (ctx : Ctx) (id : AccountId) (which : SignerKey) (payer : Option AccountId) (old new : EntryMap)
-    → IsLegal h old → PayerStands payer old → map_after_moving_signer ctx id which payer old ≡ Ok new → IsLegal h new
+    → IsLegal h old → PayerExists payer old → map_after_moving_signer ctx id which payer old ≡ Ok new → IsLegal h new

@@ -8,13 +8,13 @@ use Rattle.sponsor_laws.specs.sponsor_rules.declared.context.Ctx.{Ctx}
 use Rattle.sponsor_laws.specs.sponsor_rules.Payers.{open_sponsor}
 
 -- what holds of the sponsorships that are open: no account is sponsored in two of them or by itself, and each sponsor
--- stands
+-- exists
 pub record AreSponsorshipsSound (ctx : Ctx) (m : EntryMap) : Type 0 where
   pub once : AllPairs (λ x y. x.sponsored ≢ y.sponsored) ctx.sponsorships
   pub other : All (λ x. x.sponsor ≢ x.sponsored) ctx.sponsorships
-  pub stand : All (λ x. HasAccount m x.sponsor) ctx.sponsorships
+  pub exist : All (λ x. HasAccount m x.sponsor) ctx.sponsorships
 
--- an account's open sponsor stands, and is another account
+-- an account's open sponsor exists, and is another account
 pub record IsSponsorReady (ctx : Ctx) (owner : AccountId) (m : EntryMap) : Type 0 where
-  pub stands : (sponsor : AccountId) → open_sponsor ctx owner ≡ Some sponsor → HasAccount m sponsor
+  pub exists : (sponsor : AccountId) → open_sponsor ctx owner ≡ Some sponsor → HasAccount m sponsor
   pub other : (sponsor : AccountId) → open_sponsor ctx owner ≡ Some sponsor → sponsor ≢ owner

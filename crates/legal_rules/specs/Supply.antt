@@ -47,6 +47,6 @@ abbrev pub lumens_in : Option AccountEntry → ℤ
 lumens_in None = pos 0
 lumens_in (Some account) = account.balance
 
--- the lumens of an account; one that doesn't stand has none
+-- the lumens of an account; one that doesn't exist has none
 abbrev pub lumens_at : EntryMap → AccountId → ℤ
 lumens_at m id = lumens_in (account_at m id)

@@ -29,17 +29,17 @@ pub fn idle_sponsors_nothing()
     ensures { IdleSponsorsNothing }
 {}
 
-/// Where open sponsorships are sound, the open sponsor of an account stands and is another one.
+/// Where open sponsorships are sound, the open sponsor of an account exists and is another one.
 pub fn sponsors_ready()
     ensures { SponsorsReady }
 {}
 
-/// In a legal state no book owes anything, so that a change that leaves something open leaves no legal state.
+/// In a legal state no aggregate owes anything, so that a change that leaves something open leaves no legal state.
 pub fn legal_owes_nothing()
     ensures { LegalOwesNothing }
 {}
 
-/// A state is legal exactly where its header is in its ranges and its books owe nothing.
+/// A state is legal exactly where its header is in its ranges and its aggregates owe nothing.
 pub fn legal_is_owing_nothing()
     ensures { LegalIsOwingNothing }
 {}

@@ -8,7 +8,7 @@ pub fn liabilities_acquired()
     ensures { LiabilitiesAcquired }
 {}
 
-/// What an offer that stands binds can be released, and is open then.
+/// What an offer that exists binds can be released, and is open then.
 pub fn liabilities_released()
     ensures { LiabilitiesReleased }
 {}

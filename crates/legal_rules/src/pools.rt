@@ -4,7 +4,7 @@ ghost use Rattle.legal_rules.specs.PoolLaws.{NewPoolsKeep, RemovedPoolsKeep};
 ghost use Rattle.legal_rules.specs.ShareLaws.{ShareLineAdded, ShareLineRemoved};
 ghost use Rattle.legal_rules.specs.ShareLaws.{AddingShareLinesKeep, RemovingShareLinesKeep};
 
-/// A pool that is put where none stood, and that nobody has shares of, keeps the state legal.
+/// A pool that is put where none existed, and that nobody has shares of, keeps the state legal.
 pub fn new_pools_keep()
     ensures { NewPoolsKeep }
 {}

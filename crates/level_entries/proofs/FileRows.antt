@@ -1,86 +1,68 @@
 -- The row of what a file says.
-use Rattle.std.proofs.Common.{◌≡◌, ℕ, ◌<◌, ◌≤◌, zero-add, drop, true, false, cond, List, [], ◌∷◌, ◌++◌}
-use Rattle.std.proofs.Common.{Option, Some, None, Ok, map}
-use Rattle.std.proofs.Common.{option_map, refl, sym, ap, subst, ◌∙◌, append_assoc, append-nil, arith, length}
-use Rattle.std.specs.Prelude.{IsSomeAnd}
-use Rattle.std.specs.List.{AllByRecursion, flat_map}
-use Rattle.std.specs.Ordering.{is_lt, eq_by_cmp}
-use Rattle.std.specs.FinMap.{entries, entries_sorted, get-entries}
-use Rattle.std.specs.FinMap.Entries.{find, is_sorted, below_all}
-use Rattle.std.proofs.lemmas.List.{length-append}
-use Rattle.std.proofs.lemmas.List.Elements.{recursion_from_All}
-use Rattle.xdr_core.specs.Place.{Place, start_of}
+use Rattle.level_entries.proofs.Prelude as prelude
+use prelude.{◌≡◌, ℕ, ◌<◌, ◌≤◌, zero-add, drop, true, false, cond, List, [], ◌∷◌, ◌++◌, Option, Some, None, Ok, map}
+use prelude.{option_map, refl, sym, ap, subst, ◌∙◌, append_assoc, append-nil, arith, length, IsSomeAnd, AllByRecursion}
+use prelude.{flat_map, is_lt, eq_by_cmp, entries, entries_sorted, get-entries, find, is_sorted, below_all}
+use prelude.{length-append, recursion_from_All, Position, start_of, bucket_entry, LedgerKey, BucketEntry, key_cmp}
+use prelude.{value_at, both, first, second, Sorted, Above, BucketItem, item_type, Shows, record_of, IsEncodable}
+use prelude.{item_at, TakesItem, after_record, record_is_read, Change, Filled, Init, Live, Dead, Contents, IsUnderKey}
+use prelude.{item_of, items_of, file_of, HasFile, key_in, stated, rows_of, under_if, IsFileRow, drop_at}
 use Rattle.xdr_core.specs.Leaves.{mark}
-use Rattle.xdr_core.proofs.LeafLaws.{drop_front}
-use Rattle.xdr_entries.specs.Keys.{bucket_entry}
-use Rattle.ledger_types.specs.declared.key.LedgerKey.{LedgerKey}
-use Rattle.ledger_types.specs.declared.bucket.BucketEntry.{BucketEntry}
-use Rattle.ledger_types.specs.KeyOrder.{key_cmp}
-use Rattle.entry_table.specs.Rows.{value_at}
-use Rattle.entry_table.proofs.Walks.{both, first, second, Sorted, Above}
-use Rattle.bucket_items.specs.declared.item.BucketItem.{BucketItem}
-use Rattle.bucket_items.specs.Item.{item_type, Shows}
-use Rattle.bucket_items.specs.MarkedItem.{record_of, IsSpellable, item_at, TakesItem}
-use Rattle.bucket_items.proofs.RecordLaws.{behind_record, record_is_read}
-use Rattle.bucket_core.specs.Bucket.{Change, Filled, Init, Live, Dead, Contents, IsUnderKey}
-use Rattle.bucket_core.specs.File.{item_of, items_of, file_of, HasFile}
-use Rattle.bucket_core.specs.Faults.{key_in}
 use Rattle.bucket_core.proofs.Keyed.{each_found}
-use Rattle.level_entries.specs.Rows.{told, rows_of, under_if, IsFileRow}
 
 -- ---- going over a file
 
--- the items that are ahead go on to those of the whole file
+-- the items that are ahead go on to those of the entire file
 pub record GoesOn (file : Contents) (rest : List ℕ) (row : List (LedgerKey × BucketEntry)) : Type 0 where
   pub items : List BucketEntry
-  pub spelled : AllByRecursion IsSpellable items
+  pub encoded : AllByRecursion IsEncodable items
   pub text : rest ≡ flat_map record_of items
   pub left : row ++ rows_of items ≡ rows_of (items_of file)
 
 pub starts : (file : Contents) (rest : List ℕ) → HasFile file → rest ≡ file_of file → GoesOn file rest []
 starts file rest h is = record {
   items = items_of file;
-  spelled = recursion_from_All IsSpellable (items_of file) h.spelled;
+  encoded = recursion_from_All IsEncodable (items_of file) h.encoded;
   text = is;
   left = refl;
 }
 
 -- the next item was shown
-abbrev pub Turn : List BucketEntry → Option BucketItem → Place → Type 0
+abbrev pub Turn : List BucketEntry → Option BucketItem → Position → Type 0
 Turn [] shown new = shown ≡ None
 Turn (item ∷ others) shown new =
     IsSomeAnd shown (λ here. Shows here here.bytes.now item)
-    × (new ≡ behind_record 0 item (flat_map record_of others))
+    × (new ≡ after_record 0 item (flat_map record_of others))
 
-taken : (r : Option BucketItem) (new q : Place) (e : BucketEntry) → TakesItem r new e q
+taken_item_shown : (r : Option BucketItem) (new q : Position) (e : BucketEntry) → TakesItem r new e q
     → IsSomeAnd r (λ here. Shows here here.bytes.now e) × (new ≡ q)
-taken None new q e h = absurd h
-taken (Some item) new q e h = (h.1, h.0)
+taken_item_shown None new q e h = absurd h
+taken_item_shown (Some item) new q e h = (h.1, h.0)
 
-record_at : (text : List ℕ) (x : BucketEntry) (rest : List ℕ) → IsSpellable x → text ≡ record_of x ++ rest
-    → item_at (start_of text) ≡ Ok (x, behind_record 0 x rest)
+record_at : (text : List ℕ) (x : BucketEntry) (rest : List ℕ) → IsEncodable x → text ≡ record_of x ++ rest
+    → item_at (start_of text) ≡ Ok (x, after_record 0 x rest)
 record_at text x rest s is = ap (λ (t : List ℕ). item_at (start_of t)) is ∙ record_is_read 0 x rest s
 
-turn : (items : List BucketEntry) (text : List ℕ) (p new : Place) (r : Option BucketItem)
-    → AllByRecursion IsSpellable items → text ≡ flat_map record_of items → p ≡ start_of text
-    → ((e : BucketEntry) (q : Place) → item_at p ≡ Ok (e, q) → TakesItem r new e q)
+turn : (items : List BucketEntry) (text : List ℕ) (p new : Position) (r : Option BucketItem)
+    → AllByRecursion IsEncodable items → text ≡ flat_map record_of items → p ≡ start_of text
+    → ((e : BucketEntry) (q : Position) → item_at p ≡ Ok (e, q) → TakesItem r new e q)
     → (p.rest ≡ [] → (r ≡ None) × (new ≡ p)) → Turn items r new
-turn [] text p new r s is start item end = (end (ap (λ (q : Place). q.rest) start ∙ is)).0
+turn [] text p new r s is start item end = (end (ap (λ (q : Position). q.rest) start ∙ is)).0
 turn (x ∷ xs) text p new r s is start item end =
     let rest = flat_map record_of xs in
-    let q = behind_record 0 x rest in
-    taken r new q x (item x q (ap item_at start ∙ record_at text x rest s.0 is))
+    let q = after_record 0 x rest in
+    taken_item_shown r new q x (item x q (ap item_at start ∙ record_at text x rest s.0 is))
 
 record_long : (x : BucketEntry) (rest : List ℕ) → length rest < length (record_of x ++ rest)
 unfolding mark
-record_long x rest = omega (arith, length-append (bucket_entry.spell x) rest)
+record_long x rest = omega (arith, length-append (bucket_entry.encoding x) rest)
 
 -- the item in hand is the first one ahead
-pub record Shown (file : Contents) (text : List ℕ) (new : Place) (row : List (LedgerKey × BucketEntry))
+pub record Shown (file : Contents) (text : List ℕ) (new : Position) (row : List (LedgerKey × BucketEntry))
     (item : BucketItem) : Type 0
   where
     pub is : BucketEntry
-    pub after : Place
+    pub after : Position
     pub reads : item_at (start_of text) ≡ Ok (is, after)
     pub type : item_type is ≡ item.mark
     pub within : new.at ≤ length text
@@ -94,52 +76,52 @@ split_rows x xs = elim (key_in x) as (λ o. under_if o x [] ++ rows_of xs ≡ un
   | Some k ↦ refl
 ]
 
-shown_of : (items : List BucketEntry) (file : Contents) (text : List ℕ) (new : Place)
-    (row : List (LedgerKey × BucketEntry)) (item : BucketItem) → AllByRecursion IsSpellable items
+shown_of : (items : List BucketEntry) (file : Contents) (text : List ℕ) (new : Position)
+    (row : List (LedgerKey × BucketEntry)) (item : BucketItem) → AllByRecursion IsEncodable items
     → text ≡ flat_map record_of items → row ++ rows_of items ≡ rows_of (items_of file) → Turn items (Some item) new
     → Shown file text new row item
 shown_of [] file text new row item s is left t = absurd (cc)
 shown_of (x ∷ xs) file text new row item s is left t =
     let rest : List ℕ = flat_map record_of xs in
-    let at : new.at ≡ length (record_of x) = ap (λ (p : Place). p.at) t.1 ∙ zero-add (length (record_of x)) in
-    let behind : drop new.at text ≡ rest = ap (drop new.at) is ∙ drop_front new.at (record_of x) rest (sym at) in
+    let at : new.at ≡ length (record_of x) = ap (λ (p : Position). p.at) t.1 ∙ zero-add (length (record_of x)) in
+    let later : drop new.at text ≡ rest = ap (drop new.at) is ∙ drop_at (record_of x) rest new.at (sym at) in
     let long : length text ≡ length (record_of x ++ rest) = ap length is in
     record {
       is = x;
-      after = behind_record 0 x rest;
+      after = after_record 0 x rest;
       reads = record_at text x rest s.0 is;
       type = sym t.0.mark;
       within = omega (arith, at, long, length-append (record_of x) rest);
-      shorter = omega (arith, ap length behind, long, record_long x rest);
+      shorter = omega (arith, ap length later, long, record_long x rest);
       goes = λ next grown. record {
         items = xs;
-        spelled = s.1;
-        text = behind;
+        encoded = s.1;
+        text = later;
         left = ap (λ r. r ++ rows_of xs) grown ∙ append_assoc row (rows_of (x ∷ [])) (rows_of xs)
             ∙ ap (λ r. row ++ r) (split_rows x xs) ∙ left;
       };
     }
 
-pub shows : (file : Contents) (text : List ℕ) (p new : Place) (row : List (LedgerKey × BucketEntry)) (item : BucketItem)
+pub shows : (file : Contents) (text : List ℕ) (p new : Position) (row : List (LedgerKey × BucketEntry)) (item : BucketItem)
     → GoesOn file text row → p ≡ start_of text
-    → ((e : BucketEntry) (q : Place) → item_at p ≡ Ok (e, q) → TakesItem (Some item) new e q)
+    → ((e : BucketEntry) (q : Position) → item_at p ≡ Ok (e, q) → TakesItem (Some item) new e q)
     → (p.rest ≡ [] → (Some item ≡ None) × (new ≡ p)) → Shown file text new row item
 shows file text p new row item g start one end =
-    shown_of g.items file text new row item g.spelled g.text g.left
-    (turn g.items text p new (Some item) g.spelled g.text start one end)
+    shown_of g.items file text new row item g.encoded g.text g.left
+    (turn g.items text p new (Some item) g.encoded g.text start one end)
 
-ended_of : (items : List BucketEntry) (file : Contents) (row : List (LedgerKey × BucketEntry)) (new : Place)
+ended_of : (items : List BucketEntry) (file : Contents) (row : List (LedgerKey × BucketEntry)) (new : Position)
     → Turn items None new → row ++ rows_of items ≡ rows_of (items_of file) → row ≡ rows_of (items_of file)
 ended_of [] file row new t left = sym (append-nil row) ∙ left
 ended_of (x ∷ xs) file row new t left = absurd t.0
 
-pub ends : (file : Contents) (text : List ℕ) (p new : Place) (row : List (LedgerKey × BucketEntry))
+pub ends : (file : Contents) (text : List ℕ) (p new : Position) (row : List (LedgerKey × BucketEntry))
     (r : Option BucketItem) → GoesOn file text row → p ≡ start_of text
-    → ((e : BucketEntry) (q : Place) → item_at p ≡ Ok (e, q) → TakesItem r new e q)
+    → ((e : BucketEntry) (q : Position) → item_at p ≡ Ok (e, q) → TakesItem r new e q)
     → (p.rest ≡ [] → (r ≡ None) × (new ≡ p)) → r ≡ None → row ≡ rows_of (items_of file)
 ends file text p new row r g start one end none =
     ended_of g.items file row new (subst (λ (o : Option BucketItem). Turn g.items o new) none
-    (turn g.items text p new r g.spelled g.text start one end)) g.left
+    (turn g.items text p new r g.encoded g.text start one end)) g.left
 
 -- ---- what the row says
 
@@ -156,17 +138,17 @@ seen_sorted [] h = tt
 seen_sorted (x ∷ xs) h = both (below_all key_cmp x.0 (seen xs)) (is_sorted key_cmp (seen xs))
     (seen_above x.0 xs (first _ _ h)) (seen_sorted xs (second _ _ h))
 
-told_item : (k : LedgerKey) (c : Change) → told (item_of (k, c)) ≡ c
-told_item k (Init e) = refl
-told_item k (Live e) = refl
-told_item k Dead = refl
+stated_item : (k : LedgerKey) (c : Change) → stated (item_of (k, c)) ≡ c
+stated_item k (Init e) = refl
+stated_item k (Live e) = refl
+stated_item k Dead = refl
 
 find-seen : (k : LedgerKey) (es : List (LedgerKey × Change))
-    → option_map told (value_at k (seen es)) ≡ find key_cmp k es
+    → option_map stated (value_at k (seen es)) ≡ find key_cmp k es
 find-seen k [] = refl
 find-seen k (x ∷ xs) =
-    elim (eq_by_cmp key_cmp k x.0) as (λ b. option_map told (cond b (Some (item_of x)) (value_at k (seen xs)))
-    ≡ cond b (Some x.1) (find key_cmp k xs)) [ true ↦ ap Some (told_item x.0 x.1) | false ↦ find-seen k xs ]
+    elim (eq_by_cmp key_cmp k x.0) as (λ b. option_map stated (cond b (Some (item_of x)) (value_at k (seen xs)))
+    ≡ cond b (Some x.1) (find key_cmp k xs)) [ true ↦ ap Some (stated_item x.0 x.1) | false ↦ find-seen k xs ]
 
 key_of_item : (k : LedgerKey) (c : Change) → IsUnderKey k c → key_in (item_of (k, c)) ≡ Some k
 key_of_item k (Init e) h = ap Some h
@@ -194,7 +176,7 @@ filled_row filled row h is =
     subst (IsFileRow (Some filled)) (sym same) (record {
       rises = seen_sorted es (entries_sorted filled.changes);
       says = λ k. find-seen k es ∙ sym (get-entries filled.changes k);
-      own = λ k item f. own k (told item) (sym (find-seen k es) ∙ ap (option_map told) f);
+      own = λ k item f. own k (stated item) (sym (find-seen k es) ∙ ap (option_map stated) f);
     })
 
 pub file_row_is : (file : Contents) (row : List (LedgerKey × BucketEntry)) → HasFile file

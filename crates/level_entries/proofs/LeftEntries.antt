@@ -1,31 +1,15 @@
 -- The entries that the items of a row leave.
-use Rattle.std.proofs.Common.{◌≡◌, ℕ, ◌+◌, ◌<◌, Bool, true, false, cond, List, [], ◌∷◌, ◌++◌, Option, Some, None, map}
-use Rattle.std.proofs.Common.{option_map, refl, sym, ap, subst, ◌∙◌, All, length, take, get_or}
-use Rattle.std.specs.Prelude.{option_and_then}
-use Rattle.std.specs.declared.cmp.Ordering.{Ordering}
-use Rattle.std.specs.declared.cmp.Ordering.TheVariants.{Less}
-use Rattle.std.specs.List.{AllByRecursion}
-use Rattle.std.specs.Ordering.{is_eq, eq_by_cmp}
-use Rattle.std.specs.Cmp.{tied_itself}
-use Rattle.std.specs.FinMap.{get, from_entries, get-from_entries}
-use Rattle.std.specs.FinMap.Entries.{find}
-use Rattle.std.proofs.lemmas.List.{take_more, map-append}
-use Rattle.std.proofs.lemmas.List.Elements.{All-nil, All-cons}
-use Rattle.ledger_types.specs.declared.key.LedgerKey.{LedgerKey}
+use Rattle.level_entries.proofs.Prelude as prelude
+use prelude.{◌≡◌, ℕ, ◌+◌, ◌<◌, Bool, true, false, cond, List, [], ◌∷◌, ◌++◌, Option, Some, None, map, option_map, refl}
+use prelude.{sym, ap, subst, ◌∙◌, All, length, take, get_or, option_and_then, Ordering, Less, AllByRecursion, is_eq}
+use prelude.{eq_by_cmp, tied_itself, get, from_entries, get-from_entries, find, take_more, map-append, All-nil}
+use prelude.{All-cons, LedgerKey, BucketEntry, key_cmp, key_of, keys_total, value_at, with_key, first, second, less}
+use prelude.{none_found, Sorted, Above, Change, Contents, IsUnderKey, Pair, pair_at, changes_of, files_of, entry_after}
+use prelude.{entry_by, Represent, AreWellMarked, stated, entry_in, prepended_to, entries_in, newest, IsNewestRow}
 use Rattle.ledger_types.specs.declared.entry.LedgerEntry.{LedgerEntry}
-use Rattle.ledger_types.specs.declared.bucket.BucketEntry.{BucketEntry}
 use Rattle.ledger_types.specs.declared.bucket.BucketEntry.TheVariants as bucket
-use Rattle.ledger_types.specs.KeyOrder.{key_cmp}
-use Rattle.ledger_types.specs.Keys.{key_of}
-use Rattle.ledger_types.proofs.KeyOrdering.{keys_total}
 use Rattle.bucket_levels.specs.entry_map.EntryMap.{EntryMap}
 use Rattle.bucket_levels.specs.entry_map.KeyMaps.{AreRising}
-use Rattle.entry_table.specs.Rows.{value_at, with_key}
-use Rattle.entry_table.proofs.Walks.{first, second, less, none_found, Sorted, Above}
-use Rattle.bucket_core.specs.Bucket.{Change, Contents, IsUnderKey}
-use Rattle.bucket_levels.specs.Pairs.{Pair, pair_at}
-use Rattle.bucket_levels.specs.Meaning.{changes_of, files_of, entry_after, entry_by, StandFor, AreWellMarked}
-use Rattle.level_entries.specs.Rows.{told, entry_in, in_front_of, entries_in, newest, IsNewestRow}
 
 -- ---- each under its own key
 
@@ -36,8 +20,8 @@ later x k v xs h f true tied = absurd (cc (f, none_found k x.0 xs tied h))
 later x k v xs h f false tied = f
 
 each_own : (row : List (LedgerKey × BucketEntry)) → Sorted row
-    → ((k : LedgerKey) (v : BucketEntry) → find key_cmp k row ≡ Some v → IsUnderKey k (told v))
-    → AllByRecursion (λ x. IsUnderKey x.0 (told x.1)) row
+    → ((k : LedgerKey) (v : BucketEntry) → find key_cmp k row ≡ Some v → IsUnderKey k (stated v))
+    → AllByRecursion (λ x. IsUnderKey x.0 (stated x.1)) row
 each_own [] s h = tt
 each_own (x ∷ xs) s h = (
   h x.0 x.1 (ap (λ (o : Ordering). cond (is_eq o) (Some x.1) (find key_cmp x.0 xs)) (tied_itself keys_total x.0)),
@@ -45,7 +29,7 @@ each_own (x ∷ xs) s h = (
       (λ k v f. h k v (later x k v xs (first _ _ s) f (eq_by_cmp key_cmp k x.0) refl)),
 )
 
-own_entry : (k : LedgerKey) (item : BucketEntry) (e : LedgerEntry) → IsUnderKey k (told item) → entry_in item ≡ Some e
+own_entry : (k : LedgerKey) (item : BucketEntry) (e : LedgerEntry) → IsUnderKey k (stated item) → entry_in item ≡ Some e
     → key_of e ≡ k
 own_entry k (bucket.Meta version) e h is = absurd (cc)
 own_entry k (bucket.Live f) e h is = let same : f ≡ e = cc in ap key_of (sym same) ∙ h
@@ -55,23 +39,23 @@ own_entry k (bucket.Init f) e h is = let same : f ≡ e = cc in ap key_of (sym s
 -- ---- in order
 
 keys_above : (k : LedgerKey) (row : List (LedgerKey × BucketEntry)) → Above k row
-    → AllByRecursion (λ x. IsUnderKey x.0 (told x.1)) row → All (λ q. key_cmp k q ≡ Less) (map key_of (entries_in row))
+    → AllByRecursion (λ x. IsUnderKey x.0 (stated x.1)) row → All (λ q. key_cmp k q ≡ Less) (map key_of (entries_in row))
 keys_above k [] h own = All-nil (λ q. key_cmp k q ≡ Less)
 keys_above k (x ∷ xs) h own =
     let rest = keys_above k xs (second _ _ h) own.1 in
     elim (entry_in x.1) as (λ o. entry_in x.1 ≡ o
-    → All (λ q. key_cmp k q ≡ Less) (map key_of (in_front_of o (entries_in xs)))) [
+    → All (λ q. key_cmp k q ≡ Less) (map key_of (prepended_to o (entries_in xs)))) [
       | None ↦ λ e. rest
       | Some e ↦ λ is. All-cons (λ q. key_cmp k q ≡ Less) (key_of e) (map key_of (entries_in xs))
           (ap (key_cmp k) (own_entry x.0 x.1 e own.0 is) ∙ less (key_cmp k x.0) (first _ _ h)) rest
     ] refl
 
 rising_from : (row : List (LedgerKey × BucketEntry)) → Sorted row
-    → AllByRecursion (λ x. IsUnderKey x.0 (told x.1)) row → AreRising (map key_of (entries_in row))
+    → AllByRecursion (λ x. IsUnderKey x.0 (stated x.1)) row → AreRising (map key_of (entries_in row))
 rising_from [] s own = tt
 rising_from (x ∷ xs) s own =
     let rest = rising_from xs (second _ _ s) own.1 in
-    elim (entry_in x.1) as (λ o. entry_in x.1 ≡ o → AreRising (map key_of (in_front_of o (entries_in xs)))) [
+    elim (entry_in x.1) as (λ o. entry_in x.1 ≡ o → AreRising (map key_of (prepended_to o (entries_in xs)))) [
       | None ↦ λ e. rest
       | Some e ↦ λ is. (
         subst (λ (k : LedgerKey). All (λ q. key_cmp k q ≡ Less) (map key_of (entries_in xs)))
@@ -86,49 +70,49 @@ entries_rise files row n = rising_from row n.rises (each_own row n.rises n.own)
 
 -- ---- key by key
 
-find_front : (k at : LedgerKey) (item : BucketEntry) (o : Option LedgerEntry) (others : List LedgerEntry)
+find_prefix : (k at : LedgerKey) (item : BucketEntry) (o : Option LedgerEntry) (others : List LedgerEntry)
     (found : Option BucketEntry) (b : Bool) → eq_by_cmp key_cmp k at ≡ b → entry_in item ≡ o
     → ((e : LedgerEntry) → o ≡ Some e → key_of e ≡ at) → (b ≡ true → found ≡ None)
     → find key_cmp k (map with_key others) ≡ option_and_then entry_in found
-    → find key_cmp k (map with_key (in_front_of o others)) ≡ option_and_then entry_in (cond b (Some item) found)
-find_front k at item None others found true tied is own none rest =
+    → find key_cmp k (map with_key (prepended_to o others)) ≡ option_and_then entry_in (cond b (Some item) found)
+find_prefix k at item None others found true tied is own none rest =
     rest ∙ ap (option_and_then entry_in) (none refl) ∙ sym is
-find_front k at item None others found false tied is own none rest = rest
-find_front k at item (Some e) others found true tied is own none rest =
+find_prefix k at item None others found false tied is own none rest = rest
+find_prefix k at item (Some e) others found true tied is own none rest =
     ap (λ (q : LedgerKey). cond (eq_by_cmp key_cmp k q) (Some e) (find key_cmp k (map with_key others))) (own e refl)
     ∙ ap (λ (t : Bool). cond t (Some e) (find key_cmp k (map with_key others))) tied ∙ sym is
-find_front k at item (Some e) others found false tied is own none rest =
+find_prefix k at item (Some e) others found false tied is own none rest =
     ap (λ (q : LedgerKey). cond (eq_by_cmp key_cmp k q) (Some e) (find key_cmp k (map with_key others))) (own e refl)
     ∙ ap (λ (t : Bool). cond t (Some e) (find key_cmp k (map with_key others))) tied ∙ rest
 
 find-entries : (k : LedgerKey) (row : List (LedgerKey × BucketEntry)) → Sorted row
-    → AllByRecursion (λ x. IsUnderKey x.0 (told x.1)) row
+    → AllByRecursion (λ x. IsUnderKey x.0 (stated x.1)) row
     → find key_cmp k (map with_key (entries_in row)) ≡ option_and_then entry_in (value_at k row)
 find-entries k [] s own = refl
 find-entries k (x ∷ xs) s own =
-    find_front k x.0 x.1 (entry_in x.1) (entries_in xs) (value_at k xs) (eq_by_cmp key_cmp k x.0) refl refl
+    find_prefix k x.0 x.1 (entry_in x.1) (entries_in xs) (value_at k xs) (eq_by_cmp key_cmp k x.0) refl refl
     (λ e is. own_entry x.0 x.1 e own.0 is) (λ tied. none_found k x.0 xs tied (first _ _ s))
     (find-entries k xs (second _ _ s) own.1)
 
-after_told : (item : BucketEntry) → entry_after (told item) ≡ entry_in item
-after_told (bucket.Meta version) = refl
-after_told (bucket.Live e) = refl
-after_told (bucket.Dead k) = refl
-after_told (bucket.Init e) = refl
+after_stated : (item : BucketEntry) → entry_after (stated item) ≡ entry_in item
+after_stated (bucket.Meta version) = refl
+after_stated (bucket.Live e) = refl
+after_stated (bucket.Dead k) = refl
+after_stated (bucket.Init e) = refl
 
-by_newest : (xs : List Change) (o : Option BucketEntry) → option_map told o ≡ newest xs
+by_newest : (xs : List Change) (o : Option BucketEntry) → option_map stated o ≡ newest xs
     → option_and_then entry_in o ≡ entry_by xs
 by_newest [] None is = refl
 by_newest [] (Some item) is = absurd (cc)
 by_newest (c ∷ xs) None is = absurd (cc)
 by_newest (c ∷ xs) (Some item) is =
-    let same : told item ≡ c = cc in sym (after_told item) ∙ ap entry_after same
+    let same : stated item ≡ c = cc in sym (after_stated item) ∙ ap entry_after same
 
-pub stands_for : (levels : List Pair) (row : List (LedgerKey × BucketEntry)) (kept : List (LedgerKey × LedgerEntry))
+pub represents : (levels : List Pair) (row : List (LedgerKey × BucketEntry)) (kept : List (LedgerKey × LedgerEntry))
     (table : EntryMap)
     → IsNewestRow (files_of levels) row → kept ≡ map with_key (entries_in row) → table ≡ from_entries kept
-    → (pair_at levels 10).snap ≡ None → AreWellMarked levels × StandFor levels table
-stands_for levels row kept table n is made deepest = (
+    → (pair_at levels 10).snap ≡ None → AreWellMarked levels × Represent levels table
+represents levels row kept table n is made deepest = (
   record { marks = n.marks; deepest = deepest },
   λ k. ap (λ m. get m k) (made ∙ ap (λ (l : List (LedgerKey × LedgerEntry)). from_entries l) is)
       ∙ get-from_entries keys_total (map with_key (entries_in row)) k
@@ -139,18 +123,18 @@ stands_for levels row kept table n is made deepest = (
 -- ---- one more item
 
 entries_more : (xs : List (LedgerKey × BucketEntry)) (x : LedgerKey × BucketEntry)
-    → entries_in (xs ++ x ∷ []) ≡ entries_in xs ++ in_front_of (entry_in x.1) []
+    → entries_in (xs ++ x ∷ []) ≡ entries_in xs ++ prepended_to (entry_in x.1) []
 entries_more [] x = refl
 entries_more (y ∷ ys) x =
-    ap (in_front_of (entry_in y.1)) (entries_more ys x)
-    ∙ elim (entry_in y.1) as (λ o. in_front_of o (entries_in ys ++ in_front_of (entry_in x.1) [])
-    ≡ in_front_of o (entries_in ys) ++ in_front_of (entry_in x.1) []) [ None ↦ refl | Some e ↦ refl ]
+    ap (prepended_to (entry_in y.1)) (entries_more ys x)
+    ∙ elim (entry_in y.1) as (λ o. prepended_to o (entries_in ys ++ prepended_to (entry_in x.1) [])
+    ≡ prepended_to o (entries_in ys) ++ prepended_to (entry_in x.1) []) [ None ↦ refl | Some e ↦ refl ]
 
 pub next_entry : (row : List (LedgerKey × BucketEntry)) (i : ℕ) (x : LedgerKey × BucketEntry) → i < length row
     → x ≡ get_or row i x
     → map with_key (entries_in (take (i + 1) row))
-    ≡ map with_key (entries_in (take i row)) ++ map with_key (in_front_of (entry_in x.1) [])
+    ≡ map with_key (entries_in (take i row)) ++ map with_key (prepended_to (entry_in x.1) [])
 next_entry row i x h is =
     ap (map with_key)
     (ap entries_in (take_more row i x h ∙ ap (λ y. take i row ++ y ∷ []) (sym is)) ∙ entries_more (take i row) x)
-    ∙ map-append with_key (entries_in (take i row)) (in_front_of (entry_in x.1) [])
+    ∙ map-append with_key (entries_in (take i row)) (prepended_to (entry_in x.1) [])

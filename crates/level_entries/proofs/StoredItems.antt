@@ -1,25 +1,17 @@
--- What is told of items where they stand in their files.
-use Rattle.std.proofs.Common.{◌≡◌, List, [], ◌∷◌, ℕ, Option, Some, None, Ok, refl, sym, ap, subst, ◌∙◌, unwrap_or}
-use Rattle.std.specs.Prelude.{IsSomeAnd}
+-- What is said of items where they lie in their files.
+use Rattle.level_entries.proofs.Prelude.{◌≡◌, List, [], ◌∷◌, ℕ, Option, Some, None, Ok, refl, sym, ap, subst, ◌∙◌}
+use Rattle.level_entries.proofs.Prelude.{unwrap_or, IsSomeAnd, Position, Reading, start_of, BucketEntry, LedgerKey}
+use Rattle.level_entries.proofs.Prelude.{BucketItem, item_type, Shows, IsKeyText, item_at, TakesItem, key_in, rows_of}
+use Rattle.level_entries.proofs.Prelude.{under_if, item_or_meta, under_key, stored_in, IsStored}
 use Rattle.xdr_core.specs.declared.fault.XdrFault.{XdrFault}
-use Rattle.xdr_core.specs.Place.{Place, Reading, start_of}
-use Rattle.ledger_types.specs.declared.bucket.BucketEntry.{BucketEntry}
 use Rattle.ledger_types.specs.declared.bucket.BucketEntry.TheVariants as bucket
-use Rattle.ledger_types.specs.declared.key.LedgerKey.{LedgerKey}
 use Rattle.ledger_types.specs.declared.key.LedgerKey.TheVariants as key
-use Rattle.bucket_items.specs.declared.item.BucketItem.{BucketItem}
 use Rattle.bucket_items.specs.declared.item.BucketEntryType.TheVariants as mark
-use Rattle.bucket_items.specs.Item.{item_type, Shows}
-use Rattle.bucket_items.specs.KeyText.{IsKeyText}
-use Rattle.bucket_items.specs.MarkedItem.{item_at, TakesItem}
-use Rattle.bucket_core.specs.Faults.{key_in}
 use Rattle.bucket_core.proofs.Judging.{shown_key, shown_meta}
-use Rattle.level_entries.specs.Rows.{rows_of, under_if}
-use Rattle.level_entries.specs.Stored.{item_or_meta, under_key, stored_in, IsStored}
 
 -- ---- what is stored
 
-stored_as : (text : List ℕ) (item : BucketEntry) (after : Place) (k : LedgerKey)
+stored_as : (text : List ℕ) (item : BucketEntry) (after : Position) (k : LedgerKey)
     → item_at (start_of text) ≡ Ok (item, after) → key_in item ≡ Some k → stored_in text ≡ (k, item)
 unfolding stored_in
 stored_as text item after k reads keyed =
@@ -31,14 +23,14 @@ is_stored text s = stored_as text s.item s.after s.key s.reads s.keyed
 
 -- ---- what is shown
 
-shown_by : (r : Option BucketItem) (new after : Place) (item : BucketEntry) → TakesItem r new item after
+shown_by : (r : Option BucketItem) (new after : Position) (item : BucketEntry) → TakesItem r new item after
     → IsSomeAnd r (λ here. Shows here here.bytes.now item)
 shown_by None new after item h = absurd h
 shown_by (Some here) new after item h = h.1
 
-pub shown_item : (text : List ℕ) (v : LedgerKey × BucketEntry) (p new : Place) (r : Option BucketItem)
+pub shown_item : (text : List ℕ) (v : LedgerKey × BucketEntry) (p new : Position) (r : Option BucketItem)
     → IsStored text → stored_in text ≡ v → p ≡ start_of text
-    → ((e : BucketEntry) (q : Place) → item_at p ≡ Ok (e, q) → TakesItem r new e q)
+    → ((e : BucketEntry) (q : Position) → item_at p ≡ Ok (e, q) → TakesItem r new e q)
     → IsSomeAnd r (λ here. Shows here here.bytes.now v.1)
 shown_item text v p new r s is start takes =
     subst (λ (w : LedgerKey × BucketEntry). IsSomeAnd r (λ here. Shows here here.bytes.now w.1))
@@ -51,12 +43,12 @@ same_key k m e = cc
 pub key_shown : (text : List ℕ) (v : LedgerKey × BucketEntry) (item : BucketItem) → IsStored text → stored_in text ≡ v
     → Shows item item.bytes.now v.1 → IsKeyText item.key.now v.0
 key_shown text v item s is shows =
-    let whole : (s.key, s.item) ≡ v = sym (is_stored text s) ∙ is in
+    let entire : (s.key, s.item) ≡ v = sym (is_stored text s) ∙ is in
     let here : Shows item item.bytes.now s.item =
-    subst (λ (w : LedgerKey × BucketEntry). Shows item item.bytes.now w.1) (sym whole) shows in
+    subst (λ (w : LedgerKey × BucketEntry). Shows item item.bytes.now w.1) (sym entire) shows in
     let found = shown_key item item.bytes.now s.item here
     (λ m. let none = shown_meta item item.bytes.now s.item here m in cc (none, s.keyed)) in
-    subst (λ (w : LedgerKey × BucketEntry). IsKeyText item.key.now w.0) whole
+    subst (λ (w : LedgerKey × BucketEntry). IsKeyText item.key.now w.0) entire
     (subst (λ (k : LedgerKey). IsKeyText item.key.now k) (same_key found.0 s.key (sym found.1 ∙ s.keyed)) found.2)
 
 -- ---- what is put into a row
@@ -67,13 +59,13 @@ keyed_by (bucket.Live e) other = (_, refl)
 keyed_by (bucket.Dead k) other = (k, refl)
 keyed_by (bucket.Init e) other = (_, refl)
 
-pub stored_by : (text : List ℕ) (e : BucketEntry) (q : Place) → item_at (start_of text) ≡ Ok (e, q)
+pub stored_by : (text : List ℕ) (e : BucketEntry) (q : Position) → item_at (start_of text) ≡ Ok (e, q)
     → (item_type e ≡ mark.Meta → ⊥) → IsStored text
 stored_by text e q reads other =
     let k = keyed_by e other in
     record { item = e; after = q; reads = reads; key = k.0; keyed = k.1 }
 
-pub stored_row : (text : List ℕ) (e : BucketEntry) (q : Place) → item_at (start_of text) ≡ Ok (e, q)
+pub stored_row : (text : List ℕ) (e : BucketEntry) (q : Position) → item_at (start_of text) ≡ Ok (e, q)
     → (item_type e ≡ mark.Meta → ⊥) → stored_in text ∷ [] ≡ rows_of (e ∷ [])
 stored_row text e q reads other =
     let k = keyed_by e other in

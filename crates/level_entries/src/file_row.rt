@@ -1,7 +1,7 @@
 //! The items of a file under their keys.
 
 ghost use Rattle.std.specs.Prelude.{◌≡◌, ◌++◌, ◌∷◌, [], IfOk, OnOk, Ok};
-ghost use Rattle.xdr_core.specs.Place.{Place, start_of};
+ghost use Rattle.xdr_core.specs.Position.{Position, start_of};
 ghost use Rattle.ledger_types.specs.declared.bucket.BucketEntry.{BucketEntry as AnItem};
 ghost use Rattle.bucket_items.specs.Item.{item_type};
 ghost use Rattle.bucket_items.specs.MarkedItem.{item_at};
@@ -13,14 +13,14 @@ use bucket_items::{BucketEntryType, next_item};
 use std::alloc::{AllocError, Global};
 use xdr_core::Cursor;
 
-/// Puts the item whose record stands at the front of a text at the end of a row, unless it is META, which has no key.
+/// Puts the item whose record is a text's prefix at the end of a row, unless it is META, which has no key.
 fn push_item<'a>(
     mark: BucketEntryType,
     text: &'a [u8],
     row: &mut Vec<StoredItem<'a>>,
 ) -> Result<(), AllocError>
-    requires { (e : AnItem) × (q : Place) × (item_at (start_of text.now) ≡ Ok (e, q)) × (item_type e ≡ mark) }
-    ensures { (e : AnItem) (q : Place) → item_at (start_of text.now) ≡ Ok (e, q) → item_type e ≡ mark
+    requires { (e : AnItem) × (q : Position) × (item_at (start_of text.now) ≡ Ok (e, q)) × (item_type e ≡ mark) }
+    ensures { (e : AnItem) (q : Position) → item_at (start_of text.now) ≡ Ok (e, q) → item_type e ≡ mark
         → OnOk result (row.new.items ≡ row.old.items ++ rows_of (e ∷ [])) }
 {
     match mark {

@@ -85,7 +85,7 @@ fn push_entry(
     entries: &mut Vec<Kept<LedgerEntry>>,
 ) -> Result<(), AllocError>
     ensures { OnOk result (entries.new.items
-        ≡ entries.old.items ++ map with_key (spec.in_front_of (spec.entry_in item.now.1) [])) }
+        ≡ entries.old.items ++ map with_key (spec.prepended_to (spec.entry_in item.now.1) [])) }
 {
     if item.mark() == BucketEntryType::Dead {
         return Ok(());
@@ -107,7 +107,7 @@ fn entries_of(alloc: Global, row: Vec<StoredItem<'_>>) -> Result<Vec<Kept<Ledger
     Ok(entries)
 }
 
-/// The entries for which levels stand, or `None` where the levels aren't marked well.
+/// The entries that levels represent, or `None` where the levels aren't marked well.
 pub fn level_entries(alloc: Global, pairs: &[LevelPair]) -> Result<Option<EntryTable>, AllocError>
     requires { length pairs.now ≡ level_count }
     ensures { IfOk result (λ found. IsJudgedBy (map pair_of pairs.now) found) }

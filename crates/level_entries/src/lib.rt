@@ -1,4 +1,4 @@
-//! The entries for which eleven levels stand.
+//! The entries that eleven levels represent.
 #![tactic(auto)]
 
 mod file_row;

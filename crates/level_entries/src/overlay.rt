@@ -4,7 +4,7 @@ ghost use Rattle.std.specs.Prelude.{◌≡◌, ◌<◌, ◌++◌, ◌∷◌, [],
 ghost use Rattle.entry_table.specs.Rows.{IsRising, IsOverlaid};
 ghost use Rattle.level_entries.specs.Rows.{IsPutOver, IsPushedFirst};
 
-use crate::judge::may_all_stand;
+use crate::judge::may_all_follow;
 use crate::stored::StoredItem;
 use bucket_items::order;
 use std::alloc::{AllocError, Global};
@@ -28,40 +28,40 @@ fn push_all<'a>(items: &[StoredItem<'a>], row: &mut Vec<StoredItem<'a>>) -> Resu
     Ok(())
 }
 
-/// Puts the first item that a row or a newer one has from two places on at the end of a third, the newer one of two
+/// Puts the first item that a row or a newer one has from two indices on at the end of a third, the newer one of two
 /// under one key. Gives where both are left.
 fn push_first<'a>(
     older: &[StoredItem<'a>],
-    place: usize,
+    index: usize,
     newer: &[StoredItem<'a>],
     turn: usize,
     row: &mut Vec<StoredItem<'a>>,
 ) -> Result<(usize, usize), AllocError>
-    requires place { place < length older.now }
+    requires index { index < length older.now }
     requires turn { turn < length newer.now }
-    requires older { IsRising (drop place older.now) }
+    requires older { IsRising (drop index older.now) }
     requires newer { IsRising (drop turn newer.now) }
-    ensures { IfOk result (λ left. IsPushedFirst older.now place newer.now turn row.old.items row.new.items left) }
+    ensures { IfOk result (λ left. IsPushedFirst older.now index newer.now turn row.old.items row.new.items left) }
 {
     let item = &newer[turn];
-    let under = &older[place];
+    let under = &older[index];
     match order(under.key(), item.key()) {
         Ordering::Less => {
             push(under, row)?;
-            Ok((place + 1, turn))
+            Ok((index + 1, turn))
         }
         Ordering::Equal => {
             push(item, row)?;
-            Ok((place + 1, turn + 1))
+            Ok((index + 1, turn + 1))
         }
         Ordering::Greater => {
             push(item, row)?;
-            Ok((place, turn + 1))
+            Ok((index, turn + 1))
         }
     }
 }
 
-/// A row with a newer one put over it, in one pass: under a key of both stands what the newer one has.
+/// A row with a newer one put over it, in one pass: under a key of both is what the newer one has.
 fn overlay<'a>(
     alloc: Global,
     older: &[StoredItem<'a>],
@@ -72,20 +72,20 @@ fn overlay<'a>(
     ensures { IfOk result (λ all. IsOverlaid older.now newer.now all.items) }
 {
     let mut all = Vec::with_capacity(alloc, older.len())?;
-    let mut place = 0;
+    let mut index = 0;
     let mut turn = 0;
-    while place < older.len() && turn < newer.len() {
-        let left = push_first(older, place, newer, turn, &mut all)?;
-        place = left.0;
+    while index < older.len() && turn < newer.len() {
+        let left = push_first(older, index, newer, turn, &mut all)?;
+        index = left.0;
         turn = left.1;
     }
-    push_all(older.split_at(place).1, &mut all)?;
+    push_all(older.split_at(index).1, &mut all)?;
     push_all(newer.split_at(turn).1, &mut all)?;
     Ok(all)
 }
 
-/// A row with a newer one put over it, or `None` where the newer items may not all stand there. A row that an empty one
-/// is put over, or that is put over an empty one, stays as it is.
+/// A row with a newer one put over it, or `None` where the newer items may not all follow what is there. A row that an
+/// empty one is put over, or that is put over an empty one, stays as it is.
 pub(crate) fn put_over<'a>(
     alloc: Global,
     row: Vec<StoredItem<'a>>,
@@ -101,7 +101,7 @@ pub(crate) fn put_over<'a>(
     if row.is_empty() {
         return Ok(Some(newer));
     }
-    if !may_all_stand(row.as_slice(), newer.as_slice()) {
+    if !may_all_follow(row.as_slice(), newer.as_slice()) {
         return Ok(None);
     }
     Ok(Some(overlay(alloc, row.as_slice(), newer.as_slice())?))

@@ -1,4 +1,4 @@
-//! Items where they stand in their files.
+//! Items where they lie in their files.
 
 ghost use Rattle.std.specs.Prelude.{◌≡◌, IfOk};
 ghost use Rattle.bucket_items.specs.Item.{Shows, item_type};
@@ -12,11 +12,11 @@ use std::marker::Model;
 use xdr_core::{Cursor, ReadFault};
 use xdr_entries::read_bucket_entry;
 
-/// An item with a key where it stands in its file, which takes no memory but for its place. Contracts see the item
-/// under its key.
+/// An item with a key where it lies in its file, which takes no memory but for its offset. Contracts see the item under
+/// its key.
 #[derive(Drop)]
 pub(crate) struct StoredItem<'a> {
-    // The item's record, and what stands behind it.
+    // The item's record, and what comes after it.
     text: &'a [u8],
 }
 
@@ -38,7 +38,7 @@ impl<'a> Model for StoredItem<'a> {
 }
 
 impl<'a> StoredItem<'a> {
-    /// The item whose record stands at the front of a text.
+    /// The item whose record is a text's prefix.
     pub(crate) fn new(text: &'a [u8]) -> StoredItem<'a>
         requires { IsStored text.now }
         ensures { result ≡ stored_in text.now }
@@ -53,7 +53,7 @@ impl<'a> StoredItem<'a> {
         StoredItem { text: self.text }
     }
 
-    /// What is told of the item without memory.
+    /// What is shown of the item without memory.
     fn shown(&self) -> BucketItem<'a>
         ensures shows { Shows result result.bytes.now self.now.1 }
         ensures key { IsKeyText result.key.now self.now.0 }

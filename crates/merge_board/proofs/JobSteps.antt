@@ -1,18 +1,12 @@
 -- Each step keeps the rule of the job queue.
-use Rattle.std.proofs.Common.{◌≡◌, ℕ, zero, suc, ◌+◌, ◌-◌, ◌<◌, ◌≤◌, ◌^◌, true, true≢false, List, [], ◌∷◌, ◌++◌}
-use Rattle.std.proofs.Common.{length, set, sym, refl, ap, ◌∙◌, ⊎_elim, length-append, arith}
-use Rattle.std.proofs.lemmas.List.Sums.{sum_by_push}
-use mathlib.Core.Option.{some, some-ne-none}
+use Rattle.merge_board.proofs.Prelude as prelude
+use prelude.{◌≡◌, ℕ, zero, suc, ◌+◌, ◌-◌, ◌<◌, ◌≤◌, ◌^◌, true, true≢false, List, [], ◌∷◌, ◌++◌, length, set, sym, refl}
+use prelude.{ap, ◌∙◌, ⊎_elim, length-append, arith, sum_by_push, some, some-ne-none, Pushes, Pops, Forks, Merges}
+use prelude.{Learns, at_set, Job, AllByRecursion, first_hand, new_hand, spent_hand, hand_with, drawn, TakesJob, Hand}
 use lib.ListN.{get_elem?}
-use Rattle.crossbeam_queue.specs.Fifo.{Pushes, Pops, Forks, Merges, Learns}
-use Rattle.crossbeam_queue.proofs.Lists.{at_set}
-use Rattle.bucket_merge.specs.Job.{Job}
-use Rattle.std.specs.List.{AllByRecursion}
-use Rattle.merge_board.specs.Hands.{first_hand, new_hand, spent_hand, hand_with, drawn, TakesJob}
-use Rattle.merge_board.specs.JobOrder.{NumbersAfter, Waiting, WaitingBehind, FitsHand, JobsInOrder}
-use Rattle.merge_board.specs.declared.hand.Hand.{Hand}
+use Rattle.merge_board.specs.JobOrder.{NumbersAfter, Waiting, WaitingAfter, FitsHand, JobsInOrder}
 use Rattle.merge_board.proofs.Lists.{every_map, every_snoc, rising_snoc}
-use Rattle.merge_board.proofs.Views.{each_set, each_snoc, sum_set, at_le, whole}
+use Rattle.merge_board.proofs.Views.{each_set, each_snoc, sum_set, at_le, entire}
 
 abbrev parts_of : Hand → ℕ
 parts_of v = v.parts
@@ -23,9 +17,9 @@ after_snoc t [] job h e = (omega arith, tt)
 after_snoc t (j ∷ js) job h e = (h.0, after_snoc (t + 1) js job h.1 (omega arith))
 
 -- the number of a list that begins with one pass alone
-only : (v u : Hand) (pass : ℕ) → get_elem? (v ∷ []) pass ≡ some u → pass ≡ 0
-only v u zero e = refl
-only v u (suc pass) e = absurd (some-ne-none u (sym e))
+index_of_one : (v u : Hand) (pass : ℕ) → get_elem? (v ∷ []) pass ≡ some u → pass ≡ 0
+index_of_one v u zero e = refl
+index_of_one v u (suc pass) e = absurd (some-ne-none u (sym e))
 
 pub begins : JobsInOrder [] (first_hand ∷ [])
 begins = record {
@@ -38,7 +32,7 @@ begins = record {
   parts_in_all = refl;
   each = each_set (FitsHand 0 0) (first_hand ∷ []) 0 first_hand
       (record { poster = λ _. (refl, refl); rising = tt; below = tt; idle = λ e. refl })
-      (λ j u other e. absurd (other (only first_hand u j e)));
+      (λ j u other e. absurd (other (index_of_one first_hand u j e)));
 }
 
 pub posts : (n pass : ℕ) (v : Hand) (job : Job) → v.posts ≡ true → job.number ≡ v.posted + 1 → v.posted + 1 < 2 ^ 64
@@ -164,8 +158,8 @@ joins pass v other u jobs views h at two at' =
 pub waits : (pass : ℕ) (v : Hand) → v.posts ≡ true → Learns JobsInOrder pass v (λ jobs. Waiting v.posted jobs)
 waits pass v may jobs views h at = (h.t, h.count ∙ sym ((h.each pass v at).poster may).1, h.numbers)
 
-pub behind : (pass : ℕ) (v : Hand) → Learns JobsInOrder pass v (λ jobs. WaitingBehind v.taken jobs)
-behind pass v jobs views h at =
+pub after : (pass : ℕ) (v : Hand) → Learns JobsInOrder pass v (λ jobs. WaitingAfter v.taken jobs)
+after pass v jobs views h at =
     let most = at_le drawn views pass v at in
     let in_all = h.drawn_in_all in (h.t, h.numbers, (h.each pass v at).below, omega arith)
 
@@ -180,7 +174,7 @@ counts pass v may jobs views h at =
 pub drains : (pass : ℕ) (v : Hand) → v.posts ≡ true → v.parts ≡ 16
     → Learns JobsInOrder pass v (λ jobs. (v.posted ≡ drawn v + length jobs) × (v.posted < 2 ^ 64))
 drains pass v may all_parts jobs views h at =
-    let mine = whole drawn parts_of views pass v at (h.parts_in_all ∙ sym all_parts) (λ j u e. (h.each j u e).idle) in
+    let mine = entire drawn parts_of views pass v at (h.parts_in_all ∙ sym all_parts) (λ j u e. (h.each j u e).idle) in
     let in_all = h.drawn_in_all in
     let p : v.posted ≡ h.p = ((h.each pass v at).poster may).1 in
     let count = h.count in let countable = h.countable in (omega arith, omega arith)

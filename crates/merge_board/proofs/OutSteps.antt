@@ -1,23 +1,15 @@
 -- Each step keeps the rule of the done queue.
-use Rattle.std.proofs.Common.{◌≡◌, ◌≢◌, ℕ, zero, suc, ◌+◌, ◌-◌, ◌<◌, ◌≤◌, Bool, true, false, true≢false, cond, eqb}
-use Rattle.std.proofs.Common.{List, [], ◌∷◌, ◌++◌, map, length, set, sym, refl, ap, ◌∙◌, subst, ⊎_elim, append_assoc}
-use Rattle.std.proofs.Common.{length-append, arith}
-use Rattle.std.specs.List.{AllByRecursion, filter}
+use Rattle.merge_board.proofs.Prelude as prelude
+use prelude.{◌≡◌, ◌≢◌, ℕ, zero, suc, ◌+◌, ◌-◌, ◌<◌, ◌≤◌, Bool, true, false, true≢false, cond, eqb, List, [], ◌∷◌, ◌++◌}
+use prelude.{map, length, set, sym, refl, ap, ◌∙◌, subst, ⊎_elim, append_assoc, length-append, arith, AllByRecursion}
+use prelude.{filter, map-append, append-nil, sum_by_push, some, some-injective, some-ne-none, Pushes, Pops, Forks}
+use prelude.{Merges, Learns, at_set, at_longer, at_last, first_log, new_log, spent_log, log_with, known_of}
+use prelude.{pushed_count, outs_of, QueuedAfter, Accounts, FitsLog, OutsInOrder, Sent, Known, Log}
 use Rattle.std.proofs.lemmas.Bool.{eq-eqb, ne_eqb}
-use Rattle.std.proofs.lemmas.List.{map-append, append-nil}
 use Rattle.std.proofs.lemmas.List.Elements.{filter-append}
-use Rattle.std.proofs.lemmas.List.Sums.{sum_by_push}
-use mathlib.Core.Option.{some, some-injective, some-ne-none}
 use lib.ListN.{get_elem?}
-use Rattle.crossbeam_queue.specs.Fifo.{Pushes, Pops, Forks, Merges, Learns}
-use Rattle.crossbeam_queue.proofs.Lists.{at_set, at_longer, at_last}
-use Rattle.merge_board.specs.Logs.{first_log, new_log, spent_log, log_with, known_of, pushed_count}
-use Rattle.merge_board.specs.OutOrder.{outs_of, QueuedBehind, Accounts, FitsLog, OutsInOrder}
-use Rattle.merge_board.specs.declared.log.Sent.{Sent}
-use Rattle.merge_board.specs.declared.log.Known.{Known}
-use Rattle.merge_board.specs.declared.log.Log.{Log}
 use Rattle.merge_board.proofs.Lists.{every_map, every_both}
-use Rattle.merge_board.proofs.Views.{each_set, each_snoc, sum_set, at_within, whole}
+use Rattle.merge_board.proofs.Views.{each_set, each_snoc, sum_set, at_within, entire}
 
 abbrev parts_of : Log → ℕ
 parts_of v = v.parts
@@ -46,9 +38,9 @@ outs_same worker all x other =
 one_owner : (owners : List ℕ) (a b i j : ℕ) → get_elem? owners a ≡ some i → get_elem? owners b ≡ some j → a ≡ b → i ≡ j
 one_owner owners a b i j at_a at_b is = some-injective i j (sym at_a ∙ ap (get_elem? owners) is ∙ at_b)
 
-only : (v u : Log) (pass : ℕ) → get_elem? (v ∷ []) pass ≡ some u → pass ≡ 0
-only v u zero e = refl
-only v u (suc pass) e = absurd (some-ne-none u (sym e))
+index_of_one : (v u : Log) (pass : ℕ) → get_elem? (v ∷ []) pass ≡ some u → pass ≡ 0
+index_of_one v u zero e = refl
+index_of_one v u (suc pass) e = absurd (some-ne-none u (sym e))
 
 spent_fits : (owners : List ℕ) (known : List Known) (got all : List Sent) (pass : ℕ)
     → FitsLog owners known got all pass spent_log
@@ -66,7 +58,7 @@ begins = record {
   known = [];
   got = [];
   all = [];
-  whole = refl;
+  entire = refl;
   later = λ worker late. refl;
   ended = tt;
   pushed_in_all = refl;
@@ -75,7 +67,7 @@ begins = record {
     collector = λ _. (refl, refl, refl, refl);
     worker = λ q. absurd (true≢false (sym q));
     idle = λ e. refl;
-  }) (λ j u other e. absurd (other (only first_log u j e)));
+  }) (λ j u other e. absurd (other (index_of_one first_log u j e)));
 }
 
 pub pushes : (n pass : ℕ) (v : Log) (x : Sent) → 0 < v.parts → v.pushes ≡ true → x.worker ≡ v.worker
@@ -92,7 +84,7 @@ pushes n pass v x some_part may is items views room h at =
         known = h.known;
         got = h.got;
         all = all;
-        whole = ap (λ l. l ++ x ∷ []) h.whole ∙ append_assoc h.got items (x ∷ []);
+        entire = ap (λ l. l ++ x ∷ []) h.entire ∙ append_assoc h.got items (x ∷ []);
         later = λ worker late. outs_same worker h.all x (λ e. omega arith) ∙ h.later worker late;
         ended = every_both (λ (k : Known). k.worker ≢ v.worker)
             (λ (k : Known). (k.worker < length h.owners) × (outs_of k.worker h.all ≡ k.pushed))
@@ -138,7 +130,7 @@ collects pass v may x items views h at =
         known = h.known;
         got = got;
         all = h.all;
-        whole = h.whole ∙ sym (append_assoc h.got (x ∷ []) items);
+        entire = h.entire ∙ sym (append_assoc h.got (x ∷ []) items);
         later = h.later;
         ended = h.ended;
         pushed_in_all = (let s = sum_set pushed_count views pass v w at in let d = h.pushed_in_all in omega arith);
@@ -171,7 +163,7 @@ hires pass v may two items views h at =
       known = h.known;
       got = h.got;
       all = h.all;
-      whole = h.whole;
+      entire = h.entire;
       later = λ worker late. h.later worker (omega arith);
       ended = every_map (λ (k : Known). (k.worker < length h.owners) × (outs_of k.worker h.all ≡ k.pushed))
           (λ (k : Known). (k.worker < length owners) × (outs_of k.worker h.all ≡ k.pushed)) h.known
@@ -225,7 +217,7 @@ joins pass v other u may theirs items views h at two at' =
       known = known;
       got = h.got;
       all = h.all;
-      whole = h.whole;
+      entire = h.entire;
       later = h.later;
       ended = ((at_within h.owners other u.worker own, (fits.worker theirs).1), h.ended);
       pushed_in_all = (let s = sum_set pushed_count views pass v both at in
@@ -265,20 +257,20 @@ joins pass v other u may theirs items views h at two at' =
 -- ---- what a pass learns
 
 pub queued : (pass : ℕ) (v : Log) → v.pushes ≡ true
-    → Learns OutsInOrder pass v (λ items. QueuedBehind v.worker v.pushed items)
+    → Learns OutsInOrder pass v (λ items. QueuedAfter v.worker v.pushed items)
 queued pass v may items views h at =
-    (h.got, ap (outs_of v.worker) (sym h.whole) ∙ ((h.each pass v at).worker may).1)
+    (h.got, ap (outs_of v.worker) (sym h.entire) ∙ ((h.each pass v at).worker may).1)
 
 pub accounts : (pass : ℕ) (v : Log) → v.collects ≡ true → Learns OutsInOrder pass v (Accounts v)
 accounts pass v may items views h at =
     let collector = (h.each pass v at).collector may in
-    let all : h.all ≡ v.got ++ items = h.whole ∙ ap (λ l. l ++ items) (sym collector.1) in record {
+    let all : h.all ≡ v.got ++ items = h.entire ∙ ap (λ l. l ++ items) (sym collector.1) in record {
       ended = subst (AllByRecursion (λ (k : Known). outs_of k.worker (v.got ++ items) ≡ k.pushed)) (sym collector.2)
           (every_map (λ (k : Known). (k.worker < length h.owners) × (outs_of k.worker h.all ≡ k.pushed))
           (λ (k : Known). outs_of k.worker (v.got ++ items) ≡ k.pushed) h.known
           (λ k old. ap (outs_of k.worker) (sym all) ∙ old.1) h.ended);
-      whole = λ all_parts.
-          (let mine = whole pushed_count parts_of views pass v at (h.parts_in_all ∙ sym all_parts)
+      entire = λ all_parts.
+          (let mine = entire pushed_count parts_of views pass v at (h.parts_in_all ∙ sym all_parts)
           (λ j u e. (h.each j u e).idle) in
           let d = h.pushed_in_all in let long = ap length all in omega (arith, length-append v.got items));
     }

@@ -1,27 +1,11 @@
 -- What taking in one worker more keeps, and what is known once all are taken in.
-use Rattle.std.proofs.Common.{◌≡◌, ℕ, ◌+◌, true, List, [], ◌∷◌, ◌++◌, map, length, sym, refl, ap, ◌∙◌, subst}
-use Rattle.std.proofs.Common.{append_assoc, length-append, arith}
-use Rattle.std.proofs.lemmas.List.Sums.{sum_by-cons}
-use Rattle.std.proofs.lemmas.List.{append-nil, length-map}
-use Rattle.crossbeam_queue.specs.Fifo.{Held}
-use Rattle.crossbeam_queue.specs.Passes.{view}
-use Rattle.bucket_merge.specs.Job.{Job}
-use Rattle.std.specs.List.{AllByRecursion}
-use Rattle.merge_board.specs.Hands.{hand_with, drawn}
-use Rattle.merge_board.specs.Logs.{log_with, pushed_count}
-use Rattle.merge_board.specs.OutOrder.{outs_of, Accounts}
-use Rattle.merge_board.specs.Parts.{end_number, pushed_by, KeepsOrder}
-use Rattle.merge_board.specs.Settling.{end_known, AreTakenIn, IsDrained}
-use Rattle.merge_board.specs.declared.log.Sent.{Sent}
+use Rattle.merge_board.proofs.Prelude.{◌≡◌, ℕ, ◌+◌, true, List, [], ◌∷◌, ◌++◌, map, length, sym, refl, ap, ◌∙◌, subst}
+use Rattle.merge_board.proofs.Prelude.{append_assoc, length-append, arith, sum_by-cons, append-nil, length-map, Held}
+use Rattle.merge_board.proofs.Prelude.{view, Job, AllByRecursion, hand_with, drawn, log_with, pushed_count, outs_of}
+use Rattle.merge_board.proofs.Prelude.{Accounts, end_number, pushed_by, KeepsOrder, end_known, AreTakenIn, IsDrained}
+use Rattle.merge_board.proofs.Prelude.{Sent, Hand, Known, Log, nil_from_length}
 use Rattle.merge_board.proofs.Lists.{every_map}
-use Rattle.merge_board.specs.declared.hand.Hand.{Hand}
-use Rattle.merge_board.specs.declared.log.Known.{Known}
-use Rattle.merge_board.specs.declared.log.Log.{Log}
 use Rattle.merge_board.specs.declared.parts.WorkerEnd.{WorkerEnd}
-
-pub none_there : {X : Type 0} (xs : List X) → length xs ≡ 0 → xs ≡ []
-none_there [] e = refl
-none_there (x ∷ xs) e = absurd (omega arith)
 
 -- before any is taken in
 pub none_taken_in : (all : List WorkerEnd) (hand : Hand) (log : Log) → hand.posts ≡ true → hand.parts + length all ≡ 16
@@ -38,7 +22,7 @@ none_taken_in all hand log posts job_parts none_drawn collects out_parts none_pu
   got = refl;
   out_parts = out_parts;
   all_pushed = none_pushed;
-  known_ends = none_there log.known none_known;
+  known_ends = nil_from_length log.known none_known;
   taken_sum = refl;
   pushed_sum = refl;
   fewer = omega arith;
@@ -100,10 +84,10 @@ all_counted ends hand0 hand log0 log end taken pushed queued h drained empty =
     let got0 : length log.got ≡ length log0.got = ap (λ (l : List Sent). length l) h.got in
     let all_pushed = h.all_pushed in
     let queue : length (map (λ (s : Sent). s.out) rest) ≡ length queued = ap length drained.queue in
-    let whole : pushed_count end ≡ length end.got + length empty.0 = empty.2.whole (omega arith) in
+    let entire : pushed_count end ≡ length end.got + length empty.0 = empty.2.entire (omega arith) in
     omega (arith, length-append log.got rest, length-map rest (λ (s : Sent). s.out))
 
--- and stands there in the order in which it was pushed
+-- and is there in the order in which it was pushed
 pub all_ordered : (ends : List WorkerEnd) (hand0 hand : Hand) (log0 log end : Log) (taken pushed : ℕ)
     (queued : List Job)
     → AreTakenIn ends [] hand0 hand log0 log taken pushed → IsDrained log end queued → Held 0 (Accounts end)
@@ -111,7 +95,7 @@ pub all_ordered : (ends : List WorkerEnd) (hand0 hand : Hand) (log0 log end : Lo
 all_ordered ends hand0 hand log0 log end taken pushed queued h drained empty =
     let rest = drained.rest in
     let got : end.got ++ empty.0 ≡ log0.got ++ rest =
-    ap (λ (l : List Sent). end.got ++ l) (none_there empty.0 empty.1) ∙ append-nil end.got
+    ap (λ (l : List Sent). end.got ++ l) (nil_from_length empty.0 empty.1) ∙ append-nil end.got
     ∙ ap (λ (v : Log). v.got) drained.log ∙ ap (λ (l : List Sent). l ++ rest) h.got in
     let known : end.known ≡ map end_known ends =
     ap (λ (v : Log). v.known) drained.log ∙ h.known_ends ∙ ap (map end_known) (sym h.split) in

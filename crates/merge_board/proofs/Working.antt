@@ -1,15 +1,8 @@
 -- What a worker's steps keep.
-use Rattle.std.proofs.Common.{◌≡◌, ◌≢◌, ℕ, ◌<◌, List, [], ◌∷◌, ◌++◌, sym, ap}
-use Rattle.std.proofs.Common.{◌∙◌, subst, arith, append-nil, append_assoc}
-use Rattle.std.proofs.lemmas.List.{map-append}
-use Rattle.bucket_merge.specs.Job.{Job}
-use Rattle.std.specs.List.{AllByRecursion}
-use Rattle.merge_board.specs.Lists.{IsRising, Has}
-use Rattle.merge_board.specs.Hands.{new_hand}
-use Rattle.merge_board.specs.Logs.{new_log}
-use Rattle.merge_board.specs.Work.{numbers_of, FoundFull, MetFull, AreDealt}
-use Rattle.merge_board.specs.declared.hand.Hand.{Hand}
-use Rattle.merge_board.specs.declared.log.Log.{Log}
+use Rattle.merge_board.proofs.Prelude.{◌≡◌, ◌≢◌, ℕ, ◌<◌, List, [], ◌∷◌, ◌++◌, sym, ap, ◌∙◌, subst, arith, append_assoc}
+use Rattle.merge_board.proofs.Prelude.{map-append, Job, AllByRecursion, IsRising, Has, new_hand, new_log, numbers_of}
+use Rattle.merge_board.proofs.Prelude.{FoundFull, MetFull, AreDealt, Hand, Log}
+use Rattle.std.proofs.Common.{append-nil}
 use Rattle.merge_board.proofs.Lists.{every_map, every_both, every_snoc, every_has, has_longer, rising_snoc}
 
 -- a worker's view of the jobs, one job later
@@ -50,7 +43,7 @@ took worker n taken pushed left h above = record {
   met_full = h.met_full;
 }
 
--- an outcome more is pushed, behind all that found no place
+-- an outcome more is pushed, after all that found no slot
 met_later : (worker : ℕ) (out : Job) (pushed left : List Job) → AllByRecursion (MetFull worker pushed) left
     → AllByRecursion (λ m. m < out.number) (numbers_of left)
     → AllByRecursion (MetFull worker (pushed ++ out ∷ [])) left
@@ -59,12 +52,12 @@ met_later worker out pushed (first ∷ others) met above =
     let was = met.0 in (
       record {
         before = was.before;
-        behind = was.behind ++ out ∷ [];
+        after = was.after ++ out ∷ [];
         pushed_is = ap (λ (xs : List Job). xs ++ out ∷ []) was.pushed_is
-            ∙ append_assoc was.before was.behind (out ∷ []);
+            ∙ append_assoc was.before was.after (out ∷ []);
         lower = was.lower;
-        higher = subst (AllByRecursion (λ n. first.number < n)) (sym (numbers_snoc was.behind out))
-            (every_snoc (λ n. first.number < n) (numbers_of was.behind) out.number was.higher above.0);
+        higher = subst (AllByRecursion (λ n. first.number < n)) (sym (numbers_snoc was.after out))
+            (every_snoc (λ n. first.number < n) (numbers_of was.after) out.number was.higher above.0);
         full = was.full;
       },
       met_later worker out pushed others met.1 above.1,
@@ -107,7 +100,7 @@ left_one worker out taken pushed left h among above_pushed above_left full =
           (λ p old below. every_snoc (λ m. p ≢ m) (numbers_of left) n old (λ e. omega arith)) h.apart above_pushed);
       met_full = every_snoc (MetFull worker pushed) left out h.met_full (record {
         before = pushed;
-        behind = [];
+        after = [];
         pushed_is = sym (append-nil pushed);
         lower = above_pushed;
         higher = tt;

@@ -23,7 +23,7 @@ drawn v = length v.taken + v.absorbed
 abbrev pub hand_with : Hand → Hand → Hand
 hand_with v u = record v { parts = v.parts + u.parts; absorbed = v.absorbed + drawn u }
 
--- The job's number comes behind all numbers that were taken before. The last part lets a worker count what it takes.
+-- The job's number comes after all numbers that were taken before. The last part lets a worker count what it takes.
 abbrev pub TakesJob : Hand → Job → Hand → Type 0
 TakesJob v job w =
     (w ≡ record v { taken = v.taken ++ job.number ∷ [] }) × AllByRecursion (λ n. n < job.number) v.taken

@@ -13,13 +13,13 @@ abbrev pub NumbersAfter : ℕ → List Job → Type 0
 NumbersAfter t [] = Unit {0}
 NumbersAfter t (job ∷ jobs) = (job.number ≡ t + 1) × NumbersAfter (t + 1) jobs
 
--- of the p jobs that were posted, those behind the first t
+-- of the p jobs that were posted, those after the first t
 abbrev pub Waiting : ℕ → List Job → Type 0
 Waiting p jobs = (t : ℕ) × (t + length jobs ≡ p) × NumbersAfter t jobs
 
--- the jobs behind the first t, among which is each that was taken
-abbrev pub WaitingBehind : List ℕ → List Job → Type 0
-WaitingBehind taken jobs =
+-- the jobs after the first t, among which is each that was taken
+abbrev pub WaitingAfter : List ℕ → List Job → Type 0
+WaitingAfter taken jobs =
     (t : ℕ) × NumbersAfter t jobs × AllByRecursion (λ n. n ≤ t) taken × (length taken ≤ t)
 
 -- what holds of a pass where p jobs were posted and t were taken

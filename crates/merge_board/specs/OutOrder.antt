@@ -14,15 +14,15 @@ use Rattle.merge_board.specs.declared.log.Log.{Log}
 abbrev pub outs_of : ℕ → List Sent → List Job
 outs_of worker sent = map (λ (s : Sent). s.out) (filter (λ (s : Sent). s.worker == worker) sent)
 
--- what was sent is what the queue holds behind what was collected, and a worker's outcomes in it are what it pushed
-abbrev pub QueuedBehind : ℕ → List Job → List Sent → Type 0
-QueuedBehind worker pushed items = (got : List Sent) × (outs_of worker (got ++ items) ≡ pushed)
+-- what was sent is what the queue holds after what was collected, and a worker's outcomes in it are what it pushed
+abbrev pub QueuedAfter : ℕ → List Job → List Sent → Type 0
+QueuedAfter worker pushed items = (got : List Sent) × (outs_of worker (got ++ items) ≡ pushed)
 
 -- What was collected, and then what the queue holds, has of each worker that has ended what it pushed. Where all have
 -- ended, there is nothing else in it.
 pub record Accounts (v : Log) (items : List Sent) : Type 0 where
   pub ended : AllByRecursion (λ (k : Known). outs_of k.worker (v.got ++ items) ≡ k.pushed) v.known
-  pub whole : v.parts ≡ 16 → pushed_count v ≡ length v.got + length items
+  pub entire : v.parts ≡ 16 → pushed_count v ≡ length v.got + length items
 
 -- what holds of a pass, where `owners` has the pass of each worker, by its number
 pub record FitsLog (owners : List ℕ) (known : List Known) (got all : List Sent) (pass : ℕ) (v : Log) : Type 0 where
@@ -40,7 +40,7 @@ pub record OutsInOrder (items : List Sent) (views : List Log) : Type 0 where
   pub known : List Known
   pub got : List Sent
   pub all : List Sent
-  pub whole : all ≡ got ++ items
+  pub entire : all ≡ got ++ items
   pub later : (worker : ℕ) → length owners ≤ worker → outs_of worker all ≡ []
   pub ended : AllByRecursion (λ (k : Known). (k.worker < length owners) × (outs_of k.worker all ≡ k.pushed)) known
   pub pushed_in_all : sum_by pushed_count views ≡ length all

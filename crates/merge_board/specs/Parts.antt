@@ -24,15 +24,15 @@ posted_by board = (view board.pass).posted
 abbrev pub posted_in_all : BoardEnd → ℕ
 posted_in_all end = (view end.pass).posted
 
--- how many jobs came back to it, as 64 bits tell it
+-- how many jobs came back to it, modulo 2^64
 abbrev pub returned_to : Board → ℕ
 returned_to board = board.returned
 
--- how often the collector found no outcome, as 64 bits tell it
+-- how often the collector found no outcome, modulo 2^64
 abbrev pub empty_looks_of : Collector → ℕ
 empty_looks_of collector = collector.empty_looks
 
--- a count that has risen by n, as 64 bits tell it
+-- a count that has risen by n, modulo 2^64
 abbrev pub RoseBy : (n was now : ℕ) → Type 0
 RoseBy n was now = now % 2 ^ 64 ≡ (was + n) % 2 ^ 64
 
@@ -121,8 +121,8 @@ pub record AreEnds (room : Room) (board : BoardEnd) (workers : List WorkerEnd) (
   pub collector_in : IsCollectorEndIn room collector
   pub collector_has : collector_end_parts collector + length workers ≡ 16
 
--- Behind what was collected there stand, with their workers, the outcomes that are queued. In all of these each
--- worker's are what it pushed, in its order, each once and unaltered.
+-- After what was collected come, with their workers, the outcomes that are queued. In all of these each worker's are
+-- what it pushed, in its order, each once and unaltered.
 pub record KeepsOrder (got : List Sent) (queued : List Job) (ends : List WorkerEnd) : Type 0 where
   pub rest : List Sent
   pub queue : map (λ (s : Sent). s.out) rest ≡ queued
@@ -132,6 +132,6 @@ pub record KeepsOrder (got : List Sent) (queued : List Job) (ends : List WorkerE
 abbrev pub Grew : List Sent → Job → List Sent → Type 0
 Grew old out new = (worker : ℕ) × (new ≡ old ++ record { worker = worker; out = out } ∷ [])
 
--- At one moment no outcome waited, behind those that were collected.
+-- At one moment no outcome waited, after those that were collected.
 abbrev pub FoundNoOut : Collector → Type 0
 FoundNoOut collector = Held 0 (Accounts (view collector.pass))

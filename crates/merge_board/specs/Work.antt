@@ -8,9 +8,9 @@ use Rattle.bucket_merge.specs.Job.{Job}
 use Rattle.std.specs.List.{AllByRecursion}
 use Rattle.merge_board.specs.Lists.{IsRising, Has}
 use Rattle.merge_board.specs.Hands.{new_hand}
-use Rattle.merge_board.specs.JobOrder.{WaitingBehind}
+use Rattle.merge_board.specs.JobOrder.{WaitingAfter}
 use Rattle.merge_board.specs.Logs.{new_log}
-use Rattle.merge_board.specs.OutOrder.{QueuedBehind}
+use Rattle.merge_board.specs.OutOrder.{QueuedAfter}
 use Rattle.merge_board.specs.declared.desk.Desk.{Desk}
 use Rattle.merge_board.specs.declared.log.Sent.{Sent}
 use Rattle.merge_board.specs.declared.parts.Room.{Room}
@@ -19,25 +19,25 @@ use Rattle.merge_board.specs.declared.parts.WorkerEnd.{WorkerEnd}
 abbrev pub numbers_of : List Job → List ℕ
 numbers_of jobs = map (λ (job : Job). job.number) jobs
 
--- At one moment there was no place in the done queue, behind whose outcomes the worker had pushed just these.
+-- At one moment there was no free slot in the done queue, and up to then the worker had pushed just these.
 abbrev pub FoundFull : ℕ → List Job → Type 0
-FoundFull worker pushed = Held 64 (λ (items : List Sent). QueuedBehind worker pushed items)
+FoundFull worker pushed = Held 64 (λ (items : List Sent). QueuedAfter worker pushed items)
 
--- At one moment no job waited, behind all of which the worker had taken just these.
+-- At one moment no job waited, and up to then the worker had taken just these.
 abbrev pub FoundNone : List ℕ → Type 0
-FoundNone taken = Held 0 (λ (jobs : List Job). WaitingBehind taken jobs)
+FoundNone taken = Held 0 (λ (jobs : List Job). WaitingAfter taken jobs)
 
--- the outcome found no place, when the worker had pushed just those of its outcomes that have lower numbers
+-- the outcome found no slot, when the worker had pushed just those of its outcomes that have lower numbers
 pub record MetFull (worker : ℕ) (pushed : List Job) (out : Job) : Type 0 where
   pub before : List Job
-  pub behind : List Job
-  pub pushed_is : pushed ≡ before ++ behind
+  pub after : List Job
+  pub pushed_is : pushed ≡ before ++ after
   pub lower : AllByRecursion (λ n. n < out.number) (numbers_of before)
-  pub higher : AllByRecursion (λ n. out.number < n) (numbers_of behind)
+  pub higher : AllByRecursion (λ n. out.number < n) (numbers_of after)
   pub full : FoundFull worker before
 
--- How the numbers that a worker took stand to those of the outcomes that it pushed and of those that it has left: they
--- rise, and no number stands in both.
+-- How the numbers that a worker took relate to those of the outcomes that it pushed and of those that it has left: they
+-- rise, and no number is in both.
 pub record AreDealt (worker : ℕ) (taken : List ℕ) (pushed left : List Job) : Type 0 where
   pub rising : IsRising taken
   pub pushed_rise : IsRising (numbers_of pushed)
@@ -56,7 +56,7 @@ pub record IsAtWork (room : Room) (held : ℕ) (desk : Desk) : Type 0 where
   pub taken : length (view desk.passes.jobs).taken ≡ desk.taken
   pub pushed : length (view desk.passes.outs).pushed ≡ desk.pushed
   pub accounted : desk.taken ≡ desk.pushed + desk.given_up + vec_len desk.left + held
-  pub places : 64 ≤ vec_capacity desk.left
+  pub slots : 64 ≤ vec_capacity desk.left
 
 abbrev pub IsDealt : Desk → Type 0
 IsDealt desk = AreDealt desk.passes.number (view desk.passes.jobs).taken (view desk.passes.outs).pushed desk.left.items
@@ -68,7 +68,7 @@ pub record HasInHand (desk : Desk) (job : Job) : Type 0 where
   pub above_pushed : AllByRecursion (λ n. n < job.number) (numbers_of (view desk.passes.outs).pushed)
   pub above_left : AllByRecursion (λ n. n < job.number) (numbers_of desk.left.items)
 
--- The outcome was pushed, or it is left because there was no place for it.
+-- The outcome was pushed, or it is left because there was no slot for it.
 abbrev pub IsHandedOut : Desk → Job → Desk → Type 0
 IsHandedOut old out new =
     (((view new.passes.outs).pushed ≡ (view old.passes.outs).pushed ++ out ∷ []) × (new.left.items ≡ old.left.items))

@@ -11,7 +11,7 @@ use crate::parts::{Board, BoardEnd, Room};
 use bucket_merge::MergeJob;
 use std::sync::{OnceToken, Wait};
 
-/// The number behind `posted`. It waits for ever where there is none.
+/// The number after `posted`. It waits for ever where there is none.
 fn next_number<R: Wait>(rt: &R, posted: u64) -> u64
     ensures { result ≡ posted + 1 }
 {
@@ -24,7 +24,7 @@ fn next_number<R: Wait>(rt: &R, posted: u64) -> u64
 }
 
 impl Board {
-    /// Numbers a job, from 1 on, and puts it behind those that wait. It comes back where 64 jobs waited. It takes no
+    /// Numbers a job, from 1 on, and puts it after those that wait. It comes back where 64 jobs waited. It takes no
     /// memory.
     pub fn post<R: Wait>(&mut self, rt: &R, room: &Room, job: MergeJob) -> Result<u64, MergeJob>
         requires { IsBoardIn room.now self.old }
@@ -53,7 +53,7 @@ impl Board {
         }
     }
 
-    /// Sets the room's closing mark, and tells what shows that it is set: no more jobs will be posted. It takes no
+    /// Sets the room's closing mark, and answers what shows that it is set: no more jobs will be posted. It takes no
     /// memory.
     pub fn shut<'r, R: Wait>(self, rt: &R, room: &'r Room) -> (BoardEnd, OnceToken<'r, ()>)
         requires { IsBoardIn room.now self }

@@ -14,7 +14,7 @@ use std::sync::ledger::Ledger;
 use std::sync::{OnceToken, Wait};
 use std::thread;
 
-/// How many outcomes a worker may have left, for which there was no place in the queue.
+/// How many outcomes a worker may have left, for which there was no slot in the queue.
 const LEFT: usize = 64;
 
 /// A worker at work.
@@ -56,11 +56,11 @@ impl Desk {
         Some(job)
     }
 
-    /// Pushes an outcome, or leaves it where there is no place for it.
+    /// Pushes an outcome, or leaves it where there is no slot for it.
     fn push_out<R: Wait>(&mut self, rt: &R, room: &Room, out: MergeOut)
         requires at_work { IsAtWork room.now 1 self.old }
         requires in_hand { HasInHand self.old out }
-        requires place { vec_len self.old.left < 64 }
+        requires index { vec_len self.old.left < 64 }
         ensures at_work { IsAtWork room.now 0 self.new }
         ensures dealt { IsDealt self.new }
         ensures out { IsHandedOut self.old out self.new }
@@ -80,7 +80,7 @@ impl Desk {
     fn hand_out<R: Wait>(&mut self, rt: &R, room: &Room, made: Result<MergeOut, MergeBack>)
         requires at_work { IsAtWork room.now 1 self.old }
         requires in_hand { MatchResult made (HasInHand self.old) (λ back. HasInHand self.old back.job) }
-        requires place { vec_len self.old.left < 64 }
+        requires index { vec_len self.old.left < 64 }
         ensures at_work { IsAtWork room.now 0 self.new }
         ensures dealt { IsDealt self.new }
         ensures out { IfOk made (λ out. IsHandedOut self.old out self.new) }
@@ -95,7 +95,7 @@ impl Desk {
     }
 
     /// One turn. It is the last one where the worker may leave no more outcomes, and where the closing mark was set, as
-    /// the token shows, and behind that no job waited.
+    /// the token shows, and after that no job waited.
     pub(crate) fn turn<'r, R: Wait, G: Gate, L: Ledger>(
         &mut self,
         rt: &R,
@@ -105,7 +105,7 @@ impl Desk {
     ) -> Option<Option<OnceToken<'r, ()>>>
         requires at_work { IsAtWork room.now 0 self.old }
         requires dealt { IsDealt self.old }
-        requires place { vec_len self.old.left < 64 }
+        requires index { vec_len self.old.left < 64 }
         ensures at_work { IsAtWork room.now 0 self.new }
         ensures dealt { IsDealt self.new }
         ensures more { IfNone result (vec_len self.new.left < 64) }

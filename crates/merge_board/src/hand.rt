@@ -76,9 +76,9 @@ impl Outcome<MergeJob, Hand> for Takes {
 }
 
 impl Lesson<MergeJob, Hand> for Takes {
-    ghost use Rattle.merge_board.specs.JobOrder.{WaitingBehind};
+    ghost use Rattle.merge_board.specs.JobOrder.{WaitingAfter};
 
-    ghost fact = { λ v jobs. WaitingBehind v.taken jobs };
+    ghost fact = { λ v jobs. WaitingAfter v.taken jobs };
 }
 
 /// How many jobs were taken, at most.

@@ -79,9 +79,9 @@ impl Outcome<Sent, Log> for Pushes {
 }
 
 impl Lesson<Sent, Log> for Pushes {
-    ghost use Rattle.merge_board.specs.OutOrder.{QueuedBehind};
+    ghost use Rattle.merge_board.specs.OutOrder.{QueuedAfter};
 
-    ghost fact = { λ v sent. QueuedBehind v.worker v.pushed sent };
+    ghost fact = { λ v sent. QueuedAfter v.worker v.pushed sent };
 }
 
 /// An outcome is collected.

@@ -14,8 +14,8 @@ use crossbeam_queue::Pass;
 use std::alloc::{AllocError, Global};
 use std::sync::OnceLock;
 
-/// How many jobs, how many outcomes, and how many outcomes of one worker for which there was no place, may wait.
-const PLACES: usize = 64;
+/// How many jobs, how many outcomes, and how many outcomes of one worker for which there was no slot, may wait.
+const CAPACITY: usize = 64;
 
 /// One more worker of the room.
 fn hire(
@@ -39,7 +39,7 @@ fn hire(
     ensures gatherer { OnOk result (view gatherer.new
         ≡ record (view gatherer.old) { parts = (view gatherer.old).parts - 1; made = number + 1 }) }
 {
-    let left = Vec::with_capacity(alloc, PLACES)?;
+    let left = Vec::with_capacity(alloc, CAPACITY)?;
     let jobs = room.jobs.another::<hand::Hires>(poster);
     let outs = room.outs.another::<log::Hires>(gatherer);
     Ok(Worker {
@@ -82,8 +82,8 @@ pub fn make(alloc: Global, workers: u32) -> Result<Parts, AllocError>
     requires few { workers ≤ 8 }
     ensures { IfOk result (AreParts workers) }
 {
-    let (jobs, mut poster) = JobQueue::ruled(alloc, PLACES)?;
-    let (outs, mut gatherer) = OutQueue::ruled(alloc, PLACES)?;
+    let (jobs, mut poster) = JobQueue::ruled(alloc, CAPACITY)?;
+    let (outs, mut gatherer) = OutQueue::ruled(alloc, CAPACITY)?;
     let room = Room {
         jobs,
         outs,

@@ -26,8 +26,8 @@ pub struct Room {
     pub(crate) jobs: JobQueue,
     pub(crate) outs: OutQueue,
     pub(crate) closed: OnceLock<()>,
-    ghost job_places: { ruled_capacity jobs ≡ 64 },
-    ghost out_places: { ruled_capacity outs ≡ 64 },
+    ghost job_capacity: { ruled_capacity jobs ≡ 64 },
+    ghost out_capacity: { ruled_capacity outs ≡ 64 },
 }
 
 /// The right to post jobs.
@@ -66,11 +66,11 @@ pub struct Worker {
     ghost took_none: { view passes.jobs ≡ new_hand },
     ghost pushed_none: { view passes.outs ≡ new_log passes.number },
     ghost none_left: { left.items ≡ [] },
-    ghost places: { 64 ≤ vec_capacity left },
+    ghost slots: { 64 ≤ vec_capacity left },
 }
 
 /// A worker that has ended: how many jobs it took, how many of their outcomes it pushed, how many jobs were given up
-/// because memory was refused, and the outcomes for which there was no place in the queue.
+/// because memory was refused, and the outcomes for which there was no slot in the queue.
 #[derive(Drop)]
 pub struct WorkerEnd {
     pub taken: u64,

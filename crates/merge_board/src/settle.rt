@@ -47,7 +47,7 @@ impl Room {
         self.outs.absorb::<log::TakesIn>(log, outs);
     }
 
-    /// Takes in the passes of all workers, and tells how many jobs they took and how many outcomes they pushed.
+    /// Takes in the passes of all workers, and answers how many jobs they took and how many outcomes they pushed.
     fn take_in_all(
         &self,
         hand: &mut Pass<MergeJob, Hand>,

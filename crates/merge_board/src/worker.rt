@@ -11,7 +11,7 @@ use std::sync::ledger::Ledger;
 use std::sync::{OnceToken, Wait};
 
 impl Worker {
-    /// Works until the board is closed and no job waits, or until 64 outcomes found no place. It tells what shows that
+    /// Works until the board is closed and no job waits, or until 64 outcomes found no slot. It answers what shows that
     /// the closing mark was set, if that is why it ended.
     pub fn run_to_end<'r, R: Wait, G: Gate, L: Ledger>(
         self,
@@ -43,7 +43,7 @@ impl Worker {
     }
 
     /// Takes jobs, passes the gate before each, makes the merges and pushes their outcomes. It ends where the board was
-    /// closed and then no job waited, and where 64 outcomes found no place.
+    /// closed and then no job waited, and where 64 outcomes found no slot.
     pub fn run<R: Wait, G: Gate, L: Ledger>(
         self,
         rt: &R,

@@ -1,26 +1,16 @@
--- What stands above a key in the order of keys, and the offers of an account there.
-use Rattle.std.proofs.Common.{◌≡◌, ◌≢◌, refl, sym, ap, ◌∙◌, Bool, true, false, cond, ◌&&◌, T}
-use Rattle.std.proofs.Common.{List, [], ◌∷◌, Option, Some, None}
-use Rattle.std.specs.declared.cmp.Ordering.{Ordering}
-use Rattle.std.specs.declared.cmp.Ordering.TheVariants.{Less, Equal, Greater}
-use Rattle.std.specs.Ordering.{is_lt, is_eq, eq_by_cmp}
-use Rattle.std.specs.Cmp.{tied_itself}
-use Rattle.std.specs.FinMap.{find, entries, entries_sorted, get-entries}
-use Rattle.std.specs.FinMap.Entries.{is_sorted, below_all}
-use Rattle.entry_map.proofs.shared_tree_proofs.Parts.{both, first, second, is_less, greater, turned}
-use Rattle.entry_map.proofs.shared_tree_proofs.Changed.{none_above, below_less, below_tied}
-use Rattle.ledger_types.specs.declared.entry.LedgerEntry.{LedgerEntry}
-use Rattle.ledger_types.specs.declared.key.LedgerKey.{LedgerKey}
-use Rattle.ledger_types.specs.Keys.{key_of}
-use Rattle.ledger_types.specs.KeyOrder.{key_cmp}
-use Rattle.ledger_types.proofs.KeyOrdering.{keys_total, keys_exact}
-use Rattle.entry_map.specs.EntryMap.{EntryMap, IsLeastAbove, IsNextAfter}
-use Rattle.offer_book.specs.Sold.{above}
+-- What is above a key in the order of keys, and the offers of an account there.
+use Rattle.offer_book.proofs.Prelude.{◌≡◌, ◌≢◌, refl, sym, ap, ◌∙◌, Bool, true, false, cond, ◌&&◌, T, List, [], ◌∷◌}
+use Rattle.offer_book.proofs.Prelude.{Option, Some, None, Ordering, Less, Equal, Greater, is_lt, is_eq, eq_by_cmp}
+use Rattle.offer_book.proofs.Prelude.{tied_itself, find, entries, entries_sorted, get-entries, is_sorted, below_all}
+use Rattle.offer_book.proofs.Prelude.{both, first, second, is_less, greater, turned, none_above, LedgerEntry, LedgerKey}
+use Rattle.offer_book.proofs.Prelude.{key_of, key_cmp, keys_total, keys_exact, EntryMap, IsLeastAbove, IsNextAfter}
+use Rattle.offer_book.proofs.Prelude.{above, found_first}
+use Rattle.entry_map.proofs.shared_tree_proofs.Changed.{below_less, below_tied}
 
 abbrev pub Pairs : Type 0
 Pairs = List (LedgerKey × LedgerEntry)
 
--- ---- what stands above a key
+-- ---- what is above a key
 
 all_above : (k : LedgerKey) (es : Pairs) → T (below_all key_cmp k es) → above k es ≡ es
 all_above k [] h = refl
@@ -37,9 +27,6 @@ not_none false v o h e = h e
 later_none : (b : Bool) (v : LedgerEntry) (o : Option LedgerEntry) → cond b (Some v) o ≡ None → o ≡ None
 later_none true v o h = absurd (cc)
 later_none false v o h = h
-
-pub found_first : (x : LedgerKey × LedgerEntry) (xs : Pairs) → find key_cmp x.0 (x ∷ xs) ≡ Some x.1
-found_first x xs = ap (λ o. cond (is_eq o) (Some x.1) (find key_cmp x.0 xs)) (tied_itself keys_total x.0)
 
 pub skipped : (k : LedgerKey) (x : LedgerKey × LedgerEntry) (xs : Pairs) → key_cmp k x.0 ≢ Less
     → above k (x ∷ xs) ≡ above k xs
@@ -59,7 +46,7 @@ equal_not e = cc
 greater_not : Greater ≢ Less
 greater_not e = cc
 
--- nothing stands above a key
+-- nothing is above a key
 none_higher : (k : LedgerKey) (es : Pairs)
     → ((q : LedgerKey) → key_cmp k q ≡ Less → find key_cmp q es ≡ None) → above k es ≡ []
 none_higher k [] none = refl
@@ -119,7 +106,7 @@ module _ (k : LedgerKey) (e : LedgerEntry) (x : LedgerKey
     | Greater ↦ λ over. absurd (least x.0 up (λ none. absurd (cc (none, found_first x xs))) over)
   ] refl
 
--- the least entry above a key is the first of what stands there
+-- the least entry above a key is the first of what is there
 least_first : (k : LedgerKey) (e : LedgerEntry) (es : Pairs) → T (is_sorted key_cmp es)
     → find key_cmp (key_of e) es ≡ Some e → key_cmp k (key_of e) ≡ Less
     → ((q : LedgerKey) → key_cmp k q ≡ Less → find key_cmp q es ≢ None → key_cmp (key_of e) q ≢ Greater)

@@ -1,41 +1,19 @@
 -- The offers of an account among entries.
-use Rattle.std.proofs.Common.{◌≡◌, ◌≢◌, refl, sym, ap, ◌∙◌, arith, Bool, true, false, cond, T, ℤ, pos, ◌<◌, ◌≤ℤ◌}
-use Rattle.std.proofs.Common.{List, [], ◌∷◌, map, length, All, Option, Some, None, IfSome}
-use Rattle.std.specs.List.{cons_option}
-use Rattle.std.specs.declared.cmp.Ordering.{Ordering}
-use Rattle.std.specs.declared.cmp.Ordering.TheVariants.{Less, Equal, Greater}
-use Rattle.std.specs.Ordering.{is_eq, eq_by_cmp, ordering_reverse, ordering_then, int_cmp}
-use Rattle.std.specs.Cmp.{Equal-is, tied_itself, int_cmp_is}
-use Rattle.std.specs.FinMap.{get, find, entries, entries_sorted, get-entries}
-use Rattle.std.specs.FinMap.Entries.{is_sorted}
-use Rattle.std.proofs.lemmas.List.Elements.{All-nil, All-cons, All-head, All-tail}
-use Rattle.std.proofs.lemmas.Map.Lookups.{exact_bytes}
+use Rattle.offer_book.proofs.Prelude as prelude
+use prelude.{◌≡◌, ◌≢◌, refl, sym, ap, ◌∙◌, arith, Bool, true, false, cond, T, ℤ, pos, ◌<◌, ◌≤ℤ◌, List, [], ◌∷◌, map}
+use prelude.{length, All, Option, Some, None, IfSome, cons_option, Less, Equal, Greater, is_eq, ordering_then, int_cmp}
+use prelude.{int_cmp_is, get, find, entries, entries_sorted, get-entries, is_sorted, All-nil, All-cons, All-head}
+use prelude.{All-tail, first, second, LedgerEntry, LedgerKey, key_of, key_of_body, account_cmp, key_cmp, EntryMap}
+use prelude.{IsKeyed, IsLeastAbove, IsNextAfter, offer_in, offers_in, above, left, sold_in, IsSoldIn, IsNextSold}
+use prelude.{found_first, found_later, account_cmp_itself, exact_accounts, same_from_both_orders, if_some_at}
 use Rattle.std.proofs.lemmas.Int.{ints}
-use Rattle.std.proofs.lemmas.Cmp.{nat_list_cmp_total}
-use Rattle.entry_map.proofs.shared_tree_proofs.Parts.{first, second}
-use Rattle.entry_map.proofs.shared_tree_proofs.Changed.{none_above}
 use Rattle.ledger_types.specs.declared.ids.AccountId.{AccountId}
 use Rattle.ledger_types.specs.declared.offer.OfferEntry.{OfferEntry}
-use Rattle.ledger_types.specs.declared.entry.LedgerEntry.{LedgerEntry}
 use Rattle.ledger_types.specs.declared.entry.LedgerEntryBody.{LedgerEntryBody}
 use Rattle.ledger_types.specs.declared.entry.LedgerEntryBody.TheVariants as body
-use Rattle.ledger_types.specs.declared.key.LedgerKey.{LedgerKey}
 use Rattle.ledger_types.specs.declared.key.LedgerKey.TheVariants as key
-use Rattle.ledger_types.specs.Keys.{key_of, key_of_body}
-use Rattle.ledger_types.specs.KeyOrder.{account_cmp, key_cmp}
-use Rattle.ledger_types.proofs.KeyOrdering.{keys_total}
-use Rattle.entry_map.specs.EntryMap.{EntryMap, IsKeyed, IsLeastAbove, IsNextAfter}
-use Rattle.entry_map.specs.Book.{offer_in, offers_in}
-use Rattle.entry_map.proofs.Layers.{is_some_of}
 use Rattle.offer_book.specs.Book.{sold_by, offers_by, AreNumbered}
-use Rattle.offer_book.specs.Sold.{above, left, sold_in, IsSoldIn, IsNextSold}
-use Rattle.offer_book.proofs.Above.{Pairs, found_first, skipped, taken, nothing_left, next_left}
-
-pub same_account : (a b : AccountId) → account_cmp a b ≡ Equal → a ≡ b
-same_account a b h = ap (λ k. record { 0 = k }) (exact_bytes a.0 b.0 h)
-
-account_itself : (a : AccountId) → account_cmp a a ≡ Equal
-account_itself a = tied_itself nat_list_cmp_total a.0
+use Rattle.offer_book.proofs.Above.{Pairs, skipped, taken, nothing_left, next_left}
 
 pub offer_key : (b : LedgerEntryBody) (o : OfferEntry) → offer_in b ≡ Some o
     → key_of_body b ≡ key.Offer o.seller_id o.offer_id
@@ -46,14 +24,14 @@ offer_key (body.Data a) o h = absurd (cc)
 offer_key (body.ClaimableBalance a) o h = absurd (cc)
 offer_key (body.LiquidityPool a) o h = absurd (cc)
 
--- ---- one entry in front of others
+-- ---- one entry before others
 
 pub first_sold : (s : AccountId) (x : LedgerKey × LedgerEntry) (o : OfferEntry) (xs : Pairs)
     → offer_in x.1.body ≡ Some o
     → o.seller_id ≡ s → sold_in s (x ∷ xs) ≡ o ∷ sold_in s xs
 first_sold s x o xs is same = ap (λ y. sold_by s (cons_option y (offers_in (map (λ pair. pair.1) xs)))) is
     ∙ ap (λ b. cond b (o ∷ sold_in s xs) (sold_in s xs))
-    (ap is_eq (ap (λ a. account_cmp a s) same ∙ account_itself s))
+    (ap is_eq (ap (λ a. account_cmp a s) same ∙ account_cmp_itself s))
 
 not_taken : (b : Bool) (o : OfferEntry) (r : List OfferEntry) → cond b (o ∷ []) [] ≡ [] → cond b (o ∷ r) r ≡ r
 not_taken true o r h = absurd (cc)
@@ -75,7 +53,7 @@ by_offer s k (body.Offer o) own never = elim (account_cmp o.seller_id s) as (λ 
     → cond (is_eq r) (o ∷ []) [] ≡ []) [
       | Less ↦ λ _. refl
       | Equal ↦ λ e. absurd
-          (never o.offer_id (sym own ∙ ap (λ a. key.Offer a o.offer_id) (same_account o.seller_id s e)))
+          (never o.offer_id (sym own ∙ ap (λ a. key.Offer a o.offer_id) (exact_accounts o.seller_id s e)))
       | Greater ↦ λ _. refl
     ] refl
 by_offer s k (body.Account a) own never = refl
@@ -88,28 +66,19 @@ by_key : (s : AccountId) (b : LedgerEntryBody) (n : ℤ) → sold_by s (cons_opt
     → key_of_body b ≢ key.Offer s n
 by_key s (body.Offer o) n none e =
     let same : o.seller_id ≡ s = cc e in
-    absurd (cc (none, ap (λ b. cond b (o ∷ []) []) (ap is_eq (ap (λ a. account_cmp a s) same ∙ account_itself s))))
+    absurd (cc (none, ap (λ b. cond b (o ∷ []) []) (ap is_eq (ap (λ a. account_cmp a s) same ∙ account_cmp_itself s))))
 by_key s (body.Account a) n none e = absurd (cc)
 by_key s (body.TrustLine a) n none e = absurd (cc)
 by_key s (body.Data a) n none e = absurd (cc)
 by_key s (body.ClaimableBalance a) n none e = absurd (cc)
 by_key s (body.LiquidityPool a) n none e = absurd (cc)
 
--- ---- the keys of an account's offers stand side by side
-
-between : (s a : AccountId) (x y : Ordering) → ordering_then (account_cmp s a) x ≡ Less
-    → ordering_then (account_cmp a s) y ≡ Less → a ≡ s
-between s a x y up down = elim (account_cmp s a) as (λ r. account_cmp s a ≡ r → ordering_then r x ≡ Less → a ≡ s) [
-  | Less ↦ λ e _. absurd
-      (cc (down, ap (λ r. ordering_then r y) (nat_list_cmp_total.antisymm a.0 s.0 ∙ ap ordering_reverse e)))
-  | Equal ↦ λ e _. sym (same_account s a e)
-  | Greater ↦ λ _ g. absurd (cc)
-] refl up
+-- ---- the keys of an account's offers are side by side
 
 side_by_side : (s : AccountId) (i j : ℤ) (q : LedgerKey) → key_cmp (key.Offer s i) q ≡ Less
     → key_cmp q (key.Offer s j) ≡ Less → (n : ℤ) × (q ≡ key.Offer s n)
 side_by_side s i j (key.Offer a n) up down =
-    (n, ap (λ b. key.Offer b n) (between s a (int_cmp i n) (int_cmp n j) up down))
+    (n, ap (λ b. key.Offer b n) (same_from_both_orders s a (int_cmp i n) (int_cmp n j) up down))
 side_by_side s i j (key.Account a) up down = absurd (cc)
 side_by_side s i j (key.TrustLine a l) up down = absurd (cc)
 side_by_side s i j (key.Data a n) up down = absurd (cc)
@@ -119,7 +88,7 @@ side_by_side s i j (key.LiquidityPool b) up down = absurd (cc)
 abbrev pub IsOwn : LedgerKey × LedgerEntry → Type 0
 IsOwn x = key_of x.1 ≡ x.0
 
--- behind a key that is none of the account's there are none of its offers
+-- after a key that is none of the account's there are none of its offers
 none_sold : (s : AccountId) (i : ℤ) (q : LedgerKey) (es : Pairs) → All IsOwn es → key_cmp (key.Offer s i) q ≡ Less
     → ((n : ℤ) → q ≢ key.Offer s n) → sold_in s (above q es) ≡ []
 none_sold s i q [] own up never = refl
@@ -133,15 +102,7 @@ none_sold s i q (x ∷ xs) own up never =
       | Greater ↦ λ e. ap (sold_in s) (skipped q x xs (λ lt. absurd (cc (e, lt)))) ∙ later
     ] refl
 
--- ---- each entry of a map stands under its own key
-
-found_later : (x : LedgerKey × LedgerEntry) (xs : Pairs) (k : LedgerKey) (e : LedgerEntry)
-    → T (is_sorted key_cmp (x ∷ xs)) → find key_cmp k xs ≡ Some e → find key_cmp k (x ∷ xs) ≡ Some e
-found_later x xs k e h f = elim (eq_by_cmp key_cmp k x.0) as (λ b. eq_by_cmp key_cmp k x.0 ≡ b
-    → cond b (Some x.1) (find key_cmp k xs) ≡ Some e) [
-      | true ↦ λ t. absurd (cc (f, none_above keys_total k x.0 xs ((Equal-is (key_cmp k x.0)).0 t) (first _ _ h)))
-      | false ↦ λ t. f
-    ] refl
+-- ---- each entry of a map is under its own key
 
 own_listed : (es : Pairs) → T (is_sorted key_cmp es)
     → ((k : LedgerKey) (e : LedgerEntry) → find key_cmp k es ≡ Some e → key_of e ≡ k) → All IsOwn es
@@ -151,7 +112,7 @@ own_listed (x ∷ xs) h own = All-cons IsOwn x xs (own x.0 x.1 (found_first x xs
 
 pub all_own : (m : EntryMap) → IsKeyed m → All IsOwn (entries m)
 all_own m keyed = own_listed (entries m) (entries_sorted m)
-    (λ k e f. is_some_of (λ x. key_of x ≡ k) (get m k) e (keyed k) (get-entries m k ∙ f))
+    (λ k e f. if_some_at (λ x. key_of x ≡ k) (get m k) e (keyed k) (get-entries m k ∙ f))
 
 -- ---- the next offer of an account
 
@@ -198,7 +159,7 @@ with_first s x xs ys same = with_option s (offer_in x.1.body) (offers_in (map (�
 -- ---- all offers of an account have ids above 0
 
 pub low_key : (s : AccountId) (n : ℤ) → pos 1 ≤ℤ n → key_cmp (key.Offer s (pos 0)) (key.Offer s n) ≡ Less
-low_key s n h = ap (λ r. ordering_then r (int_cmp (pos 0) n)) (account_itself s)
+low_key s n h = ap (λ r. ordering_then r (int_cmp (pos 0) n)) (account_cmp_itself s)
     ∙ sym (int_cmp_is (pos 0) n Less (omega (arith, ints)))
 
 low_by : (s : AccountId) (x : LedgerKey × LedgerEntry) (xs : Pairs) (b : LedgerEntryBody) → x.1.body ≡ b
@@ -208,7 +169,7 @@ low_by s x xs (body.Offer o) is own low past = elim (account_cmp o.seller_id s) 
     → cond (is_eq r) (o ∷ []) [] ≡ []) [
       | Less ↦ λ _. refl
       | Equal ↦ λ e. absurd (past (ap (key_cmp (key.Offer s (pos 0))) (sym own
-          ∙ ap (λ a. key.Offer a o.offer_id) (same_account o.seller_id s e)) ∙ low_key s o.offer_id low))
+          ∙ ap (λ a. key.Offer a o.offer_id) (exact_accounts o.seller_id s e)) ∙ low_key s o.offer_id low))
       | Greater ↦ λ _. refl
     ] refl
 low_by s x xs (body.Account a) is own low past = refl

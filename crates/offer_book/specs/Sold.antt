@@ -1,4 +1,4 @@
--- The offers of an account behind one of its ids.
+-- The offers of an account after one of its ids.
 use Rattle.std.specs.Prelude.{◌≡◌, ◌<◌, ℤ, List, [], ◌∷◌, map, length, Option, Some, None}
 use Rattle.std.specs.List.{filter}
 use Rattle.std.specs.Ordering.{is_lt}
@@ -13,7 +13,7 @@ use Rattle.entry_map.specs.EntryMap.{EntryMap, IsKeyed}
 use Rattle.entry_map.specs.Book.{offer_in, offers_in}
 use Rattle.offer_book.specs.Book.{sold_by}
 
--- what stands above a key
+-- what is above a key
 abbrev pub above : LedgerKey → List (LedgerKey × LedgerEntry) → List (LedgerKey × LedgerEntry)
 above k pairs = filter (λ pair. is_lt (key_cmp k pair.0)) pairs
 
@@ -29,7 +29,7 @@ abbrev pub IsSoldIn : LedgerEntry → AccountId → Option OfferEntry → Type 0
 IsSoldIn entry seller None = sold_by seller (offers_in (entry ∷ [])) ≡ []
 IsSoldIn entry seller (Some offer) = (offer_in entry.body ≡ Some offer) × (offer.seller_id ≡ seller)
 
--- an offer is the account's first behind an id
+-- an offer is the account's first after an id
 pub record IsFirstSold (m : EntryMap) (seller : AccountId) (id : ℤ) (offer : OfferEntry) : Type 0 where
   pub first : sold_in seller (left m seller id) ≡ offer ∷ sold_in seller (left m seller offer.offer_id)
   pub fewer : length (left m seller offer.offer_id) < length (left m seller id)

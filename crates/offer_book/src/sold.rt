@@ -33,7 +33,7 @@ fn offer_key(seller_id: AccountId, offer_id: i64) -> LedgerKey
     }
 }
 
-/// The first offer of an account behind an id.
+/// The first offer of an account after an id.
 fn next_sold<B: Base>(
     entries: &Entries<'_, B>,
     seller: &AccountId,

@@ -1,20 +1,13 @@
 -- What an adjusted amount binds, and that it stays as it is.
-use Rattle.std.proofs.Common.{◌≡◌, refl, sym, ap, subst, ◌∙◌, ℕ, zero, suc, ◌+◌, ◌-◌, ◌*◌, ◌/◌, ◌≤◌, ◌<◌, arith}
-use Rattle.std.proofs.Common.{Bool, true, false, ◌||◌}
-use Rattle.std.proofs.Math.Nat.{min-le_left, min-le_right, min-eq_left, mul-div_cancel, mul-le-mul_right}
-use Rattle.std.proofs.Math.Nat.{mul-le-mul_left, lt_of_mul-lt-mul_right, lt-div-mul-add, div-eq_of_lt}
-use Rattle.std.proofs.lemmas.Bool.{ltb-true, ltb-false}
+use Rattle.offer_exchange.proofs.Prelude as prelude
+use prelude.{◌≡◌, refl, sym, ap, subst, ◌∙◌, ℕ, zero, suc, ◌+◌, ◌-◌, ◌*◌, ◌/◌, ◌≤◌, ◌<◌, arith, Bool, true, false, ◌||◌}
+use prelude.{min-le_left, min-le_right, min-eq_left, mul-div_cancel, mul-le-mul_right, mul-le-mul_left}
+use prelude.{lt_of_mul-lt-mul_right, lt-div-mul-add, div-eq_of_lt, ltb-true, ltb-false, min, nat_lt, nat_eq}
+use prelude.{if◌then◌else◌, Normal, Amounts, nothing, unlimited, offered, ceil_div, some_stays, used_up, wheat_stays}
+use prelude.{table, is_half, is_unfair, exchanged, unless_void, adjusted, liabilities, worth, wheat_then_down}
+use prelude.{sheep_then_up, IsBound, natural_at_most_trans}
 use Rattle.std.proofs.lemmas.Nat.{le-div}
-use Rattle.std.specs.Prelude.{min, nat_lt, nat_eq, if◌then◌else◌}
-use Rattle.offer_exchange.specs.declared.rounding.Rounding.TheVariants.{Normal}
-use Rattle.offer_exchange.specs.Exchange.{Amounts, nothing, unlimited, offered, ceil_div}
-use Rattle.offer_exchange.specs.Exchange.{some_stays, used_up, wheat_stays, table, is_half, is_unfair, exchanged}
-use Rattle.offer_exchange.specs.Exchange.{unless_void, adjusted, liabilities, worth, wheat_then_down, sheep_then_up}
-use Rattle.offer_exchange.specs.Laws.{IsBound}
 use Rattle.offer_exchange.proofs.Below.{whole_below, used_up_below}
-
-below : (x y z : ℕ) → x ≤ y → y ≤ z → x ≤ z
-below x y z first second = omega arith
 
 -- ---- no wheat of an offer stays where the taker has no bounds
 
@@ -78,7 +71,7 @@ module _ (n d v room : ℕ) (some_n : 1 ≤ n) (some_d : 1 ≤ d) (fits : v ≤ 
 
   wheat_again : min (wheat * n) (room * d) / n ≡ wheat
   wheat_again =
-      ap (λ x. x / n) (min-eq_left (below (wheat * n) v (room * d) (whole_below v n) fits))
+      ap (λ x. x / n) (min-eq_left (natural_at_most_trans (wheat * n) v (room * d) (whole_below v n) fits))
       ∙ mul-div_cancel wheat some_n
 
   -- the wheat for that sheep, rounded up
@@ -100,7 +93,7 @@ module _ (n d v room : ℕ) (some_n : 1 ≤ n) (some_d : 1 ≤ d) (fits : v ≤ 
   sheep_again : n ≤ d → min (dear * n) (room * d) / d ≡ sheep
   sheep_again cheap = same_quotient sheep (min (dear * n) (room * d)) d some_d
       (least_of (sheep * d) (dear * n) (room * d) dear_enough
-      (below (sheep * d) v (room * d) (whole_below v d) fits))
+      (natural_at_most_trans (sheep * d) v (room * d) (whole_below v d) fits))
       (next (min (dear * n) (room * d)) (min-le_left (dear * n) (room * d)) (not_too_dear cheap))
     where
       next : (x : ℕ) → x ≤ dear * n → dear * n < (sheep + 1) * d → x < (sheep + 1) * d
@@ -116,9 +109,9 @@ module _ (n d v room : ℕ) (some_n : 1 ≤ n) (some_d : 1 ≤ d) (fits : v ≤ 
 
   -- the wheat of it is worth no more than the room, where it is no more than what there is room for
   worth_by : (t : Bool) → nat_lt d n ≡ t → (used_by t n d v).wheat ≤ room → (used_by t n d v).wheat * n ≤ room * d
-  worth_by true is most = below (wheat * n) v (room * d) (whole_below v n) fits
+  worth_by true is most = natural_at_most_trans (wheat * n) v (room * d) (whole_below v n) fits
   worth_by false is most =
-      below (dear * n) (room * n) (room * d) (mul-le-mul_right n most) (mul-le-mul_left room (ltb-false d n is))
+      natural_at_most_trans (dear * n) (room * n) (room * d) (mul-le-mul_right n most) (mul-le-mul_left room (ltb-false d n is))
 
   pub worth_room : (used_up n d v).wheat ≤ room → (used_up n d v).wheat * n ≤ room * d
   worth_room = worth_by (nat_lt d n) refl
@@ -166,11 +159,11 @@ module _ (n d send receive : ℕ) (some_n : 1 ≤ n) (some_d : 1 ≤ d) (send_fi
   received = worth_received n d send receive
 
   within_sheep : all ≤ unlimited * d
-  within_sheep = below all (receive * d) (unlimited * d) received (mul-le-mul_right d receive_fits)
+  within_sheep = natural_at_most_trans all (receive * d) (unlimited * d) received (mul-le-mul_right d receive_fits)
 
   within_wheat : all ≤ unlimited * n
   within_wheat =
-      below all (send * n) (unlimited * n) (worth_sent n d send receive) (mul-le-mul_right n send_fits)
+      natural_at_most_trans all (send * n) (unlimited * n) (worth_sent n d send receive) (mul-le-mul_right n send_fits)
 
   its_table : table Normal n d (offered send receive) ≡ moved
   its_table = all_used n d send receive within_sheep within_wheat
@@ -179,7 +172,7 @@ module _ (n d send receive : ℕ) (some_n : 1 ≤ n) (some_d : 1 ≤ d) (send_fi
   sent = (used_up_below n d all send receive some_n some_d (worth_sent n d send receive) received).wheat
 
   moved_fits : moved.wheat ≤ unlimited
-  moved_fits = below moved.wheat send unlimited sent send_fits
+  moved_fits = natural_at_most_trans moved.wheat send unlimited sent send_fits
 
   moved_worth : moved.wheat * n ≤ unlimited * d
   moved_worth = worth_room n d all unlimited some_n some_d within_sheep moved_fits
@@ -188,9 +181,9 @@ module _ (n d send receive : ℕ) (some_n : 1 ≤ n) (some_d : 1 ≤ d) (send_fi
   again : (more : ℕ) → receive ≤ more → table Normal n d (offered moved.wheat more) ≡ moved
   again more room =
       all_used n d moved.wheat more
-      (below _ (moved.wheat * n) _ (worth_sent n d moved.wheat more) moved_worth)
-      (below _ (moved.wheat * n) _ (worth_sent n d moved.wheat more) (mul-le-mul_right n moved_fits))
-      ∙ used_up_again n d all more some_n some_d (below all (receive * d) (more * d) received (mul-le-mul_right d room))
+      (natural_at_most_trans _ (moved.wheat * n) _ (worth_sent n d moved.wheat more) moved_worth)
+      (natural_at_most_trans _ (moved.wheat * n) _ (worth_sent n d moved.wheat more) (mul-le-mul_right n moved_fits))
+      ∙ used_up_again n d all more some_n some_d (natural_at_most_trans all (receive * d) (more * d) received (mul-le-mul_right d room))
 
   abbrev is_void : Bool
   is_void = is_half Normal moved || is_unfair Normal n d moved

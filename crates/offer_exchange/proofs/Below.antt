@@ -1,11 +1,8 @@
 -- The rows of the table move no more than what they are worth.
-use Rattle.std.proofs.Common.{ℕ, ◌+◌, ◌-◌, ◌*◌, ◌/◌, ◌≤◌, ◌<◌, true, false, arith}
-use Rattle.std.proofs.Math.Nat.{div-le_of_le-mul, div-mul-le_self, lt_of_mul-lt-mul_right}
-use Rattle.std.specs.Prelude.{nat_lt, if◌then◌else◌}
-use Rattle.offer_exchange.specs.declared.rounding.Rounding.{Rounding}
-use Rattle.offer_exchange.specs.declared.rounding.Rounding.TheVariants.{Normal, StrictSend, StrictReceive}
-use Rattle.offer_exchange.specs.Exchange.{Amounts, ceil_div, wheat_then_up, wheat_then_down, sheep_then_up}
-use Rattle.offer_exchange.specs.Exchange.{sheep_then_down, used_up, some_stays}
+use Rattle.offer_exchange.proofs.Prelude.{ℕ, ◌+◌, ◌-◌, ◌*◌, ◌/◌, ◌≤◌, ◌<◌, true, false, arith, div-le_of_le-mul}
+use Rattle.offer_exchange.proofs.Prelude.{div-mul-le_self, lt_of_mul-lt-mul_right, nat_lt, if◌then◌else◌, Rounding}
+use Rattle.offer_exchange.proofs.Prelude.{Normal, StrictSend, StrictReceive, Amounts, ceil_div, wheat_then_up}
+use Rattle.offer_exchange.proofs.Prelude.{wheat_then_down, sheep_then_up, sheep_then_down, used_up, some_stays}
 
 -- what whole parts make up is no more than all
 pub whole_below : (v k : ℕ) → v / k * k ≤ v
@@ -20,17 +17,17 @@ down : (v x k : ℕ) → v ≤ x * k → v / k ≤ x
 down v x k most = div-le_of_le-mul k {m = v} {n = x} (swapped v x k most)
 
 below_next : (q v x k : ℕ) → 1 ≤ k → q * k ≤ v + (k - 1) → v ≤ x * k → q * k < (x + 1) * k
-below_next q v x k some whole most = omega arith
+below_next q v x k some entire most = omega arith
 
 not_past : (q x : ℕ) → q < x + 1 → q ≤ x
 not_past q x below = omega arith
 
-up : (v x k : ℕ) → 1 ≤ k → v ≤ x * k → ceil_div v k ≤ x
-up v x k some most = not_past (ceil_div v k) x (lt_of_mul-lt-mul_right k
+ceil_div_at_most : (v x k : ℕ) → 1 ≤ k → v ≤ x * k → ceil_div v k ≤ x
+ceil_div_at_most v x k some most = not_past (ceil_div v k) x (lt_of_mul-lt-mul_right k
     (below_next (ceil_div v k) v x k some (whole_below (v + (k - 1)) k) most))
 
-rest : (v k most : ℕ) → v ≤ most → v / k * k ≤ most
-rest v k most le = omega (arith, whole_below v k)
+quotient_times_at_most : (v k most : ℕ) → v ≤ most → v / k * k ≤ most
+quotient_times_at_most v k most le = omega (arith, whole_below v k)
 
 -- ---- rows
 
@@ -42,16 +39,16 @@ pub record AreAtMost (x y : ℕ) (a : Amounts) : Type 0 where
 -- v is worth at most x of wheat, and at most y of sheep
 module _ (n d v x y : ℕ) (some_n : 1 ≤ n) (some_d : 1 ≤ d) (wheat : v ≤ x * n) (sheep : v ≤ y * d) where
   wheat_up : AreAtMost x y (wheat_then_up n d v)
-  wheat_up = record { wheat = down v x n wheat; sheep = up (v / n * n) y d some_d (rest v n (y * d) sheep) }
+  wheat_up = record { wheat = down v x n wheat; sheep = ceil_div_at_most (v / n * n) y d some_d (quotient_times_at_most v n (y * d) sheep) }
 
   wheat_down : AreAtMost x y (wheat_then_down n d v)
-  wheat_down = record { wheat = down v x n wheat; sheep = down (v / n * n) y d (rest v n (y * d) sheep) }
+  wheat_down = record { wheat = down v x n wheat; sheep = down (v / n * n) y d (quotient_times_at_most v n (y * d) sheep) }
 
   sheep_up : AreAtMost x y (sheep_then_up n d v)
-  sheep_up = record { wheat = up (v / d * d) x n some_n (rest v d (x * n) wheat); sheep = down v y d sheep }
+  sheep_up = record { wheat = ceil_div_at_most (v / d * d) x n some_n (quotient_times_at_most v d (x * n) wheat); sheep = down v y d sheep }
 
   sheep_down : AreAtMost x y (sheep_then_down n d v)
-  sheep_down = record { wheat = down (v / d * d) x n (rest v d (x * n) wheat); sheep = down v y d sheep }
+  sheep_down = record { wheat = down (v / d * d) x n (quotient_times_at_most v d (x * n) wheat); sheep = down v y d sheep }
 
   pub used_up_below : AreAtMost x y (used_up n d v)
   used_up_below = elim (nat_lt d n) as (λ b. AreAtMost x y (if b then wheat_then_down n d v else sheep_then_up n d v)) [

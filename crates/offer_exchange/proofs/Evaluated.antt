@@ -1,9 +1,7 @@
 -- The definitions evaluated, on rows that a program worked out that follows the branches of stellar-core.
-use Rattle.std.proofs.Common.{◌≡◌, refl, ℕ, Bool, true, false, ◌&&◌}
-use Rattle.std.specs.Prelude.{nat_eq, not, if◌then◌else◌}
-use Rattle.offer_exchange.specs.declared.rounding.Rounding.{Rounding}
-use Rattle.offer_exchange.specs.declared.rounding.Rounding.TheVariants.{Normal, StrictSend, StrictReceive}
-use Rattle.offer_exchange.specs.Exchange.{Bounds, unlimited, wheat_stays, exchanged, adjusted, liabilities}
+use Rattle.offer_exchange.proofs.Prelude.{◌≡◌, refl, ℕ, Bool, true, false, ◌&&◌, nat_eq, not, if◌then◌else◌, Rounding}
+use Rattle.offer_exchange.proofs.Prelude.{Normal, StrictSend, StrictReceive, Bounds, unlimited, wheat_stays, exchanged}
+use Rattle.offer_exchange.proofs.Prelude.{adjusted, liabilities}
 
 are_same : Bool → Bool → Bool
 are_same a b = if a then b else not b

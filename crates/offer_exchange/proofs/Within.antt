@@ -1,26 +1,19 @@
 -- A trade stays within its bounds, before the zero rules and after.
-use Rattle.std.proofs.Common.{◌≡◌, refl, ℕ, ◌*◌, ◌≤◌, ◌<◌, Bool, true, false, ◌||◌, arith}
-use Rattle.std.proofs.Math.Nat.{min-le_left, min-le_right}
-use Rattle.std.proofs.lemmas.Bool.{ltb-true, ltb-false}
-use Rattle.std.specs.Prelude.{min, nat_lt, if◌then◌else◌}
-use Rattle.offer_exchange.specs.declared.rounding.Rounding.{Rounding}
-use Rattle.offer_exchange.specs.Exchange.{Bounds, Amounts, nothing, wheat_worth, sheep_worth, some_stays, used_up}
-use Rattle.offer_exchange.specs.Exchange.{wheat_stays, table, is_half, is_unfair, exchanged}
-use Rattle.offer_exchange.specs.Laws.{AreWithin}
+use Rattle.offer_exchange.proofs.Prelude as prelude
+use prelude.{◌≡◌, refl, ℕ, ◌*◌, ◌≤◌, ◌<◌, Bool, true, false, ◌||◌, arith, min-le_left, min-le_right, ltb-true}
+use prelude.{ltb-false, min, nat_lt, if◌then◌else◌, Rounding, Bounds, Amounts, nothing, wheat_worth, sheep_worth}
+use prelude.{some_stays, used_up, wheat_stays, table, is_half, is_unfair, exchanged, AreWithin, natural_at_most_trans}
 use Rattle.offer_exchange.proofs.Below.{AreAtMost, used_up_below, some_stays_below}
 
 -- the bounds of the offer's side and of the taker's
-both : (b : Bounds) (a : Amounts) → AreAtMost b.wheat_send b.sheep_receive a → AreAtMost b.wheat_receive b.sheep_send a
+within_both_bounds : (b : Bounds) (a : Amounts) → AreAtMost b.wheat_send b.sheep_receive a → AreAtMost b.wheat_receive b.sheep_send a
     → AreWithin b a
-both b a offer taker = record {
+within_both_bounds b a offer taker = record {
   wheat_send = offer.wheat;
   wheat_receive = taker.wheat;
   sheep_send = taker.sheep;
   sheep_receive = offer.sheep;
 }
-
-below : (x y z : ℕ) → x ≤ y → y ≤ z → x ≤ z
-below x y z first second = omega arith
 
 strictly : (x y : ℕ) → x < y → x ≤ y
 strictly x y lt = omega arith
@@ -49,16 +42,16 @@ module _ (rounding : Rounding) (n d : ℕ) (b : Bounds) (some_n : 1 ≤ n) (some
       → AreWithin b (if t then some_stays rounding n d sheep (min b.sheep_send b.sheep_receive) else used_up n d wheat)
   by_worth true is =
       let less = strictly sheep wheat (ltb-true sheep wheat is) in
-      both b _ (some_stays_below n d sheep b.wheat_send b.sheep_receive some_n some_d
-      (below sheep wheat _ less wheat_sent) (below sheep wheat _ less sheep_received) rounding _
+      within_both_bounds b _ (some_stays_below n d sheep b.wheat_send b.sheep_receive some_n some_d
+      (natural_at_most_trans sheep wheat _ less wheat_sent) (natural_at_most_trans sheep wheat _ less sheep_received) rounding _
       (min-le_right b.sheep_send b.sheep_receive))
       (some_stays_below n d sheep b.wheat_receive b.sheep_send some_n some_d wheat_received sheep_sent rounding _
       (min-le_left b.sheep_send b.sheep_receive))
   by_worth false is =
       let most = ltb-false sheep wheat is in
-      both b _ (used_up_below n d wheat b.wheat_send b.sheep_receive some_n some_d wheat_sent sheep_received)
-      (used_up_below n d wheat b.wheat_receive b.sheep_send some_n some_d (below wheat sheep _ most wheat_received)
-      (below wheat sheep _ most sheep_sent))
+      within_both_bounds b _ (used_up_below n d wheat b.wheat_send b.sheep_receive some_n some_d wheat_sent sheep_received)
+      (used_up_below n d wheat b.wheat_receive b.sheep_send some_n some_d (natural_at_most_trans wheat sheep _ most wheat_received)
+      (natural_at_most_trans wheat sheep _ most sheep_sent))
 
   pub table_within : AreWithin b (table rounding n d b)
   unfolding wheat_stays

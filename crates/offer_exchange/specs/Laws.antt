@@ -1,4 +1,4 @@
--- Laws of exchanges that crossing stands on.
+-- Laws of exchanges that crossing rests on.
 use Rattle.std.specs.Prelude.{◌≡◌, ℕ, ◌≤◌}
 use Rattle.offer_exchange.specs.Exchange.{Bounds, Amounts, adjusted, liabilities}
 

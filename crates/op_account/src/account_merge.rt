@@ -11,7 +11,7 @@ ghost use Rattle.op_account.specs.AccountMerge as spec;
 use entry_map::{Base, Entries};
 use entry_slots::{load_account, num_sponsoring};
 use ledger_types::{AccountEntry, AccountId, LedgerKey, Signer};
-use op_form::{credit_lumens, first_seq, is_open_sponsor, stands};
+use op_form::{credit_lumens, exists, first_seq, is_open_sponsor};
 use op_types::{AccountMergeOp, AccountMergeResult, OperationResult, OperationResultTr};
 use sponsor_rules::{Ctx, remove_entry, remove_signer};
 use std::alloc::AllocError;
@@ -34,7 +34,7 @@ pub fn account_merge<B: Base>(
     if destination.0 == ctx.op_source.0 {
         return Ok(answer(AccountMergeResult::Malformed));
     }
-    if !stands(entries, &destination)? {
+    if !exists(entries, &destination)? {
         return Ok(answer(AccountMergeResult::NoAccount));
     }
     let Some(slot) = load_account(entries, &ctx.op_source)? else {

@@ -13,7 +13,7 @@ ghost use Rattle.op_account.specs.CreateAccount as spec;
 use entry_map::{Base, Entries};
 use item_list::ItemList;
 use ledger_types::{AccountEntry, LedgerEntry, LedgerEntryBody};
-use op_form::{debit_lumens, fault_result, first_seq, settle, stands};
+use op_form::{debit_lumens, exists, fault_result, first_seq, settle};
 use op_types::{CreateAccountOp, CreateAccountResult, OperationResult, OperationResultTr};
 use sponsor_rules::{AddFault, Ctx, add_entry};
 use std::alloc::AllocError;
@@ -33,7 +33,7 @@ pub fn create_account<B: Base>(
     if op.starting_balance < 0 || op.destination.0 == ctx.op_source.0 {
         return Ok(answer(CreateAccountResult::Malformed));
     }
-    if stands(entries, &op.destination)? {
+    if exists(entries, &op.destination)? {
         return Ok(answer(CreateAccountResult::AlreadyExist));
     }
     add_and_pay(op, ctx, entries)

@@ -16,7 +16,7 @@ use op_types::{Operation, OperationBody, OperationResult};
 use sponsor_rules::Ctx;
 use std::alloc::AllocError;
 
-/// Applies an operation of `ctx.op_source`, which is an account that stands: it answers the result, and changes the
+/// Applies an operation of `ctx.op_source`, which is an existing account: it answers the result, and changes the
 /// entries. Where the operation fails, nothing has changed. Operations of other types are not supported here.
 #[tactic(auto, unfolding(crate::specs::Operations::account_operation))]
 pub fn apply<B: Base>(

@@ -1,51 +1,46 @@
 -- What a removal leaves of balances.
-use Rattle.std.proofs.Common.{ℕ, Option, Some, None}
-use Rattle.std.specs.FinMap.{get}
+use Rattle.op_claim.proofs.Prelude.{ℕ, Option, Some, None, get, EntryMap, with_account, with_less, KeepsCore}
+use Rattle.op_claim.proofs.Prelude.{BalancesAreInRange}
 use Rattle.ledger_types.specs.declared.ids.AccountId.{AccountId}
 use Rattle.ledger_types.specs.declared.account.AccountEntry.{AccountEntry}
 use Rattle.ledger_types.specs.declared.entry.LedgerEntry.{LedgerEntry}
 use Rattle.ledger_types.specs.declared.key.LedgerKey.{LedgerKey}
-use Rattle.entry_map.specs.EntryMap.{EntryMap}
-use Rattle.entry_slots.specs.Accounts.{with_account}
 use Rattle.entry_slots.specs.EntrySponsor.{sponsor_of}
 use Rattle.sponsor_rules.specs.declared.charge.Charge.{Charge}
 use Rattle.sponsor_rules.specs.declared.charge.Charge.TheVariants as charge
 use Rattle.sponsor_rules.specs.declared.count.Count.TheVariants.{SubEntries, Sponsored}
 use Rattle.sponsor_rules.specs.Charge.{charge_of}
-use Rattle.sponsor_rules.specs.Counting.{with_less}
-use Rattle.sponsor_rules.specs.Keeping.{KeepsMeans}
 use Rattle.sponsor_rules.specs.Paying.{map_after_releasing, without_subentry, with_less_paid}
 use Rattle.sponsor_rules.specs.Removing.{map_without_charge, map_after_removing_entry, map_after_removing}
-use Rattle.sponsor_rules.proofs.Keeping.{means_kept, means_kept_twice, with_count_means}
-use Rattle.op_form.specs.Premises.{BalancesAreInRange}
+use Rattle.sponsor_rules.proofs.Keeping.{core_kept, core_kept_twice, with_count_core}
 use Rattle.op_form.proofs.Balances.{account_changed, balances_erased}
-use Rattle.op_form.proofs.Ranges.{means_in_range}
+use Rattle.op_form.proofs.Ranges.{core_in_range}
 
 -- an account that keeps its means
-means_changed : (m : EntryMap) (id : AccountId) (f : AccountEntry → AccountEntry)
-    → ((a : AccountEntry) → KeepsMeans a (f a)) → BalancesAreInRange m → BalancesAreInRange (with_account m id f)
-means_changed m id f keeps all =
-    account_changed m id f (λ a stands. means_in_range a (f a) (keeps a) (all.accounts.in_range id a stands)) all
+core_changed : (m : EntryMap) (id : AccountId) (f : AccountEntry → AccountEntry)
+    → ((a : AccountEntry) → KeepsCore a (f a)) → BalancesAreInRange m → BalancesAreInRange (with_account m id f)
+core_changed m id f keeps all =
+    account_changed m id f (λ a exists. core_in_range a (f a) (keeps a) (all.accounts.in_range id a exists)) all
 
 released : (k : ℕ) (sponsor : Option AccountId) (m : EntryMap) → BalancesAreInRange m
     → BalancesAreInRange (map_after_releasing k sponsor m)
 released k None m all = all
-released k (Some sponsor) m all = means_changed m sponsor _ (λ a. with_count_means _ _ a) all
+released k (Some sponsor) m all = core_changed m sponsor _ (λ a. with_count_core _ _ a) all
 
-less_paid : (k : ℕ) (sponsor : Option AccountId) (a : AccountEntry) → KeepsMeans a (with_less_paid k sponsor a)
-less_paid k None a = means_kept a
-less_paid k (Some sponsor) a = with_count_means Sponsored _ a
+less_paid : (k : ℕ) (sponsor : Option AccountId) (a : AccountEntry) → KeepsCore a (with_less_paid k sponsor a)
+less_paid k None a = core_kept a
+less_paid k (Some sponsor) a = with_count_core Sponsored _ a
 
-less_of : (k : ℕ) (sponsor : Option AccountId) (a : AccountEntry) → KeepsMeans a (without_subentry k sponsor a)
+less_of : (k : ℕ) (sponsor : Option AccountId) (a : AccountEntry) → KeepsCore a (without_subentry k sponsor a)
 less_of k sponsor a =
-    means_kept_twice a (with_less SubEntries k a) (without_subentry k sponsor a) (with_count_means SubEntries _ a)
+    core_kept_twice a (with_less SubEntries k a) (without_subentry k sponsor a) (with_count_core SubEntries _ a)
     (less_paid k sponsor (with_less SubEntries k a))
 
 without_charge : (c : Charge) (sponsor : Option AccountId) (m : EntryMap) → BalancesAreInRange m
     → BalancesAreInRange (map_without_charge c sponsor m)
 without_charge (charge.Itself id) sponsor m all = released 2 sponsor m all
 without_charge (charge.Subentry owner k) sponsor m all =
-    means_changed (map_after_releasing k sponsor m) owner (without_subentry k sponsor) (less_of k sponsor)
+    core_changed (map_after_releasing k sponsor m) owner (without_subentry k sponsor) (less_of k sponsor)
     (released k sponsor m all)
 without_charge (charge.Payer k) sponsor m all = released k sponsor m all
 without_charge charge.Nobody sponsor m all = all

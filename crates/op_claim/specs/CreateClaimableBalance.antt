@@ -43,7 +43,7 @@ abbrev pub has_destination : List Claimant → Claimant → Bool
 has_destination claimants claimant =
     list_any (λ other. is_same_account claimant.destination other.destination) claimants
 
--- a destination stands twice
+-- a destination occurs twice
 unfoldable pub has_twice : List Claimant → Bool
 has_twice [] = false
 has_twice (claimant ∷ claimants) = has_destination claimants claimant || has_twice claimants

@@ -40,7 +40,7 @@ holds_at close_time predicate = holds_below close_time max_levels predicate
 abbrev pub least : ℤ → ℤ → ℤ
 least a b = if int_lt a b then a else b
 
--- so many seconds behind the close
+-- so many seconds after the close
 abbrev pub time_after : ℕ → ℤ → ℤ
 time_after close_time seconds = least (pos close_time +ℤ seconds) greatest_i64
 

@@ -45,7 +45,7 @@ fn answer(code: CreateClaimableBalanceResult) -> OperationResult
     OperationResult::Inner(OperationResultTr::CreateClaimableBalance(code))
 }
 
-/// Whether a destination stands among claimants.
+/// Whether a destination is among claimants.
 fn has_destination(claimants: &[Claimant], claimant: &Claimant) -> bool
     ensures { result ≡ spec.has_destination claimants.now claimant.now }
 {
@@ -54,7 +54,7 @@ fn has_destination(claimants: &[Claimant], claimant: &Claimant) -> bool
         .any(|other| claimant.destination.0 == other.destination.0)
 }
 
-/// Whether a destination stands twice.
+/// Whether a destination occurs twice.
 #[tactic(auto, unfolding(crate::specs::CreateClaimableBalance::has_twice))]
 fn has_twice(claimants: &[Claimant]) -> bool
     ensures { result ≡ spec.has_twice claimants.now }

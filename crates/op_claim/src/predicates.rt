@@ -48,7 +48,7 @@ fn holds_below(close_time: u64, levels: u32, predicate: &ClaimPredicate) -> bool
     }
 }
 
-/// So many seconds behind a time, at most the greatest time.
+/// So many seconds after a time, at most the greatest time.
 fn time_after(close_time: u64, seconds: i64) -> i64
     ensures { result ≡ spec.time_after close_time seconds }
 {

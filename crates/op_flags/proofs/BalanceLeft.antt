@@ -1,33 +1,14 @@
 -- A claimable balance that is added: what it leaves, and that it can be.
-use Rattle.std.proofs.Common.{◌≡◌, ◌≢◌, refl, sym, ap, subst, ◌∙◌, ℕ, ◌*◌, Bool, true, false, is_some, Option, Some}
-use Rattle.std.proofs.Common.{None, Ok, arith, ◌≤◌}
-use Rattle.std.specs.Prelude.{ℤ, pos, ◌+ℤ◌, ◌≤ℤ◌}
-use Rattle.std.specs.FinMap.{get}
-use Rattle.ledger_types.specs.declared.ids.AccountId.{AccountId}
+use Rattle.op_flags.proofs.Prelude.{◌≡◌, ◌≢◌, refl, sym, ap, subst, ◌∙◌, ℕ, ◌*◌, Bool, true, false, is_some, Option}
+use Rattle.op_flags.proofs.Prelude.{Some, None, Ok, arith, ◌≤◌, ℤ, pos, ◌+ℤ◌, ◌≤ℤ◌, get, AccountId, AccountEntry}
+use Rattle.op_flags.proofs.Prelude.{ClaimableBalanceEntry, LedgerEntry, key_of, key_of_body, EntryMap, put, account_at}
+use Rattle.op_flags.proofs.Prelude.{HasAccount, balance_at, balance_in, balance_of, with_sponsor, part, available, Ctx}
+use Rattle.op_flags.proofs.Prelude.{map_after_adding_balance, payer_by, payer_tests_at, map_after_charging}
+use Rattle.op_flags.proofs.Prelude.{balance_flags, held, flagged_ext, IsKeyed, under_key, Leaves, keeps_then}
+use Rattle.op_flags.proofs.Prelude.{accounts_kept, keyed_put, LedgerEntryBody, zero_add, unless_first_ok}
 use Rattle.ledger_types.specs.declared.ids.ClaimableBalanceId.{ClaimableBalanceId}
-use Rattle.ledger_types.specs.declared.account.AccountEntry.{AccountEntry}
-use Rattle.ledger_types.specs.declared.claimable_balance.ClaimableBalanceEntry.{ClaimableBalanceEntry}
-use Rattle.ledger_types.specs.declared.entry.LedgerEntry.{LedgerEntry}
-use Rattle.ledger_types.specs.Keys.{key_of, key_of_body}
-use Rattle.entry_map.specs.EntryMap.{EntryMap, put}
-use Rattle.entry_slots.specs.Accounts.{account_at, HasAccount}
-use Rattle.entry_slots.specs.Balances.{balance_at, balance_in, balance_of}
-use Rattle.entry_slots.specs.EntrySponsor.{with_sponsor}
-use Rattle.trade_cross.specs.entry_sums.Sums.{part}
-use Rattle.sponsor_rules.specs.reserve_rules.Reserve.{available}
-use Rattle.sponsor_rules.specs.declared.context.Ctx.{Ctx}
-use Rattle.sponsor_rules.specs.Adding.{map_after_adding_balance}
-use Rattle.sponsor_rules.specs.Payers.{payer_by, payer_tests_at}
-use Rattle.sponsor_rules.specs.Paying.{map_after_charging}
-use Rattle.trade_cross.specs.legal_rules.Ranges.{balance_flags}
-use Rattle.trade_cross.specs.legal_rules.Supply.{held}
-use Rattle.op_form.specs.Flags.{flagged_ext}
 use Rattle.trade_cross.proofs.legal_rules_proofs.ChargesLeft.{charging_kept, payer_had, put_beside}
-use Rattle.trade_cross.specs.legal_rules.Holdings.{IsKeyed, under_key}
-use Rattle.trade_cross.proofs.legal_rules_proofs.Holdings.{none_before, still_holds, put_holds}
-use Rattle.trade_cross.proofs.legal_rules_proofs.Leaving.{Leaves, keeps_then, accounts_kept, keyed_put}
-use Rattle.trade_cross.proofs.legal_rules_proofs.Passed.{passed}
-use Rattle.ledger_types.specs.declared.entry.LedgerEntryBody.{LedgerEntryBody}
+use Rattle.trade_cross.proofs.legal_rules_proofs.Holdings.{still_holds, put_holds}
 use Rattle.ledger_types.specs.declared.entry.LedgerEntryBody.TheVariants as body
 use Rattle.ledger_types.specs.declared.key.LedgerKey.TheVariants as key
 
@@ -41,7 +22,7 @@ pub balance_left : (ctx : Ctx) (m : EntryMap) (payer : AccountId) (k : ℕ) (e :
 balance_left ctx m payer k e new keyed apart free done =
     let now = map_after_charging k (Some payer) m in
     let added = with_sponsor (Some payer) e in
-    let test = passed (payer_tests_at ctx m payer k) (put now added) new done in
+    let test = unless_first_ok (payer_tests_at ctx m payer k) (put now added) new done in
     let first = charging_kept ctx.base_reserve k (Some payer) m keyed
     (λ x is. let same : payer ≡ x = cc in subst (λ w. (a : AccountEntry) → account_at m w ≡ Some a
     → pos (k * ctx.base_reserve) ≤ℤ available a ctx.base_reserve) same (payer_had ctx m payer k test.0)) in
@@ -51,12 +32,12 @@ balance_left ctx m payer k e new keyed apart free done =
     (accounts_kept ctx.base_reserve more now (put now added) (keyed_put now added first.keyed)
     (put_beside now added apart)
     (put_holds now added (λ x. held x e) (λ x. sym (ap (λ n. n +ℤ held x e)
-    (still_holds m now first.holds (key_of e) x ∙ ap (part (held x)) free) ∙ none_before (held x e))))))
+    (still_holds m now first.holds (key_of e) x ∙ ap (part (held x)) free) ∙ zero_add (held x e))))))
 
-pub payer_stands : (m : EntryMap) (owner : AccountId) (o : Option AccountId) → HasAccount m owner
+pub payer_exists : (m : EntryMap) (owner : AccountId) (o : Option AccountId) → HasAccount m owner
     → ((sponsor : AccountId) → o ≡ Some sponsor → HasAccount m sponsor) → HasAccount m (payer_by owner o)
-payer_stands m owner None stands sponsors = stands
-payer_stands m owner (Some sponsor) stands sponsors = sponsors sponsor refl
+payer_exists m owner None exists sponsors = exists
+payer_exists m owner (Some sponsor) exists sponsors = sponsors sponsor refl
 
 -- ---- flags
 
@@ -80,7 +61,7 @@ none_of : (o : Option ClaimableBalanceEntry) → is_some o ≡ false → o ≡ N
 none_of None h = refl
 none_of (Some balance) h = absurd (cc)
 
--- where no balance stands under its key, nothing does
+-- where no balance is under its key, nothing is
 pub no_balance : (m : EntryMap) (id : ClaimableBalanceId) → IsKeyed m → is_some (balance_at m id) ≡ false
     → get m (key.ClaimableBalance id) ≡ None
 unfolding balance_at

@@ -1,41 +1,18 @@
 -- Offers that are removed one after the other: what is left is legal, all accounts keep what they have, no other offer
--- comes, and none of those that were removed stands.
-use Rattle.std.proofs.Common.{◌≡◌, ◌≢◌, refl, sym, ap, subst, ◌∙◌, ℕ, Bool, true, false, cond, List, [], ◌∷◌, All}
-use Rattle.std.proofs.Common.{Some, None, suc, ◌+◌, ◌<◌, ◌≤◌, length, drop, get_or, drop-cons, arith}
-use Rattle.std.proofs.lemmas.List.{drop_all}
-use Rattle.std.proofs.lemmas.List.Elements.{All-nil, All-cons, All-head, All-tail, All-weaker}
-use Rattle.std.specs.FinMap.{get}
-use Rattle.std.specs.List.{filter}
-use Rattle.std.specs.Prelude.{ℤ, if◌then◌else◌}
-use Rattle.ledger_types.specs.declared.asset.Asset.{Asset}
-use Rattle.ledger_types.specs.declared.offer.OfferEntry.{OfferEntry}
-use Rattle.ledger_types.specs.declared.entry.LedgerEntry.{LedgerEntry}
-use Rattle.entry_map.specs.EntryMap.{EntryMap}
-use Rattle.entry_map.specs.Undo.{Undo, with_current}
-use Rattle.entry_map.proofs.KeyMaps.{same_keys, same_itself}
-use Rattle.entry_slots.specs.Offers.{offer_of, offer_at}
-use Rattle.trade_cross.specs.legal_rules.Books.{View}
-use Rattle.trade_cross.specs.legal_rules.EntryKeys.{is_key}
-use Rattle.trade_cross.specs.legal_rules.Holdings.{none_more}
-use Rattle.trade_cross.specs.legal_rules.OneMore.{IsOwedRightly}
-use Rattle.trade_cross.specs.legal_rules.Owing.{Owed, IsLegalOwing}
-use Rattle.trade_cross.proofs.legal_rules_proofs.Leaving.{Leaves, leaves_itself, keeps_both}
+-- comes, and none of those that were removed exists.
+use Rattle.op_flags.proofs.Prelude.{◌≡◌, ◌≢◌, refl, sym, ap, subst, ◌∙◌, ℕ, Bool, true, false, cond, List, [], ◌∷◌, All}
+use Rattle.op_flags.proofs.Prelude.{Some, None, suc, ◌+◌, ◌<◌, ◌≤◌, length, drop, get_or, drop-cons, arith, drop_all}
+use Rattle.op_flags.proofs.Prelude.{All-nil, All-cons, All-head, All-tail, All-weaker, get, filter, ℤ, if◌then◌else◌}
+use Rattle.op_flags.proofs.Prelude.{Asset, OfferEntry, LedgerEntry, EntryMap, Undo, with_current, same_itself, offer_of}
+use Rattle.op_flags.proofs.Prelude.{offer_at, View, is_key, none_more, IsOwedRightly, Owed, IsLegalOwing, Leaves}
+use Rattle.op_flags.proofs.Prelude.{leaves_itself, keeps_both, IsCrossable, offer_key, trades_in}
+use Rattle.op_flags.proofs.Prelude.{map_after_cancelling_all, IsThere, AreExisting, map_after_one, same_keys, all_both}
 use Rattle.trade_cross.specs.Cancelling.{map_after_cancelling}
-use Rattle.trade_cross.specs.Crossable.{IsCrossable}
-use Rattle.trade_cross.specs.Crossing.{offer_key}
 use Rattle.trade_cross.proofs.Cancelled.{cancelled_keeps}
 use Rattle.trade_cross.proofs.CancelledLeft.{cancelling_left, cancelling_takes, cancelling_beside}
-use Rattle.op_flags.specs.Revoking.{trades_in, map_after_cancelling_all}
-use Rattle.op_flags.specs.Standing.{IsThere, AreStanding, map_after_one}
 
 other_keys : (o x : OfferEntry) → o.offer_id ≢ x.offer_id → offer_key x ≢ offer_key o
 other_keys o x apart same = apart (cc)
-
--- what holds of each and another thing that holds of each
-both_of : (P Q : OfferEntry → Type 0) (os : List OfferEntry) → All P os → All Q os → All (λ o. P o × Q o) os
-both_of P Q [] ps qs = All-nil (λ o. P o × Q o)
-both_of P Q (o ∷ os) ps qs = All-cons (λ x. P x × Q x) o os (All-head P o os ps, All-head Q o os qs)
-    (both_of P Q os (All-tail P o os ps) (All-tail Q o os qs))
 
 abbrev pub IsGone : EntryMap → OfferEntry → Type 0
 IsGone m o = get m (offer_key o) ≡ None
@@ -46,89 +23,89 @@ module _ (v : View) (id_pool : ℕ) (owed : Owed) (right : IsOwedRightly owed) (
 
   -- ---- one offer
 
-  module _ (o : OfferEntry) (m : EntryMap) (legal : IsLegal m) (stands : IsThere m o) where
+  module _ (o : OfferEntry) (m : EntryMap) (legal : IsLegal m) (exists : IsThere m o) where
     abbrev then_ : EntryMap
     then_ = map_after_cancelling o m
 
     one_legal : IsLegal then_
-    one_legal = cancelled_keeps v id_pool 0 owed sum o m legal right stands
+    one_legal = cancelled_keeps v id_pool 0 owed sum o m legal right exists
 
     still : (x : OfferEntry) → o.offer_id ≢ x.offer_id → IsThere m x → IsThere then_ x
     unfolding offer_at
     still x apart there =
-        ap offer_of (cancelling_beside v id_pool owed sum o m legal right stands x (other_keys o x apart)) ∙ there
+        ap offer_of (cancelling_beside v id_pool owed sum o m legal right exists x (other_keys o x apart)) ∙ there
 
     -- no offer comes
-    one_stood : (x : OfferEntry) (e : LedgerEntry) → get then_ (offer_key x) ≡ Some e → get m (offer_key x) ≡ Some e
-    one_stood x e there = elim (is_key (offer_key x) (offer_key o)) as (λ t. is_key (offer_key x) (offer_key o) ≡ t
+    one_existed : (x : OfferEntry) (e : LedgerEntry) → get then_ (offer_key x) ≡ Some e → get m (offer_key x) ≡ Some e
+    one_existed x e there = elim (is_key (offer_key x) (offer_key o)) as (λ t. is_key (offer_key x) (offer_key o) ≡ t
         → get m (offer_key x) ≡ Some e) [
           | true ↦ λ tied.
               let same : offer_key x ≡ offer_key o = same_keys _ _ tied in
               let gone : get then_ (offer_key x) ≡ None =
-              ap (get then_) same ∙ cancelling_takes v id_pool owed sum o m legal right stands in
+              ap (get then_) same ∙ cancelling_takes v id_pool owed sum o m legal right exists in
               absurd (cc)
-          | false ↦ λ apart. sym (cancelling_beside v id_pool owed sum o m legal right stands x (λ same.
+          | false ↦ λ apart. sym (cancelling_beside v id_pool owed sum o m legal right exists x (λ same.
               let tied : is_key (offer_key x) (offer_key o) ≡ true = ap (λ k. is_key k (offer_key o)) same
               ∙ same_itself (offer_key o) in absurd (cc))) ∙ there
         ] refl
 
-  pub next_standing : (o : OfferEntry) (os : List OfferEntry) (m : EntryMap) → IsLegal m → AreStanding m (o ∷ os)
-      → AreStanding (map_after_cancelling o m) os
-  next_standing o os m legal all =
-      let stands = All-head (IsThere m) o os all.there in
+  pub next_existing : (o : OfferEntry) (os : List OfferEntry) (m : EntryMap) → IsLegal m → AreExisting m (o ∷ os)
+      → AreExisting (map_after_cancelling o m) os
+  next_existing o os m legal all =
+      let exists = All-head (IsThere m) o os all.there in
       record {
         there = All-weaker (λ x. IsThere m x × (o.offer_id ≢ x.offer_id)) (IsThere (map_after_cancelling o m))
-            (λ x both. still o m legal stands x both.1 both.0) os
-            (both_of (IsThere m) (λ x. o.offer_id ≢ x.offer_id) os (All-tail (IsThere m) o os all.there) all.apart.0);
+            (λ x both. still o m legal exists x both.1 both.0) os
+            (all_both {X = OfferEntry} (IsThere m) (λ x. o.offer_id ≢ x.offer_id) os (All-tail (IsThere m) o os all.there) all.apart.0);
         apart = all.apart.1;
       }
 
   -- ---- all of them
 
-  pub all_legal : (os : List OfferEntry) (m : EntryMap) → IsLegal m → AreStanding m os
+  pub all_legal : (os : List OfferEntry) (m : EntryMap) → IsLegal m → AreExisting m os
       → IsLegal (map_after_cancelling_all os m)
   all_legal [] m legal all = legal
   all_legal (o ∷ os) m legal all = all_legal os (map_after_cancelling o m)
-      (one_legal o m legal (All-head (IsThere m) o os all.there)) (next_standing o os m legal all)
+      (one_legal o m legal (All-head (IsThere m) o os all.there)) (next_existing o os m legal all)
 
-  pub all_left : (base : ℕ) (os : List OfferEntry) (m : EntryMap) → IsLegal m → AreStanding m os
+  pub all_left : (base : ℕ) (os : List OfferEntry) (m : EntryMap) → IsLegal m → AreExisting m os
       → Leaves base none_more m (map_after_cancelling_all os m)
   all_left base [] m legal all = leaves_itself base m legal.keyed
   all_left base (o ∷ os) m legal all =
-      let stands = All-head (IsThere m) o os all.there in
+      let exists = All-head (IsThere m) o os all.there in
       let now = map_after_cancelling o m in
       keeps_both base m now (map_after_cancelling_all os now)
-      (cancelling_left v id_pool owed sum o m legal right stands base)
-      (all_left base os now (one_legal o m legal stands) (next_standing o os m legal all))
+      (cancelling_left v id_pool owed sum o m legal right exists base)
+      (all_left base os now (one_legal o m legal exists) (next_existing o os m legal all))
 
-  -- An offer that stands behind them stood before.
-  pub all_stood : (os : List OfferEntry) (m : EntryMap) → IsLegal m → AreStanding m os → (x : OfferEntry)
+  -- An offer that exists after them existed before.
+  pub all_existed : (os : List OfferEntry) (m : EntryMap) → IsLegal m → AreExisting m os → (x : OfferEntry)
       → (e : LedgerEntry) → get (map_after_cancelling_all os m) (offer_key x) ≡ Some e → get m (offer_key x) ≡ Some e
-  all_stood [] m legal all x e there = there
-  all_stood (o ∷ os) m legal all x e there =
-      let stands = All-head (IsThere m) o os all.there in
-      one_stood o m legal stands x e (all_stood os (map_after_cancelling o m) (one_legal o m legal stands)
-      (next_standing o os m legal all) x e there)
+  all_existed [] m legal all x e there = there
+  all_existed (o ∷ os) m legal all x e there =
+      let exists = All-head (IsThere m) o os all.there in
+      one_existed o m legal exists x e (all_existed os (map_after_cancelling o m) (one_legal o m legal exists)
+      (next_existing o os m legal all) x e there)
 
-  not_there : (os : List OfferEntry) (m : EntryMap) → IsLegal m → AreStanding m os → (x : OfferEntry)
+  not_there : (os : List OfferEntry) (m : EntryMap) → IsLegal m → AreExisting m os → (x : OfferEntry)
       → get m (offer_key x) ≡ None → get (map_after_cancelling_all os m) (offer_key x) ≡ None
   not_there os m legal all x none = elim (get (map_after_cancelling_all os m) (offer_key x)) as (λ q.
       get (map_after_cancelling_all os m) (offer_key x) ≡ q → q ≡ None) [
         | None ↦ λ is. refl
-        | Some e ↦ λ is. let was = all_stood os m legal all x e is in absurd (cc)
+        | Some e ↦ λ is. let was = all_existed os m legal all x e is in absurd (cc)
       ] refl
 
-  -- None of them stands any more.
-  pub all_gone : (os : List OfferEntry) (m : EntryMap) → IsLegal m → AreStanding m os
+  -- None of them exists any more.
+  pub all_gone : (os : List OfferEntry) (m : EntryMap) → IsLegal m → AreExisting m os
       → All (IsGone (map_after_cancelling_all os m)) os
   all_gone [] m legal all = All-nil (IsGone m)
   all_gone (o ∷ os) m legal all =
-      let stands = All-head (IsThere m) o os all.there in
+      let exists = All-head (IsThere m) o os all.there in
       let now = map_after_cancelling o m in
-      let legal_now = one_legal o m legal stands in
-      let next = next_standing o os m legal all in
+      let legal_now = one_legal o m legal exists in
+      let next = next_existing o os m legal all in
       All-cons (IsGone (map_after_cancelling_all os now)) o os
-      (not_there os now legal_now next o (cancelling_takes v id_pool owed sum o m legal right stands))
+      (not_there os now legal_now next o (cancelling_takes v id_pool owed sum o m legal right exists))
       (all_gone os now legal_now next)
 
 -- ---- offer by offer
@@ -136,17 +113,17 @@ module _ (v : View) (id_pool : ℕ) (owed : Owed) (right : IsOwedRightly owed) (
 -- Of some offers those are still to be looked at that are left; the others in the asset are removed.
 pub record AreLeft (held : Asset) (offers left : List OfferEntry) (old now : Undo) : Type 0 where
   pub crossable : IsCrossable now.current
-  pub standing : AreStanding now.current left
+  pub existing : AreExisting now.current left
   pub kept : now ≡ with_current old now.current
   pub rest : map_after_cancelling_all (filter (trades_in held) left) now.current
       ≡ map_after_cancelling_all (filter (trades_in held) offers) old.current
 
--- the others stand behind one that was looked at
-rest_standing : (held : Asset) (o : OfferEntry) (os : List OfferEntry) (m : EntryMap) → IsCrossable m
-    → AreStanding m (o ∷ os) → (t : Bool)
-    → AreStanding (if t then map_after_cancelling o m else m) os
-rest_standing held o os m c all true = next_standing c.view c.id_pool c.owed c.right c.sum o os m c.legal all
-rest_standing held o os m c all false = record { there = All-tail (IsThere m) o os all.there; apart = all.apart.1 }
+-- the others exist after one that was looked at
+rest_existing : (held : Asset) (o : OfferEntry) (os : List OfferEntry) (m : EntryMap) → IsCrossable m
+    → AreExisting m (o ∷ os) → (t : Bool)
+    → AreExisting (if t then map_after_cancelling o m else m) os
+rest_existing held o os m c all true = next_existing c.view c.id_pool c.owed c.right c.sum o os m c.legal all
+rest_existing held o os m c all false = record { there = All-tail (IsThere m) o os all.there; apart = all.apart.1 }
 
 rest_same : (held : Asset) (o : OfferEntry) (os : List OfferEntry) (m : EntryMap) (t : Bool)
     → map_after_cancelling_all (filter (trades_in held) os) (if t then map_after_cancelling o m else m)
@@ -159,8 +136,8 @@ pub one_less : (held : Asset) (offers : List OfferEntry) (o : OfferEntry) (os : 
     → IsCrossable new.current → AreLeft held offers os old new
 one_less held offers o os old now new left is crossable = record {
   crossable = crossable;
-  standing = subst (λ m. AreStanding m os) (sym current_is)
-      (rest_standing held o os now.current left.crossable left.standing (trades_in held o));
+  existing = subst (λ m. AreExisting m os) (sym current_is)
+      (rest_existing held o os now.current left.crossable left.existing (trades_in held o));
   kept = is ∙ ap (λ u. with_current u (map_after_one held o now.current)) left.kept
       ∙ ap (with_current old) (sym current_is);
   rest = ap (map_after_cancelling_all (filter (trades_in held) os)) current_is
@@ -170,11 +147,11 @@ one_less held offers o os old now new left is crossable = record {
     current_is : new.current ≡ map_after_one held o now.current
     current_is = ap (λ (u : Undo). u.current) is
 
--- ---- by the place of an offer
+-- ---- by the index of an offer
 
-pub this_stands : (offers : List OfferEntry) (i : ℕ) (d : OfferEntry) (m : EntryMap) → i < length offers
-    → AreStanding m (drop i offers) → IsThere m (get_or offers i d)
-this_stands offers i d m lt all = All-head (IsThere m) (get_or offers i d) (drop (suc i) offers)
+pub this_exists : (offers : List OfferEntry) (i : ℕ) (d : OfferEntry) (m : EntryMap) → i < length offers
+    → AreExisting m (drop i offers) → IsThere m (get_or offers i d)
+this_exists offers i d m lt all = All-head (IsThere m) (get_or offers i d) (drop (suc i) offers)
     (subst (All (IsThere m)) (drop-cons offers i d lt) all.there)
 
 pub one_further : (held : Asset) (offers : List OfferEntry) (i : ℕ) (d : OfferEntry) (old now new : Undo)

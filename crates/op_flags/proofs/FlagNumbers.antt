@@ -1,12 +1,8 @@
 -- Flags that a line gets: what is known of their numbers.
-use Rattle.std.proofs.Common.{◌≡◌, ◌≢◌, refl, ℕ, zero, suc, ◌%◌, ◌^◌, ◌<◌, ◌≤◌, false, nat_eq, bit_and, bit_or}
-use Rattle.std.proofs.Common.{bit_xor, arith}
+use Rattle.op_flags.proofs.Prelude.{◌≡◌, ◌≢◌, refl, ℕ, zero, suc, ◌%◌, ◌^◌, ◌<◌, ◌≤◌, false, nat_eq, bit_and, bit_or}
+use Rattle.op_flags.proofs.Prelude.{bit_xor, arith, Asset, AreLineFlags, is_native, line_asset_of, has_any}
 use Rattle.std.proofs.lemmas.Nat.{or_lt, xor_lt, and_le_l}
-use Rattle.ledger_types.specs.declared.asset.Asset.{Asset}
 use Rattle.ledger_types.specs.declared.asset.Asset.TheVariants as asset
-use Rattle.trade_cross.specs.legal_rules.Ranges.{AreLineFlags}
-use Rattle.op_form.specs.Assets.{is_native, line_asset_of}
-use Rattle.op_form.specs.Flags.{has_any}
 
 -- ---- numbers up to 7
 
@@ -40,16 +36,16 @@ changed_below f m a le also =
     let all : bit_or (bit_xor f (bit_and f m)) a < 2 ^ 3 = or_lt 3 (bit_xor f (bit_and f m)) a cleared (omega arith) in
     omega arith
 
--- with one authorisation in place of those that stood
+-- with one authorisation in place of those that were set
 abbrev pub AuthorizesOnce : ℕ → Type 0
 AuthorizesOnce f = (a : ℕ) → a ≤ 2 → bit_or (bit_xor f (bit_and f 3)) a % 4 ≢ 3
 
 once_of : (f : ℕ) → bit_or (bit_xor f (bit_and f 3)) 0 % 4 ≢ 3 → bit_or (bit_xor f (bit_and f 3)) 1 % 4 ≢ 3
     → bit_or (bit_xor f (bit_and f 3)) 2 % 4 ≢ 3 → AuthorizesOnce f
-once_of f none whole half zero le = none
-once_of f none whole half (suc zero) le = whole
-once_of f none whole half (suc (suc zero)) le = half
-once_of f none whole half (suc (suc (suc n))) le = absurd (omega arith)
+once_of f none entire half zero le = none
+once_of f none entire half (suc zero) le = entire
+once_of f none entire half (suc (suc zero)) le = half
+once_of f none entire half (suc (suc (suc n))) le = absurd (omega arith)
 
 pub authorizes_once : (f : ℕ) → f ≤ 7 → AuthorizesOnce f
 authorizes_once = by_cases AuthorizesOnce

@@ -1,31 +1,17 @@
 -- That the flags which the operations give to a line can be a line's.
-use Rattle.std.proofs.Common.{◌≡◌, refl, ℕ, ◌≤◌, false, not, ◌&&◌, ◌||◌, ◌∷◌, [], nat_eq, nat_lt, bit_and, Some}
-use Rattle.std.proofs.Common.{None, arith}
-use Rattle.ledger_types.specs.declared.account.AccountEntry.{AccountEntry}
-use Rattle.ledger_types.specs.declared.asset.Asset.{Asset}
-use Rattle.ledger_types.specs.declared.ids.AccountId.{AccountId}
-use Rattle.ledger_types.specs.declared.trust_line.TrustLineEntry.{TrustLineEntry}
-use Rattle.op_types.specs.declared.operation_result.OperationResult.{OperationResult}
+use Rattle.op_flags.proofs.Prelude.{◌≡◌, refl, ℕ, ◌≤◌, false, not, ◌&&◌, ◌||◌, ◌∷◌, [], nat_eq, nat_lt, bit_and, Some}
+use Rattle.op_flags.proofs.Prelude.{None, arith, AccountEntry, Asset, AccountId, TrustLineEntry, OperationResult}
+use Rattle.op_flags.proofs.Prelude.{EntryMap, Tests, first_fault, view, AreEntriesLegal, first_passed, is_native}
+use Rattle.op_flags.proofs.Prelude.{line_of_asset, has_any, is_auth_revocable, AreFlagsFit, ltb-false, or_parts}
 use Rattle.op_types.specs.declared.trust_ops.AllowTrustOp.{AllowTrustOp}
 use Rattle.op_types.specs.declared.trust_ops.AssetCode.{AssetCode}
 use Rattle.op_types.specs.declared.trust_ops.AssetCode.TheVariants as code
 use Rattle.op_types.specs.declared.trust_ops.SetTrustLineFlagsOp.{SetTrustLineFlagsOp}
 use Rattle.op_types.specs.declared.trust_results.SetTrustLineFlagsResult.TheVariants as set
-use Rattle.entry_map.specs.EntryMap.{EntryMap}
-use Rattle.entry_slots.specs.Tests.{Tests, first_fault}
-use Rattle.trade_cross.specs.legal_rules.Legal.{view}
-use Rattle.trade_cross.specs.legal_rules.Owing.{AreEntriesLegal}
-use Rattle.trade_cross.proofs.legal_rules_proofs.Passed.{first_passed, neither}
-use Rattle.op_form.specs.Assets.{is_native, line_of_asset}
-use Rattle.op_form.specs.Flags.{has_any, is_auth_revocable}
 use Rattle.op_flags.specs.AllowTrust as allowing
-use Rattle.op_flags.specs.LineFlags.{AreFlagsFit}
 use Rattle.op_flags.specs.SetTrustLineFlags as setting
 use Rattle.op_flags.proofs.FlagNumbers.{masked, changed_below, authorizes_once}
 use Rattle.op_flags.proofs.Flagged.{old_flags}
-
-at_most_7 : (a : ℕ) → nat_lt 7 a ≡ false → a ≤ 7
-at_most_7 a h = grind arith
 
 pub allowed_issued : (c : AssetCode) (id : AccountId) → is_native (allowing.asset_with c id) ≡ false
 allowed_issued (code.Alphanum4 bytes) id = refl
@@ -54,15 +40,15 @@ module _ (id_pool : ℕ) (m : EntryMap) (legal : AreEntriesLegal id_pool m) (tru
         let twice = has_any op.set_flags op.clear_flags in
         let claws = has_any op.set_flags 4 in
         let two = nat_eq (bit_and op.set_flags 3) 3 in
-        let fourth = neither (clears || sets || twice || claws) two good in
-        let third = neither (clears || sets || twice) claws fourth.0 in
-        let second = neither (clears || sets) twice third.0 in
-        let first = neither clears sets second.0 in
+        let fourth = or_parts (clears || sets || twice || claws) two good in
+        let third = or_parts (clears || sets || twice) claws fourth.0 in
+        let second = or_parts (clears || sets) twice third.0 in
+        let first = or_parts clears sets second.0 in
         let f = setting.new_flags op t in
         let invalid : Tests OperationResult = (nat_eq (bit_and f 3) 3, setting.answer set.InvalidState) ∷ [] in
         let revoked = first_passed (not (is_auth_revocable source) && setting.takes_back t f)
         (setting.answer set.CantRevoke) invalid passed in
         let state = first_passed (nat_eq (bit_and f 3) 3) (setting.answer set.InvalidState) [] revoked.1 in
         let was = old_flags (view m) id_pool _ trustor op.asset issued m legal t there in
-        let few = changed_below t.flags op.clear_flags op.set_flags was.0 (at_most_7 op.set_flags first.1) in
+        let few = changed_below t.flags op.clear_flags op.set_flags was.0 (ltb-false 7 op.set_flags first.1) in
         (few, (masked f few).2 state.0)

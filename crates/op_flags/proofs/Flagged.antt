@@ -1,32 +1,16 @@
 -- A line that gets its flags, once the offers are gone that went with an authorisation.
-use Rattle.std.proofs.Common.{◌≡◌, ◌≢◌, refl, sym, ap, subst, ◌∙◌, ℕ, ◌%◌, ◌≤◌, Bool, true, false, not, ◌&&◌, Option}
-use Rattle.std.proofs.Common.{Some, None, arith}
-use Rattle.std.proofs.lemmas.Int.{ints}
-use Rattle.std.specs.Prelude.{ℤ, pos, ◌+ℤ◌, ◌-ℤ◌, if◌then◌else◌}
-use Rattle.ledger_types.specs.declared.ids.AccountId.{AccountId}
-use Rattle.ledger_types.specs.declared.asset.Asset.{Asset}
-use Rattle.ledger_types.specs.declared.asset.TrustLineAsset.{TrustLineAsset}
-use Rattle.ledger_types.specs.declared.trust_line.TrustLineEntry.{TrustLineEntry}
+use Rattle.op_flags.proofs.Prelude.{◌≡◌, ◌≢◌, refl, sym, ap, subst, ◌∙◌, ℕ, ◌%◌, ◌≤◌, Bool, true, false, not, ◌&&◌}
+use Rattle.op_flags.proofs.Prelude.{Option, Some, None, ℤ, pos, ◌+ℤ◌, ◌-ℤ◌, if◌then◌else◌, AccountId, Asset}
+use Rattle.op_flags.proofs.Prelude.{TrustLineAsset, TrustLineEntry, LedgerKey, EntryMap, line_liabilities, line_at}
+use Rattle.op_flags.proofs.Prelude.{with_line, Kind, Shares, View, is_key, for_key, nothing_owed, plus, IsEntryLegal}
+use Rattle.op_flags.proofs.Prelude.{IsBoundRightly, IsLegalOwing, pool_named, AreLineFlags, IsTrustLineInRange, of_line}
+use Rattle.op_flags.proofs.Prelude.{IsLegalLine, line_legal, is_native, line_asset_of, has_any, with_flags, is_revoked}
+use Rattle.op_flags.proofs.Prelude.{map_after_revoking, map_after_flagging, add_sub_self, sub_self}
 use Rattle.ledger_types.specs.declared.entry.LedgerEntryBody.TheVariants as body
-use Rattle.ledger_types.specs.declared.key.LedgerKey.{LedgerKey}
-use Rattle.entry_map.specs.EntryMap.{EntryMap}
-use Rattle.entry_slots.specs.LineExtensions.{line_liabilities}
-use Rattle.entry_slots.specs.Lines.{line_at, with_line}
-use Rattle.trade_cross.specs.legal_rules.Books.{Kind, Shares, View}
-use Rattle.trade_cross.specs.legal_rules.ChangeLaws.{KeepsLineBooks, in_shares}
-use Rattle.trade_cross.specs.legal_rules.EntryKeys.{is_key, for_key}
-use Rattle.trade_cross.specs.legal_rules.Owing.{nothing_owed, plus, IsEntryLegal, IsBoundRightly, IsLegalOwing}
-use Rattle.trade_cross.specs.legal_rules.PoolShares.{pool_named}
-use Rattle.trade_cross.specs.legal_rules.Ranges.{AreLineFlags, IsTrustLineInRange}
-use Rattle.trade_cross.specs.legal_rules.Supply.{of_line}
+use Rattle.trade_cross.specs.legal_rules.ChangeLaws.{KeepsLineAggregates, in_shares}
 use Rattle.trade_cross.proofs.legal_rules_proofs.Changed.{line_changed}
-use Rattle.trade_cross.proofs.legal_rules_proofs.LinesLeft.{IsLegalLine, line_legal}
-use Rattle.trade_cross.proofs.legal_rules_proofs.Numbers.{kept_sum}
 use Rattle.trade_cross.proofs.legal_rules_proofs.Steps.{legal_as}
 use Rattle.pool_shares.proofs.Counted.{no_line_changed}
-use Rattle.op_form.specs.Assets.{is_native, line_asset_of}
-use Rattle.op_form.specs.Flags.{has_any}
-use Rattle.op_flags.specs.LineFlags.{with_flags, is_revoked, map_after_revoking, map_after_flagging}
 use Rattle.op_flags.proofs.FlagNumbers.{masked, flags_in, are_flags}
 use Rattle.op_flags.proofs.Revoked.{revoked_legal, revoked_unbound}
 
@@ -52,12 +36,9 @@ none_of_each (Some q) k = by_test (is_key q k)
     by_test true = refl
     by_test false = refl
 
-zero_less : (n : ℤ) → (n -ℤ n) ≡ pos 0
-zero_less n = omega (arith, ints)
-
 no_shares_more : (a : TrustLineAsset) (n : ℤ) (kind : Kind) (k : LedgerKey)
     → plus nothing_owed (in_shares a (n -ℤ n)) kind k ≡ pos 0
-no_shares_more a n Shares k = (λ i. pos 0 +ℤ for_key k (pool_named a) (zero_less n i))
+no_shares_more a n Shares k = (λ i. pos 0 +ℤ for_key k (pool_named a) (sub_self n i))
     ∙ ap (λ x. pos 0 +ℤ x) (none_of_each (pool_named a) k)
 no_shares_more a n kind k = refl
 
@@ -74,7 +55,7 @@ module _ (v : View) (id_pool : ℕ) (sum : ℤ) (trustor : AccountId) (held : As
       new = with_line now trustor its (with_flags f)
 
       module _ (t : TrustLineEntry) (there : line_at now trustor its ≡ Some t) where
-        keeps : KeepsLineBooks t (with_flags f t)
+        keeps : KeepsLineAggregates t (with_flags f t)
         keeps = record { id = refl; asset = refl; liabilities = refl; uses = refl }
 
         was : IsLegalLine trustor its t
@@ -100,7 +81,7 @@ module _ (v : View) (id_pool : ℕ) (sum : ℤ) (trustor : AccountId) (held : As
         flags_legal = legal_as v (IsEntryLegal id_pool) _ nothing_owed _ sum new
             (line_changed v id_pool nothing_owed sum now trustor its (with_flags f) t legal there keeps range
             (bound t there))
-            (λ kind k. no_shares_more t.asset t.balance kind k) (kept_sum sum (of_line v.asset t.asset t.balance))
+            (λ kind k. no_shares_more t.asset t.balance kind k) (add_sub_self sum (of_line v.asset t.asset t.balance))
 
       by_line : (o : Option TrustLineEntry) → line_at now trustor its ≡ o → IsLegalOwing v id_pool nothing_owed sum new
       by_line None none = subst (IsLegalOwing v id_pool nothing_owed sum)

@@ -1,49 +1,26 @@
--- The offers of an account stand, with distinct ids of at least 1, and are all that it has.
-use Rattle.std.proofs.Common.{◌≡◌, refl, sym, ap, subst, ◌≢◌, ◌∙◌, ℕ, Bool, true, false, cond, List, [], ◌∷◌, All, Some}
-use Rattle.std.proofs.lemmas.List.Elements.{All-nil, All-cons, All-head, All-tail, All-filter}
+-- The offers of an account exist, with distinct ids of at least 1, and are all that it has.
+use Rattle.op_flags.proofs.Prelude.{◌≡◌, refl, sym, ap, subst, ◌∙◌, ℕ, Bool, true, false, cond, List, [], ◌∷◌, All}
+use Rattle.op_flags.proofs.Prelude.{Some, All-nil, All-cons, All-head, All-tail, All-filter, tied_itself, get, entries}
+use Rattle.op_flags.proofs.Prelude.{get-entries, filter, cons_option, is_eq, ℤ, pos, ◌≤ℤ◌, map, AccountId, OfferEntry}
+use Rattle.op_flags.proofs.Prelude.{LedgerEntry, LedgerEntryBody, LedgerKey, key_of, key_of_body, account_cmp, key_cmp}
+use Rattle.op_flags.proofs.Prelude.{EntryMap, offer_at, offers_by, AreNumbered, View, Owed, IsLegalOwing, IsBodyInRange}
+use Rattle.op_flags.proofs.Prelude.{IsOfferInRange, IsCrossable, IsThere, AreExisting, if_some_from}
 use Rattle.std.proofs.lemmas.Cmp.{nat_list_cmp_total}
-use Rattle.std.specs.Cmp.{tied_itself}
-use Rattle.std.specs.FinMap.{get, entries, get-entries}
 use Rattle.std.specs.FinMap.Entries.{find}
-use Rattle.std.specs.List.{filter, cons_option}
-use Rattle.std.specs.Ordering.{is_eq}
-use Rattle.std.specs.Prelude.{ℤ, pos, ◌≤ℤ◌, map}
-use Rattle.ledger_types.specs.declared.ids.AccountId.{AccountId}
-use Rattle.ledger_types.specs.declared.offer.OfferEntry.{OfferEntry}
-use Rattle.ledger_types.specs.declared.entry.LedgerEntry.{LedgerEntry}
-use Rattle.ledger_types.specs.declared.entry.LedgerEntryBody.{LedgerEntryBody}
 use Rattle.ledger_types.specs.declared.entry.LedgerEntryBody.TheVariants as body
-use Rattle.ledger_types.specs.declared.key.LedgerKey.{LedgerKey}
-use Rattle.ledger_types.specs.Keys.{key_of, key_of_body}
-use Rattle.ledger_types.specs.KeyOrder.{account_cmp, key_cmp}
-use Rattle.entry_map.specs.Book.{offer_in, offer_of, offers_in, offers_of, AreApart}
-use Rattle.entry_map.specs.EntryMap.{EntryMap, IsKeyed}
-use Rattle.entry_map.proofs.Layers.{some_is}
-use Rattle.entry_slots.specs.Offers.{offer_at}
-use Rattle.offer_book.specs.Book.{offers_by, AreNumbered}
-use Rattle.trade_cross.specs.legal_rules.Books.{View}
-use Rattle.trade_cross.specs.legal_rules.Owing.{Owed, IsLegalOwing}
-use Rattle.trade_cross.specs.legal_rules.Ranges.{IsBodyInRange, IsOfferInRange}
-use Rattle.trade_cross.specs.Crossable.{IsCrossable}
+use Rattle.entry_map.specs.Book.{offer_in, offer_of, offers_in, offers_of}
+use Rattle.entry_map.specs.EntryMap.{IsKeyed}
 use Rattle.trade_cross.proofs.Book.{each_offer}
-use Rattle.trade_cross.proofs.BooksSound.{offers_sound}
-use Rattle.op_flags.specs.Standing.{IsThere, AreStanding}
+use Rattle.trade_cross.proofs.OffersSound.{offers_sound}
+use Rattle.entry_map.proofs.Ranked.{apart_filter}
 
 -- ---- parts of a list
 
-apart_filtered : (p : OfferEntry → Bool) (os : List OfferEntry) → AreApart os → AreApart (filter p os)
-apart_filtered p [] apart = tt
-apart_filtered p (o ∷ os) apart = by (p o) (apart_filtered p os apart.1)
-  where
-    by : (t : Bool) → AreApart (filter p os) → AreApart (cond t (o ∷ filter p os) (filter p os))
-    by true later = (All-filter p (λ x. o.offer_id ≢ x.offer_id) os apart.0, later)
-    by false later = later
-
-pub filtered_standing : (p : OfferEntry → Bool) (m : EntryMap) (os : List OfferEntry) → AreStanding m os
-    → AreStanding m (filter p os)
-filtered_standing p m os all = record {
+pub filtered_existing : (p : OfferEntry → Bool) (m : EntryMap) (os : List OfferEntry) → AreExisting m os
+    → AreExisting m (filter p os)
+filtered_existing p m os all = record {
   there = All-filter p (IsThere m) os all.there;
-  apart = apart_filtered p os all.apart;
+  apart = apart_filter p os all.apart;
 }
 
 -- what holds of each that passes
@@ -58,7 +35,7 @@ all_passing p P (o ∷ os) all = by (p o) refl all (all_passing p P os)
         (later (All-tail P o (filter p os) all))
     by false is all later = All-cons (λ x. p x ≡ true → P x) o os (λ yes. absurd (cc)) (later all)
 
--- ---- each offer that stands is among the offers
+-- ---- each existing offer is among the offers
 
 module _ (P : OfferEntry → Type 0) (x : OfferEntry) where
   head_of : (b : LedgerEntryBody) (rest : List OfferEntry) → b ≡ body.Offer x → All P (cons_option (offer_in b) rest)
@@ -92,7 +69,7 @@ same_seller x seller same = subst (λ id. is_eq (account_cmp x.seller_id id) ≡
     itself : (id : AccountId) → is_eq (account_cmp id id) ≡ true
     itself id = ap is_eq (tied_itself nat_list_cmp_total id.0)
 
--- What holds of each of an account's offers that passes, holds of each of them that stands and passes.
+-- What holds of each of an account's offers that passes, holds of each of them that exists and passes.
 pub holds_of_own : (P : OfferEntry → Type 0) (m : EntryMap) (seller : AccountId) (p : OfferEntry → Bool)
     → All P (filter p (offers_by m seller)) → (k : LedgerKey) (e : LedgerEntry) (x : OfferEntry) → get m k ≡ Some e
     → e.body ≡ body.Offer x → x.seller_id ≡ seller → p x ≡ true → P x
@@ -107,7 +84,7 @@ holds_of_own P m seller p all k e x there is own passes =
 module _ (v : View) (id_pool : ℕ) (owed : Owed) (sum : ℤ) (m : EntryMap) (legal : IsLegalOwing v id_pool owed sum m)
   where
     own_keys : IsKeyed m
-    own_keys k = some_is (λ e. key_of e ≡ k) (get m k) (legal.keyed k)
+    own_keys k = if_some_from (λ e. key_of e ≡ k) (get m k) (legal.keyed k)
 
     pub offers_numbered : AreNumbered m
     offers_numbered = record {
@@ -117,19 +94,19 @@ module _ (v : View) (id_pool : ℕ) (owed : Owed) (sum : ℤ) (m : EntryMap) (le
           its.id_low);
     }
 
-    all_stand : All (IsThere m) (offers_of m)
+    all_exist : All (IsThere m) (offers_of m)
     unfolding offer_at
-    all_stand = each_offer m (IsThere m) (λ k e o there is.
+    all_exist = each_offer m (IsThere m) (λ k e o there is.
         ap (λ q. offer_of (get m q)) (sym (ap key_of_body is) ∙ legal.keyed k e there)
         ∙ ap offer_of there ∙ ap offer_in is)
 
-    pub offers_standing : (seller : AccountId) → AreStanding m (offers_by m seller)
+    pub offers_existing : (seller : AccountId) → AreExisting m (offers_by m seller)
     unfolding offers_by
-    offers_standing seller = filtered_standing (λ o. is_eq (account_cmp o.seller_id seller)) m (offers_of m)
-        (record { there = all_stand; apart = (offers_sound v id_pool owed sum m legal).apart })
+    offers_existing seller = filtered_existing (λ o. is_eq (account_cmp o.seller_id seller)) m (offers_of m)
+        (record { there = all_exist; apart = (offers_sound v id_pool owed sum m legal).apart })
 
 pub numbered : (m : EntryMap) → IsCrossable m → AreNumbered m
 numbered m c = offers_numbered c.view c.id_pool c.owed c.sum m c.legal
 
-pub standing : (m : EntryMap) (seller : AccountId) → IsCrossable m → AreStanding m (offers_by m seller)
-standing m seller c = offers_standing c.view c.id_pool c.owed c.sum m c.legal seller
+pub existing : (m : EntryMap) (seller : AccountId) → IsCrossable m → AreExisting m (offers_by m seller)
+existing m seller c = offers_existing c.view c.id_pool c.owed c.sum m c.legal seller

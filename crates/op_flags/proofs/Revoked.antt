@@ -1,51 +1,22 @@
 -- The offers of an account in an asset that go with an authorisation: what is left, in which no offer binds its line.
-use Rattle.std.proofs.Common.{◌≡◌, refl, sym, ap, subst, ◌∙◌, ℕ, Bool, true, false, ◌||◌, List, Option, Some, None}
-use Rattle.std.proofs.Common.{arith}
-use Rattle.std.proofs.lemmas.Int.{ints}
-use Rattle.std.specs.FinMap.{get}
-use Rattle.std.specs.List.{filter}
-use Rattle.std.specs.Ordering.{is_eq}
-use Rattle.std.specs.Prelude.{ℤ, pos, ◌+ℤ◌, if◌then◌else◌}
-use Rattle.ledger_types.specs.declared.ids.AccountId.{AccountId}
-use Rattle.ledger_types.specs.declared.asset.Asset.{Asset}
+use Rattle.op_flags.proofs.Prelude as prelude
+use prelude.{◌≡◌, refl, sym, ap, subst, ◌∙◌, ℕ, Bool, true, false, List, Option, Some, None, arith, ints, get, filter}
+use prelude.{is_eq, ℤ, pos, ◌+ℤ◌, if◌then◌else◌, AccountId, Asset, TrustLineAsset, OfferEntry, TrustLineEntry}
+use prelude.{LedgerEntry, LedgerEntryBody, LedgerKey, key_of_body, asset_cmp, EntryMap, line_liabilities, line_at}
+use prelude.{total, total_none, is_same_account, offers_by, Selling, Buying, View, counted, stated, stated_at, is_key}
+use prelude.{for_key, none_more, bound_of, nothing_owed, IsEntryLegal, IsLegalOwing, holder, sells, buys, Leaves}
+use prelude.{line_entry, offer_key, line_asset_of, trades_in, map_after_cancelling_all, map_without_offers, AreExisting}
+use prelude.{same_keys, or_left, or_right}
 use Rattle.ledger_types.specs.declared.asset.Asset.TheVariants as asset
-use Rattle.ledger_types.specs.declared.asset.TrustLineAsset.{TrustLineAsset}
 use Rattle.ledger_types.specs.declared.asset.TrustLineAsset.TheVariants as line
-use Rattle.ledger_types.specs.declared.offer.OfferEntry.{OfferEntry}
-use Rattle.ledger_types.specs.declared.trust_line.TrustLineEntry.{TrustLineEntry}
-use Rattle.ledger_types.specs.declared.entry.LedgerEntry.{LedgerEntry}
-use Rattle.ledger_types.specs.declared.entry.LedgerEntryBody.{LedgerEntryBody}
 use Rattle.ledger_types.specs.declared.entry.LedgerEntryBody.TheVariants as body
-use Rattle.ledger_types.specs.declared.key.LedgerKey.{LedgerKey}
 use Rattle.ledger_types.specs.declared.key.LedgerKey.TheVariants as key
-use Rattle.ledger_types.specs.Keys.{key_of_body}
-use Rattle.ledger_types.specs.KeyOrder.{asset_cmp}
-use Rattle.entry_map.specs.EntryMap.{EntryMap}
-use Rattle.entry_map.proofs.KeyMaps.{same_keys}
-use Rattle.entry_map.proofs.Pairs.{tie}
-use Rattle.entry_slots.specs.LineExtensions.{line_liabilities}
-use Rattle.entry_slots.specs.Lines.{line_at}
-use Rattle.trade_cross.specs.entry_sums.Sums.{total}
-use Rattle.trade_cross.proofs.entry_sums_proofs.Summing.{total_none}
-use Rattle.sponsor_rules.specs.Payers.{is_same_account}
-use Rattle.offer_book.specs.Book.{offers_by}
-use Rattle.trade_cross.specs.legal_rules.Books.{Selling, Buying, View, counted, stated, stated_at}
-use Rattle.trade_cross.specs.legal_rules.EntryKeys.{is_key, for_key}
-use Rattle.trade_cross.specs.legal_rules.Holdings.{none_more}
-use Rattle.trade_cross.specs.legal_rules.OfferLiabilities.{bound_of}
-use Rattle.trade_cross.specs.legal_rules.Owing.{nothing_owed, IsEntryLegal, IsLegalOwing}
-use Rattle.trade_cross.specs.legal_rules.Trades.{holder, sells, buys}
-use Rattle.trade_cross.proofs.legal_rules_proofs.Leaving.{Leaves}
-use Rattle.trade_cross.proofs.legal_rules_proofs.Liable.{line_entry}
 use Rattle.trade_cross.proofs.legal_rules_proofs.Weighing.{total_of}
-use Rattle.trade_cross.specs.Crossing.{offer_key}
 use Rattle.trade_cross.proofs.Passing.{IsOwnKey, holder_own}
-use Rattle.op_form.specs.Assets.{line_asset_of}
-use Rattle.op_flags.specs.Revoking.{trades_in, map_after_cancelling_all, map_without_offers}
-use Rattle.op_flags.specs.Standing.{AreStanding}
-use Rattle.op_flags.proofs.Cancelling.{IsGone, all_legal, all_left, all_stood, all_gone}
-use Rattle.op_flags.proofs.OwnOffers.{filtered_standing, offers_standing, holds_of_own}
+use Rattle.op_flags.proofs.Cancelling.{IsGone, all_legal, all_left, all_existed, all_gone}
+use Rattle.op_flags.proofs.OwnOffers.{filtered_existing, offers_existing, holds_of_own}
 use Rattle.trade_cross.proofs.legal_rules_proofs.MayOwe.{nothing_right}
+use Rattle.entry_map.proofs.Pairs.{same_assets_tied}
 
 -- ---- which line holds an asset
 
@@ -84,21 +55,13 @@ its_owner id other a held is = sym (subst (IsOwnKey id) is (holder_own id a))
 
 -- ---- tests
 
-or_true : (a b : Bool) → b ≡ true → (a || b) ≡ true
-or_true true b is = refl
-or_true false b is = is
-
-first_true : (a b : Bool) → a ≡ true → (a || b) ≡ true
-first_true true b is = refl
-first_true false b is = absurd (cc)
-
 sells_it : (o : OfferEntry) (held : Asset) → o.selling ≡ held → trades_in held o ≡ true
-sells_it o held same = first_true (is_eq (asset_cmp o.selling held)) (is_eq (asset_cmp o.buying held))
-    (tie o.selling held same)
+sells_it o held same = or_left (is_eq (asset_cmp o.selling held)) (is_eq (asset_cmp o.buying held))
+    (same_assets_tied o.selling held same)
 
 buys_it : (o : OfferEntry) (held : Asset) → o.buying ≡ held → trades_in held o ≡ true
-buys_it o held same = or_true (is_eq (asset_cmp o.selling held)) (is_eq (asset_cmp o.buying held))
-    (tie o.buying held same)
+buys_it o held same = or_right (is_eq (asset_cmp o.selling held)) (is_eq (asset_cmp o.buying held))
+    (same_assets_tied o.buying held same)
 
 stated_none : (counts states is : ℤ) → counts ≡ pos 0 → counts ≡ (pos 0 +ℤ states) → states ≡ is → is ≡ pos 0
 stated_none counts states is none all same = omega (arith, ints)
@@ -113,12 +76,12 @@ module _ (v : View) (id_pool : ℕ) (sum : ℤ) (m : EntryMap) (legal : IsLegalO
   abbrev left : EntryMap
   left = map_after_cancelling_all offers m
 
-  standing : AreStanding m offers
-  standing = filtered_standing (trades_in held) m (offers_by m trustor)
-      (offers_standing v id_pool nothing_owed sum m legal trustor)
+  existing : AreExisting m offers
+  existing = filtered_existing (trades_in held) m (offers_by m trustor)
+      (offers_existing v id_pool nothing_owed sum m legal trustor)
 
   left_legal : IsLegalOwing v id_pool nothing_owed sum left
-  left_legal = all_legal v id_pool nothing_owed nothing_right sum offers m legal standing
+  left_legal = all_legal v id_pool nothing_owed nothing_right sum offers m legal existing
 
   pub revoked_legal : IsLegalOwing v id_pool nothing_owed sum (map_without_offers trustor held m)
   unfolding map_without_offers
@@ -127,18 +90,18 @@ module _ (v : View) (id_pool : ℕ) (sum : ℤ) (m : EntryMap) (legal : IsLegalO
   -- All accounts keep what they have.
   pub revoked_left : (base : ℕ) → Leaves base none_more m (map_without_offers trustor held m)
   unfolding map_without_offers
-  revoked_left base = all_left v id_pool nothing_owed nothing_right sum base offers m legal standing
+  revoked_left base = all_left v id_pool nothing_owed nothing_right sum base offers m legal existing
 
-  -- no offer of the account in the asset stands
+  -- no offer of the account in the asset exists
   none_trades : (k : LedgerKey) (e : LedgerEntry) (x : OfferEntry) → get left k ≡ Some e → e.body ≡ body.Offer x
       → x.seller_id ≡ trustor → trades_in held x ≡ true → ⊥
   none_trades k e x there is own passes =
       let named : offer_key x ≡ k = sym (ap key_of_body is) ∙ left_legal.keyed k e there in
       let at : get left (offer_key x) ≡ Some e = ap (get left) named ∙ there in
-      let stood = all_stood v id_pool nothing_owed nothing_right sum offers m legal standing x e at in
+      let existed = all_existed v id_pool nothing_owed nothing_right sum offers m legal existing x e at in
       let gone : get left (offer_key x) ≡ None =
       holds_of_own (IsGone left) m trustor (trades_in held)
-      (all_gone v id_pool nothing_owed nothing_right sum offers m legal standing) (offer_key x) e x stood is own
+      (all_gone v id_pool nothing_owed nothing_right sum offers m legal existing) (offer_key x) e x existed is own
       passes in
       absurd (cc)
 
@@ -173,8 +136,8 @@ module _ (v : View) (id_pool : ℕ) (sum : ℤ) (m : EntryMap) (legal : IsLegalO
   AreNone t = ((line_liabilities t).selling ≡ pos 0) × ((line_liabilities t).buying ≡ pos 0)
 
   left_unbound : (t : TrustLineEntry) → line_at left trustor (line_asset_of held) ≡ Some t → AreNone t
-  left_unbound t stands =
-      let found = line_entry left trustor (line_asset_of held) t stands in
+  left_unbound t exists =
+      let found = line_entry left trustor (line_asset_of held) t exists in
       let all = total_of v (IsEntryLegal id_pool) nothing_owed sum left left_legal in (
         stated_none (total (counted v Selling at) left) (stated_at Selling (get left at)) (line_liabilities t).selling
             (total_none (counted v Selling at) left (λ k e there. none_sold k e there e.body refl)) (all Selling at)

@@ -1,74 +1,40 @@
--- What a revocation leaves of shares of a pool is legal, and who stood stands.
-use Rattle.std.proofs.Common.{◌≡◌, ◌⊎◌, inl, inr, refl, sym, ap, subst, ◌∙◌, ℕ, zero, suc, ◌≤◌, Bool, true, false}
-use Rattle.std.proofs.Common.{[], ◌∷◌, ◌++◌, is_some, if◌then◌else◌, Option, Some, None, Ok, arith}
-use Rattle.std.proofs.lemmas.Int.{ints}
-use Rattle.std.proofs.lemmas.List.Elements.{All-nil, All-cons}
-use Rattle.std.specs.FinMap.{get}
-use Rattle.std.specs.Prelude.{ℤ, pos, neg_ℤ, ◌+ℤ◌, ◌≤ℤ◌}
-use Rattle.ledger_types.specs.declared.ids.AccountId.{AccountId}
-use Rattle.ledger_types.specs.declared.ids.Hash.{Hash}
-use Rattle.ledger_types.specs.declared.asset.Asset.{Asset}
+-- What a revocation leaves of shares of a pool is legal, and the accounts that existed still exist.
+use Rattle.op_flags.proofs.Prelude as prelude
+use prelude.{◌≡◌, ◌⊎◌, inl, inr, refl, sym, ap, subst, ◌∙◌, ℕ, zero, suc, ◌≤◌, Bool, true, false, [], ◌∷◌, ◌++◌}
+use prelude.{is_some, Option, Some, None, Ok, arith, ints, All-nil, All-cons, get, ℤ, pos, neg_ℤ, ◌+ℤ◌, ◌≤ℤ◌, AccountId}
+use prelude.{Hash, Asset, ClaimableBalanceEntry, TrustLineEntry, LiquidityPoolEntry, LedgerEntry, LedgerKey}
+use prelude.{OperationResult, EntryMap, HasAccount, balance_at, sponsor_of, line_at, pool_at, total, Ctx}
+use prelude.{map_after_adding, map_after_adding_balance, open_sponsor, payer_by, payer_of, Uses, View, stated_at}
+use prelude.{IsKeyed, none_more, under_key, view, nothing_owed, IsLegalOwing, AreEntriesLegal, needed_line, IsHeldIn}
+use prelude.{AreClaimantsInRange, IsBalanceInRange, of_asset, held, Leaves, entries_legal, line_entry, with_line_body}
+use prelude.{line_legal, line_named, first_passed, part_of, with_change, map_after_withdrawing, line_now, pool_now}
+use prelude.{sharing_legal, sharing_left, first_used, second_used, line_exists_so, is_issued_by, is_clawback_line}
+use prelude.{flagged_ext, line_of_asset, sponsor_at, Revoked, Given, revoked_id, sole_claimant, revoked_balance}
+use prelude.{move_to, alone, balance_put, balance_added, left_by, left, payer_of_share, given_of, and_then, both_left}
+use prelude.{map_without_shares, share_revoked_by, share_revoked_of, share_revoked, add_neg_self, add_zero_at_most}
+use prelude.{natural_nonnegative, natural_positive}
+use Rattle.std.proofs.Common.{if◌then◌else◌}
 use Rattle.ledger_types.specs.declared.asset.Asset.TheVariants as asset
 use Rattle.ledger_types.specs.declared.asset.TrustLineAsset.TheVariants as line
 use Rattle.ledger_types.specs.declared.claimable_balance.Claimant.{Claimant}
-use Rattle.ledger_types.specs.declared.claimable_balance.ClaimableBalanceEntry.{ClaimableBalanceEntry}
 use Rattle.ledger_types.specs.declared.predicate.ClaimPredicate.TheVariants.{Unconditional}
 use Rattle.ledger_types.specs.declared.predicate.ClaimPredicate.TheViews.{out-ClaimPredicate}
-use Rattle.ledger_types.specs.declared.trust_line.TrustLineEntry.{TrustLineEntry}
-use Rattle.ledger_types.specs.declared.liquidity_pool.LiquidityPoolEntry.{LiquidityPoolEntry}
-use Rattle.ledger_types.specs.declared.entry.LedgerEntry.{LedgerEntry}
-use Rattle.ledger_types.specs.declared.key.LedgerKey.{LedgerKey}
 use Rattle.ledger_types.specs.declared.key.LedgerKey.TheVariants as key
-use Rattle.op_types.specs.declared.operation_result.OperationResult.{OperationResult}
 use Rattle.op_types.specs.declared.operation_result.OperationResult.TheVariants.{NotSupported}
 use Rattle.valid_values.specs.Assets.{is_valid_asset}
 use Rattle.valid_values.specs.Predicates.{is_valid_below, is_valid_stored_predicate}
-use Rattle.entry_map.specs.EntryMap.{EntryMap}
-use Rattle.entry_slots.specs.Accounts.{HasAccount}
-use Rattle.entry_slots.specs.Balances.{balance_at}
-use Rattle.entry_slots.specs.EntrySponsor.{sponsor_of}
-use Rattle.entry_slots.specs.Lines.{line_at}
-use Rattle.entry_slots.specs.Pools.{pool_at}
-use Rattle.trade_cross.specs.entry_sums.Sums.{total}
-use Rattle.sponsor_rules.specs.declared.context.Ctx.{Ctx}
 use Rattle.sponsor_rules.specs.declared.count.Count.TheVariants as count
-use Rattle.sponsor_rules.specs.Adding.{map_after_adding, map_after_adding_balance}
-use Rattle.sponsor_rules.specs.Payers.{open_sponsor, payer_by, payer_of}
-use Rattle.trade_cross.specs.legal_rules.Books.{Uses, View, stated_at}
-use Rattle.trade_cross.specs.legal_rules.Holdings.{IsKeyed, none_more, under_key}
-use Rattle.trade_cross.specs.legal_rules.Legal.{view}
-use Rattle.trade_cross.specs.legal_rules.Owing.{nothing_owed, IsLegalOwing, AreEntriesLegal}
-use Rattle.trade_cross.specs.legal_rules.PoolShares.{needed_line}
-use Rattle.trade_cross.specs.legal_rules.Ranges.{IsHeldIn, AreClaimantsInRange, IsBalanceInRange}
-use Rattle.trade_cross.specs.legal_rules.Supply.{of_asset, held}
-use Rattle.trade_cross.proofs.legal_rules_proofs.Kept.{balance_added_so, plus_none}
-use Rattle.trade_cross.proofs.legal_rules_proofs.Leaving.{Leaves}
-use Rattle.trade_cross.proofs.legal_rules_proofs.Legality.{entries_legal}
-use Rattle.trade_cross.proofs.legal_rules_proofs.Liable.{line_entry, with_line_body}
-use Rattle.trade_cross.proofs.legal_rules_proofs.LinesLeft.{line_legal, line_named}
+use Rattle.trade_cross.proofs.legal_rules_proofs.Kept.{balance_added_so}
 use Rattle.trade_cross.proofs.legal_rules_proofs.Needed.{for_own}
 use Rattle.trade_cross.proofs.legal_rules_proofs.PaidFor.{nothing_settled}
-use Rattle.trade_cross.proofs.legal_rules_proofs.Passed.{first_passed}
 use Rattle.trade_cross.proofs.legal_rules_proofs.Removing.{owns}
-use Rattle.trade_cross.proofs.legal_rules_proofs.Standing.{counted_stands}
+use Rattle.trade_cross.proofs.legal_rules_proofs.Existing.{counted_exists}
 use Rattle.trade_cross.proofs.legal_rules_proofs.Subentries.{subentry_of}
 use Rattle.trade_cross.specs.Holdings.{line_paid}
-use Rattle.pool_shares.specs.Withdrawing.{part_of, with_change, map_after_withdrawing}
 use Rattle.pool_shares.proofs.Gone.{gone_legal}
 use Rattle.pool_shares.proofs.GoneLeft.{gone_left}
-use Rattle.pool_shares.proofs.Shared.{line_now, pool_now}
-use Rattle.pool_shares.proofs.Sharing.{sharing_legal, sharing_left}
-use Rattle.pool_shares.proofs.Sound.{first_used, second_used, line_stands_so}
-use Rattle.op_form.specs.Assets.{is_issued_by}
 use Rattle.op_form.specs.Done.{OfAccount, OfBalance}
-use Rattle.op_form.specs.Flags.{is_clawback_line, flagged_ext}
-use Rattle.op_form.specs.Assets.{line_of_asset}
-use Rattle.op_flags.specs.RevokedShares.{sponsor_at, Revoked, Given, revoked_id, sole_claimant, revoked_balance}
-use Rattle.op_flags.specs.RevokedShares.{move_to, alone}
-use Rattle.op_flags.specs.RevokedShares.{balance_put, balance_added, left_by, left, payer_of_share, given_of}
-use Rattle.op_flags.specs.RevokedShares.{and_then, both_left, map_without_shares, share_revoked_by, share_revoked_of}
-use Rattle.op_flags.specs.RevokedShares.{share_revoked}
-use Rattle.op_flags.proofs.BalanceLeft.{balance_left, no_balance, new_flags, payer_stands}
+use Rattle.op_flags.proofs.BalanceLeft.{balance_left, no_balance, new_flags, payer_exists}
 use Rattle.op_flags.proofs.Shares.{can_give_all}
 use Rattle.op_flags.proofs.Went.{went_on, went_after, went_after_charge}
 
@@ -76,9 +42,6 @@ use Rattle.op_flags.proofs.Went.{went_on, went_after, went_after_charge}
 
 one_and_none : (x y : ℤ) → pos 1 ≤ℤ x → y ≡ pos 0 → pos 1 ≤ℤ (x +ℤ y)
 one_and_none x y some none = omega (arith, ints)
-
-nothing_above : pos 0 ≤ℤ pos 0
-nothing_above = omega (arith, ints)
 
 module _ (v : View) (id_pool : ℕ) (sum : ℤ) (m : EntryMap) (legal : IsLegalOwing v id_pool nothing_owed sum m)
     (id : AccountId) (pool : Hash) where
@@ -97,16 +60,16 @@ module _ (v : View) (id_pool : ℕ) (sum : ℤ) (m : EntryMap) (legal : IsLegalO
     owner_there =
         let own = owns v id_pool nothing_owed sum m legal nothing_settled id 2 its_key its there
         (subentry_of its.body id 2 refl) in
-        (own.account, own.stands)
+        (own.account, own.exists)
 
     sponsor_there : (s : AccountId) → sponsor_of its ≡ Some s → HasAccount m s
     sponsor_there s is =
-        let own = counted_stands v id_pool nothing_owed sum m legal count.Sponsoring s 1 its_key its nothing_above there
+        let own = counted_exists v id_pool nothing_owed sum m legal count.Sponsoring s 1 its_key its (natural_nonnegative 0) there
         (one_and_none _ _ (for_own s (sponsor_of its) 2 is (omega arith)) refl) (omega arith) in
-        (own.account, own.stands)
+        (own.account, own.exists)
 
     payer_by_there : HasAccount m (payer_by id (sponsor_of its))
-    payer_by_there = payer_stands m id (sponsor_of its) owner_there sponsor_there
+    payer_by_there = payer_exists m id (sponsor_of its) owner_there sponsor_there
 
   pub payer_there : (t : TrustLineEntry) → line_at m id (line.PoolShare pool) ≡ Some t
       → HasAccount m (payer_of_share id pool m)
@@ -127,33 +90,30 @@ module _ (v : View) (id_pool : ℕ) (sum : ℤ) (m : EntryMap) (legal : IsLegalO
   valid_by asset.Native used other = refl
   valid_by (asset.Alphanum4 code issuer) used other =
       let x = line.Alphanum4 code issuer in
-      let stood = line_stands_so m id x (used (key.TrustLine id x)
+      let existed = line_exists_so m id x (used (key.TrustLine id x)
       (ap (λ (b : Bool). if b then None else Some (key.TrustLine id x)) other)) in
-      let its_line = line_legal v id_pool nothing_owed sum m id x stood.0 legal stood.1 in
-      (subst (IsHeldIn stood.0.account_id) its_line.asset its_line.range.held).0
+      let its_line = line_legal v id_pool nothing_owed sum m id x existed.0 legal existed.1 in
+      (subst (IsHeldIn existed.0.account_id) its_line.asset its_line.range.held).0
   valid_by (asset.Alphanum12 code issuer) used other =
       let x = line.Alphanum12 code issuer in
-      let stood = line_stands_so m id x (used (key.TrustLine id x)
+      let existed = line_exists_so m id x (used (key.TrustLine id x)
       (ap (λ (b : Bool). if b then None else Some (key.TrustLine id x)) other)) in
-      let its_line = line_legal v id_pool nothing_owed sum m id x stood.0 legal stood.1 in
-      (subst (IsHeldIn stood.0.account_id) its_line.asset its_line.range.held).0
+      let its_line = line_legal v id_pool nothing_owed sum m id x existed.0 legal existed.1 in
+      (subst (IsHeldIn existed.0.account_id) its_line.asset its_line.range.held).0
 
   module _ (t : TrustLineEntry) (p : LiquidityPoolEntry) (has : line_at m id (line.PoolShare pool) ≡ Some t)
-      (stands : pool_at m pool ≡ Some p) where
+      (exists : pool_at m pool ≡ Some p) where
     pub first_valid : is_issued_by p.params.asset_a id ≡ false → is_valid_asset p.params.asset_a ≡ true
-    first_valid = valid_by p.params.asset_a (first_used v id_pool sum m legal id pool t has p stands)
+    first_valid = valid_by p.params.asset_a (first_used v id_pool sum m legal id pool t has p exists)
 
     pub second_valid : is_issued_by p.params.asset_b id ≡ false → is_valid_asset p.params.asset_b ≡ true
-    second_valid = valid_by p.params.asset_b (second_used v id_pool sum m legal id pool t has p stands)
+    second_valid = valid_by p.params.asset_b (second_used v id_pool sum m legal id pool t has p exists)
 
 -- ---- the shares go, and their line
 
-none_left : (n : ℤ) → (n +ℤ neg_ℤ n) ≡ pos 0
-none_left n = omega (arith, ints)
-
 module _ (id_pool : ℕ) (m : EntryMap) (legal : AreEntriesLegal id_pool m) (id : AccountId) (pool : Hash)
     (t : TrustLineEntry) (p : LiquidityPoolEntry) (has : line_at m id (line.PoolShare pool) ≡ Some t)
-    (stands : pool_at m pool ≡ Some p) where
+    (exists : pool_at m pool ≡ Some p) where
   abbrev a : ℤ
   a = neg_ℤ (pos (part_of p t.balance).a)
 
@@ -168,28 +128,28 @@ module _ (id_pool : ℕ) (m : EntryMap) (legal : AreEntriesLegal id_pool m) (id 
 
   pub withdrawn_legal : AreEntriesLegal id_pool withdrawn
   withdrawn_legal = entries_legal (view m) id_pool _ withdrawn
-      (sharing_legal (view m) id_pool (total (held asset.Native) m) m id pool t p a b (neg_ℤ t.balance) legal has stands
-      (can_give_all id_pool m legal id pool t p has stands))
+      (sharing_legal (view m) id_pool (total (held asset.Native) m) m id pool t p a b (neg_ℤ t.balance) legal has exists
+      (can_give_all id_pool m legal id pool t p has exists))
 
   pub line_empty : line_at withdrawn id (line.PoolShare pool) ≡ Some (line_paid (neg_ℤ t.balance) t)
   line_empty = line_now m legal.keyed id pool a b (neg_ℤ t.balance) t has
 
   pub pool_left_there : pool_at withdrawn pool ≡ Some (with_change a b (neg_ℤ t.balance) p)
-  pool_left_there = pool_now m legal.keyed id pool a b (neg_ℤ t.balance) p stands
+  pool_left_there = pool_now m legal.keyed id pool a b (neg_ℤ t.balance) p exists
 
   pub gone_entries : AreEntriesLegal id_pool gone
   gone_entries = entries_legal _ id_pool _ gone
       (gone_legal (view withdrawn) id_pool (total (held asset.Native) withdrawn) id pool
       (line_paid (neg_ℤ t.balance) t) (with_change a b (neg_ℤ t.balance) p) withdrawn withdrawn_legal line_empty
-      (none_left t.balance) pool_left_there)
+      (add_neg_self t.balance) pool_left_there)
 
   pub then_gone : (base : ℕ) → Leaves base none_more withdrawn gone
   then_gone base = gone_left id_pool base withdrawn withdrawn_legal id pool (line_paid (neg_ℤ t.balance) t)
-      (with_change a b (neg_ℤ t.balance) p) line_empty (none_left t.balance) pool_left_there
+      (with_change a b (neg_ℤ t.balance) p) line_empty (add_neg_self t.balance) pool_left_there
 
-  pub still_stands : (x : AccountId) → HasAccount m x → HasAccount gone x
-  still_stands x stood = (then_gone 0).stand x
-      ((sharing_left 0 m legal.keyed id pool t p has stands a b (neg_ℤ t.balance)).stand x stood)
+  pub still_exists : (x : AccountId) → HasAccount m x → HasAccount gone x
+  still_exists x existed = (then_gone 0).exist x
+      ((sharing_left 0 m legal.keyed id pool t p has exists a b (neg_ℤ t.balance)).exist x existed)
 
 -- ---- what an amount becomes
 
@@ -285,9 +245,6 @@ sole_in_range id = record {
       (All-nil (λ (c : Claimant). is_valid_stored_predicate c.predicate ≡ true));
 }
 
-one_at_least : (n : ℕ) → 1 ≤ n → pos 1 ≤ℤ pos n
-one_at_least n some = omega (arith, ints)
-
 abbrev pub balance_of_given : Ctx → Given → EntryMap → ClaimableBalanceEntry
 balance_of_given ctx given m = record {
   balance_id = revoked_id ctx given;
@@ -300,13 +257,13 @@ balance_of_given ctx given m = record {
 balance_in_range : (ctx : Ctx) (given : Given) (m : EntryMap) → 1 ≤ given.amount → is_valid_asset given.asset ≡ true
     → IsBalanceInRange (balance_of_given ctx given m)
 balance_in_range ctx given m some valid = record {
-  amount = one_at_least given.amount some;
+  amount = natural_positive given.amount some;
   asset = valid;
   flags = new_flags (is_clawback_line (line_of_asset m given.trustor given.asset));
   claimants = sole_in_range given.trustor;
 }
 
-module _ (id_pool : ℕ) (ctx : Ctx) (given : Given) (m : EntryMap) (r : Revoked) (stands : HasAccount m given.payer)
+module _ (id_pool : ℕ) (ctx : Ctx) (given : Given) (m : EntryMap) (r : Revoked) (exists : HasAccount m given.payer)
     (valid : is_issued_by given.asset given.trustor ≡ false → is_valid_asset given.asset ≡ true) where
   module _ (put : IsPut ctx given m r) where
     pub put_legal : (v : View) (sum : ℤ) → IsLegalOwing v id_pool nothing_owed sum m
@@ -316,9 +273,9 @@ module _ (id_pool : ℕ) (ctx : Ctx) (given : Given) (m : EntryMap) (r : Revoked
         (revoked_balance ctx given m) m r.entries legal refl (record {
           free = no_balance m (revoked_id ctx given) legal.keyed put.free;
           unsponsored = refl;
-          id_free = λ id. plus_none _ (legal.offers id);
+          id_free = λ id. add_zero_at_most _ (pos 1) (legal.offers id);
         }) (balance_in_range ctx given m put.some (valid put.other))
-        (subst (HasAccount m) (sym (pays_alone ctx given.payer)) stands) put.added
+        (subst (HasAccount m) (sym (pays_alone ctx given.payer)) exists) put.added
 
     pub put_left : IsKeyed m → Leaves ctx.base_reserve
         (under_key (key.ClaimableBalance (revoked_id ctx given)) (λ x. of_asset x given.asset (pos given.amount))) m
@@ -329,16 +286,16 @@ module _ (id_pool : ℕ) (ctx : Ctx) (given : Given) (m : EntryMap) (r : Revoked
         (ap (λ p. map_after_adding_balance (alone ctx) (revoked_balance ctx given m) p 1 m)
         (sym (pays_alone ctx given.payer)) ∙ put.added)
 
-  -- legal entries, in which who stood stands
+  -- legal entries, in which the accounts that existed still exist
   abbrev pub IsGood : EntryMap → Type 0
   IsGood new = AreEntriesLegal id_pool new × ((x : AccountId) → HasAccount m x → HasAccount new x)
 
   pub left_good : AreEntriesLegal id_pool m → IsLeft ctx given m r → IsGood r.entries
-  left_good legal (inl none) = subst IsGood (sym none.entries) (legal, λ x stood. stood)
-  left_good legal (inr (inl kept)) = subst IsGood (sym kept.entries) (legal, λ x stood. stood)
+  left_good legal (inl none) = subst IsGood (sym none.entries) (legal, λ x existed. existed)
+  left_good legal (inr (inl kept)) = subst IsGood (sym kept.entries) (legal, λ x existed. existed)
   left_good legal (inr (inr put)) = (
     entries_legal (view m) id_pool _ r.entries (put_legal put (view m) (total (held asset.Native) m) legal),
-    (put_left put legal.keyed).stand,
+    (put_left put legal.keyed).exist,
   )
 
 -- ---- one share line
@@ -346,7 +303,7 @@ module _ (id_pool : ℕ) (ctx : Ctx) (given : Given) (m : EntryMap) (r : Revoked
 module _ (ctx : Ctx) (low : OperationResult) (m : EntryMap) (legal : AreEntriesLegal ctx.id_pool m) (id : AccountId)
     (pool : Hash) where
   module _ (t : TrustLineEntry) (p : LiquidityPoolEntry) (has : line_at m id (line.PoolShare pool) ≡ Some t)
-      (stands : pool_at m pool ≡ Some p) where
+      (exists : pool_at m pool ≡ Some p) where
     abbrev payer : AccountId
     payer = payer_of_share id pool m
 
@@ -360,7 +317,7 @@ module _ (ctx : Ctx) (low : OperationResult) (m : EntryMap) (legal : AreEntriesL
     emptied = map_without_shares id pool p t (part_of p t.balance) m
 
     payer_still : HasAccount emptied payer
-    payer_still = still_stands ctx.id_pool m legal id pool t p has stands payer
+    payer_still = still_exists ctx.id_pool m legal id pool t p has exists payer
         (payer_there (view m) ctx.id_pool _ m legal id pool t has)
 
     -- both amounts are left, one after the other
@@ -386,22 +343,22 @@ module _ (ctx : Ctx) (low : OperationResult) (m : EntryMap) (legal : AreEntriesL
     share_by r is =
         let both = both_so r is in
         let first = left_good ctx.id_pool ctx given_a emptied both.0 payer_still
-        (first_valid (view m) ctx.id_pool _ m legal id pool t p has stands)
-        (gone_entries ctx.id_pool m legal id pool t p has stands)
+        (first_valid (view m) ctx.id_pool _ m legal id pool t p has exists)
+        (gone_entries ctx.id_pool m legal id pool t p has exists)
         (left_so ctx low given_a emptied both.0 both.2) in
         let second = left_good ctx.id_pool ctx given_b both.0.entries both.1 (first.1 payer payer_still)
-        (second_valid (view m) ctx.id_pool _ m legal id pool t p has stands) first.0
+        (second_valid (view m) ctx.id_pool _ m legal id pool t p has exists) first.0
         (left_so ctx low given_b both.0.entries both.1 both.3) in
         subst (λ (x : Revoked). AreEntriesLegal ctx.id_pool x.entries) (sym both.4) second.0
 
   share_of_both : (o : Option TrustLineEntry) (q : Option LiquidityPoolEntry)
       → line_at m id (line.PoolShare pool) ≡ o → pool_at m pool ≡ q → (r : Revoked)
       → share_revoked_of ctx low id pool m o q ≡ Ok r → AreEntriesLegal ctx.id_pool r.entries
-  share_of_both (Some t) (Some p) has stands r is = share_by t p has stands r is
-  share_of_both None q has stands r is =
+  share_of_both (Some t) (Some p) has exists r is = share_by t p has exists r is
+  share_of_both None q has exists r is =
       let same : record { entries = m; moves = [] } ≡ r = cc in
       subst (λ (x : Revoked). AreEntriesLegal ctx.id_pool x.entries) same legal
-  share_of_both (Some t) None has stands r is =
+  share_of_both (Some t) None has exists r is =
       let same : record { entries = m; moves = [] } ≡ r = cc in
       subst (λ (x : Revoked). AreEntriesLegal ctx.id_pool x.entries) same legal
 

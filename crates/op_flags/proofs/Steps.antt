@@ -1,23 +1,12 @@
--- One step of a revocation behind another one.
-use Rattle.std.proofs.Common.{◌≡◌, refl, sym, ap, subst, ◌∙◌, ℕ, suc, ◌+◌, ◌<◌, ◌≤◌, List, ◌∷◌, Option, Some, None}
-use Rattle.std.proofs.Common.{Result, Ok, Err, length, drop, get_or, drop-cons, arith}
-use Rattle.std.proofs.lemmas.List.{drop_all}
-use Rattle.std.specs.Prelude.{IfOk}
-use Rattle.ledger_types.specs.declared.ids.AccountId.{AccountId}
-use Rattle.ledger_types.specs.declared.ids.Hash.{Hash}
-use Rattle.op_types.specs.declared.operation_result.OperationResult.{OperationResult}
-use Rattle.entry_map.specs.EntryMap.{EntryMap}
-use Rattle.entry_map.specs.Undo.{Undo, with_current}
-use Rattle.sponsor_rules.specs.declared.context.Ctx.{Ctx}
-use Rattle.sponsor_rules.specs.declared.fault.AddFault.{AddFault}
+-- One step of a revocation after another one.
+use Rattle.op_flags.proofs.Prelude.{◌≡◌, refl, sym, ap, subst, ◌∙◌, ℕ, suc, ◌+◌, ◌<◌, ◌≤◌, List, ◌∷◌, Option, Some}
+use Rattle.op_flags.proofs.Prelude.{None, Result, Ok, Err, length, drop, get_or, drop-cons, arith, drop_all, IfOk}
+use Rattle.op_flags.proofs.Prelude.{AccountId, Hash, OperationResult, EntryMap, Undo, with_current, Ctx, AddFault}
+use Rattle.op_flags.proofs.Prelude.{IsRefused, after, after_charge, AreEntriesLegal, entries_left, IsUnpaid, IsRevoked}
+use Rattle.op_flags.proofs.Prelude.{UnlessRefused, Revoked, and_then, share_revoked, all_revoked}
 use Rattle.sponsor_rules.specs.declared.fault.AddFault.TheVariants.{NoMemory, LowReserve}
 use Rattle.sponsor_rules.specs.declared.fault.AddFault.TheVariants.{TooManySubentries, TooManySponsoring}
-use Rattle.sponsor_rules.specs.Outcome.{IsRefused}
 use Rattle.op_form.specs.Faults.{fault_result}
-use Rattle.op_form.specs.Steps.{after, after_charge}
-use Rattle.trade_cross.specs.legal_rules.Owing.{AreEntriesLegal}
-use Rattle.op_flags.specs.Outcomes.{entries_left, IsUnpaid, IsRevoked, UnlessRefused}
-use Rattle.op_flags.specs.RevokedShares.{Revoked, and_then, share_revoked, all_revoked}
 
 -- what moves beside doesn't change what is left
 left_alone : (first : Revoked) (next : Result Revoked OperationResult) → entries_left (and_then first next)
@@ -46,7 +35,7 @@ refused_then (Ok r) next now result is refused =
     refused_alone r (next r.entries) result (ap next same ∙ refused)
 refused_then (Err fault) next now result is refused = absurd (cc)
 
--- ---- one line behind another
+-- ---- one line after another
 
 -- so many lines are left to be removed
 pub record AreUnderway (ctx : Ctx) (low : OperationResult) (trustor : AccountId) (pools left : List Hash)
@@ -149,12 +138,12 @@ legal_unless id_pool (Some result) old new step legal is = tt
 
 -- ---- a balance that isn't added
 
--- for a fault that isn't want of memory
-told : (low : OperationResult) (old new : Undo) (outcome : Result EntryMap AddFault)
+-- for a fault that isn't an allocation failure
+answered_so : (low : OperationResult) (old new : Undo) (outcome : Result EntryMap AddFault)
     (next : EntryMap → Result Revoked OperationResult) (fault : AddFault) (refusal : Option OperationResult)
     → outcome ≡ Err fault → new ≡ old → refusal ≡ Some (fault_result fault low)
     → IsRevoked refusal old new (after_charge outcome low next)
-told low old new outcome next fault refusal is same answered =
+answered_so low old new outcome next fault refusal is same answered =
     subst (λ o. IsRevoked o old new (after_charge outcome low next)) (sym answered)
     (ap (λ o. after_charge o low next) is, same ∙ sym (ap (λ (u : Undo). with_current old u.current) same))
 
@@ -164,11 +153,11 @@ pub unpaid_so : (low : OperationResult) (old new : Undo) (outcome : Result Entry
     → IsRevoked refusal old new (after_charge outcome low next)
 unpaid_so low old new outcome next NoMemory refusal refused none = absurd none
 unpaid_so low old new outcome next LowReserve refusal refused is =
-    told low old new outcome next LowReserve refusal refused.0 refused.1 is
+    answered_so low old new outcome next LowReserve refusal refused.0 refused.1 is
 unpaid_so low old new outcome next TooManySubentries refusal refused is =
-    told low old new outcome next TooManySubentries refusal refused.0 refused.1 is
+    answered_so low old new outcome next TooManySubentries refusal refused.0 refused.1 is
 unpaid_so low old new outcome next TooManySponsoring refusal refused is =
-    told low old new outcome next TooManySponsoring refusal refused.0 refused.1 is
+    answered_so low old new outcome next TooManySponsoring refusal refused.0 refused.1 is
 
 pub if_ok : {A E : Type 0} (P Q : A → Type 0) → ((a : A) → P a → Q a) → (r : Result A E) → IfOk r P → IfOk r Q
 if_ok P Q on (Ok a) holds = on a holds

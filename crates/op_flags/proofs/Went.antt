@@ -1,10 +1,7 @@
 -- What has passed: tests that let a step through, and steps of operations that went on.
-use Rattle.std.proofs.Common.{◌≡◌, refl, Option, Some, None, Result, Ok, Err}
-use Rattle.op_types.specs.declared.operation_result.OperationResult.{OperationResult}
-use Rattle.entry_map.specs.EntryMap.{EntryMap}
-use Rattle.entry_slots.specs.Tests.{Tests, first_fault}
-use Rattle.sponsor_rules.specs.declared.fault.AddFault.{AddFault}
-use Rattle.op_form.specs.Steps.{unless_result, unless_refused, after, after_some, after_charge, after_step}
+use Rattle.op_flags.proofs.Prelude.{◌≡◌, refl, Option, Some, None, Result, Ok, Err, OperationResult, EntryMap, Tests}
+use Rattle.op_flags.proofs.Prelude.{first_fault, AddFault, unless_result, unless_refused, after, after_some}
+use Rattle.op_flags.proofs.Prelude.{after_charge, after_step}
 
 -- an operation that went on
 pub went_on : {A : Type 0} (tests : Tests OperationResult) (next : Result A OperationResult) (a : A)

@@ -46,7 +46,7 @@ allow_tests ctx allow_op = (
   answer allow.Malformed,
 ) ∷ []
 
--- an authorisation is taken back, or from one that is whole only that to maintain liabilities is left
+-- an authorisation is taken back, or a full one is reduced to that to maintain liabilities
 abbrev pub takes_back : AllowTrustOp → TrustLineEntry → Bool
 takes_back allow_op line =
     nat_eq allow_op.authorize 0 || nat_eq allow_op.authorize 2 && is_authorized line

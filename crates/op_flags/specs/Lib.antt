@@ -1,5 +1,5 @@
 pub mod Revoking
-pub mod Standing
+pub mod Existing
 pub mod RevokedShares
 pub mod LineFlags
 pub mod AllowTrust

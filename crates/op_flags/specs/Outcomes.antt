@@ -53,7 +53,7 @@ abbrev pub UnlessRefused : Option OperationResult → Type 0 → Type 0
 UnlessRefused None P = P
 UnlessRefused (Some result) P = Unit {0}
 
--- what answers a balance that isn't added; want of memory ends a call and not an operation
+-- what answers a balance that isn't added; an allocation failure ends a call and not an operation
 abbrev pub IsUnpaid : (low : OperationResult) → AddFault → Option OperationResult → Type 0
 IsUnpaid low NoMemory refusal = ⊥
 IsUnpaid low fault refusal = refusal ≡ Some (fault_result fault low)

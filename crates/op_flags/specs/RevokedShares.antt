@@ -37,7 +37,7 @@ use Rattle.pool_shares.specs.AccountPools.{pools_held_by}
 use Rattle.pool_shares.specs.ShareLines.{map_without_share_line}
 use Rattle.pool_shares.specs.Withdrawing.{Part, part_of, map_after_withdrawing}
 
--- the entries behind a step, and what it moved
+-- the entries after a step, and what it moved
 pub record Revoked : Type 0 where
   pub entries : EntryMap
   pub moves : List Move

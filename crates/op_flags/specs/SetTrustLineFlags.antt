@@ -32,7 +32,7 @@ is_foreign ctx set_op =
     || is_same_account set_op.trustor ctx.op_source
 
 -- No line has flags above TRUSTLINE_CLAWBACK_ENABLED (4), which can be cleared and not set. AUTHORIZED (1) and
--- AUTHORIZED_TO_MAINTAIN_LIABILITIES (2) don't stand together.
+-- AUTHORIZED_TO_MAINTAIN_LIABILITIES (2) aren't set together.
 abbrev pub are_flags_bad : SetTrustLineFlagsOp → Bool
 are_flags_bad set_op =
     nat_lt 7 set_op.clear_flags || nat_lt 7 set_op.set_flags || has_any set_op.set_flags set_op.clear_flags

@@ -71,7 +71,7 @@ fn asset_with(code: &AssetCode, issuer: &AccountId) -> Asset
     }
 }
 
-/// Whether an authorisation is taken back, or from one that is whole only that to maintain liabilities is left.
+/// Whether an authorisation is taken back, or a full one is reduced to that to maintain liabilities.
 fn takes_back(op: &AllowTrustOp, line: &TrustLineEntry) -> bool
     ensures { result ≡ spec.takes_back op.now line.now }
 {
@@ -96,7 +96,7 @@ fn allow_line<B: Base>(
     requires seq { ctx.now.seq < last_seq }
     requires legal { AreEntriesLegal ctx.now.id_pool entries.old.current }
     requires authorize { op.now.authorize ≤ 2 }
-    requires stands { line_of_asset entries.old.current op.now.trustor (spec.asset_allowed ctx.now op.now) ≡
+    requires exists { line_of_asset entries.old.current op.now.trustor (spec.asset_allowed ctx.now op.now) ≡
         Some line.now }
     ensures { IfOk result (λ r.
         Makes r ctx.now entries.old entries.new (

@@ -46,7 +46,7 @@ pub fn flag_line<B: Base>(
     requires seq { ctx.now.seq < last_seq }
     requires legal { AreEntriesLegal ctx.now.id_pool entries.old.current }
     requires issued { is_native asset.now ≡ false }
-    requires stands { line_of_asset entries.old.current trustor.now asset.now ≡ Some line.now }
+    requires exists { line_of_asset entries.old.current trustor.now asset.now ≡ Some line.now }
     requires flags { spec.AreFlagsFit flags }
     ensures { IfOk result (λ r.
         Makes r ctx.now entries.old entries.new (
@@ -73,7 +73,7 @@ fn revoke<B: Base>(
     requires seq { ctx.now.seq < last_seq }
     requires legal { AreEntriesLegal ctx.now.id_pool entries.old.current }
     requires issued { is_native asset.now ≡ false }
-    requires stands { line_of_asset entries.old.current trustor.now asset.now ≡ Some line.now }
+    requires exists { line_of_asset entries.old.current trustor.now asset.now ≡ Some line.now }
     requires flags { spec.AreFlagsFit flags }
     requires revoked { spec.is_revoked line.now flags ≡ true }
     ensures { IfOk result (λ r.
@@ -96,7 +96,7 @@ fn revoke<B: Base>(
     }
 }
 
-/// Gives the line other flags, if it stands. It is looked up here, since offers that were removed bound it.
+/// Gives the line other flags, if it exists. It is looked up here, since offers that were removed bound it.
 #[tactic(auto, unfolding(entry_slots::specs::Lines::with_line))]
 fn set_flags<B: Base>(
     entries: &mut Entries<'_, B>,

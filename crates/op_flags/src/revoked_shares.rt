@@ -122,7 +122,7 @@ fn revoke_loaded<B: Base>(
     leave_both(entries, ctx, by, &a, &b)
 }
 
-/// Removes an account's line of a pool's shares, if it stands, and leaves what the shares gave, or answers why that
+/// Removes an account's line of a pool's shares, if it exists, and leaves what the shares gave, or answers why that
 /// can't be.
 fn revoke_share<B: Base>(
     entries: &mut Entries<'_, B>,
@@ -169,7 +169,7 @@ fn revoke_all<B: Base>(
     Ok(None)
 }
 
-/// Whether a pool stands and has an asset.
+/// Whether a pool exists and has an asset.
 fn has_asset<B: Base>(
     entries: &Entries<'_, B>,
     asset: &Asset,

@@ -6,7 +6,7 @@ ghost use Rattle.entry_map.specs.Undo.{with_current};
 ghost use Rattle.entry_slots.specs.Offers.{offer_at};
 ghost use Rattle.trade_cross.specs.Crossable.{IsCrossable};
 ghost use Rattle.op_flags.specs.Revoking as spec;
-ghost use Rattle.op_flags.specs.Standing.{AreStanding, map_after_one};
+ghost use Rattle.op_flags.specs.Existing.{AreExisting, map_after_one};
 
 use entry_map::{Base, Entries};
 use ledger_types::{AccountId, Asset, OfferEntry};
@@ -22,7 +22,7 @@ fn trades_in(offer: &OfferEntry, asset: &Asset) -> bool
     offer.selling.is_same(asset) || offer.buying.is_same(asset)
 }
 
-/// Removes an offer that stands, if it sells or buys the asset.
+/// Removes an existing offer, if it sells or buys the asset.
 fn cancel_trading<B: Base>(
     entries: &mut Entries<'_, B>,
     ctx: &Ctx,
@@ -30,7 +30,7 @@ fn cancel_trading<B: Base>(
     offer: &OfferEntry,
 ) -> Result<(), AllocError>
     requires crossable { IsCrossable entries.old.current }
-    requires stands { offer_at entries.old.current offer.now.seller_id offer.now.offer_id ≡ Some offer.now }
+    requires exists { offer_at entries.old.current offer.now.seller_id offer.now.offer_id ≡ Some offer.now }
     ensures entries { OnOk result (
         entries.new ≡ with_current entries.old (map_after_one asset.now offer.now entries.old.current)) }
     ensures crossable { OnOk result (IsCrossable entries.new.current) }
@@ -42,7 +42,7 @@ fn cancel_trading<B: Base>(
     }
 }
 
-/// Removes those of some offers that sell or buy the asset, one after the other. They all stand, with distinct ids.
+/// Removes those of some offers that sell or buy the asset, one after the other. They all exist, with distinct ids.
 fn cancel_all<B: Base>(
     entries: &mut Entries<'_, B>,
     ctx: &Ctx,
@@ -50,7 +50,7 @@ fn cancel_all<B: Base>(
     offers: &[OfferEntry],
 ) -> Result<(), AllocError>
     requires crossable { IsCrossable entries.old.current }
-    requires standing { AreStanding entries.old.current offers.now }
+    requires existing { AreExisting entries.old.current offers.now }
     ensures { OnOk result (
         entries.new ≡
         with_current entries.old (

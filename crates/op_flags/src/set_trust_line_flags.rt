@@ -128,7 +128,7 @@ fn set_line<B: Base>(
     requires legal { AreEntriesLegal ctx.now.id_pool entries.old.current }
     requires foreign { spec.is_foreign ctx.now op.now ≡ false }
     requires few { spec.are_flags_bad op.now ≡ false }
-    requires stands { line_of_asset entries.old.current op.now.trustor op.now.asset ≡ Some line.now }
+    requires exists { line_of_asset entries.old.current op.now.trustor op.now.asset ≡ Some line.now }
     ensures { IfOk result (λ r.
         Makes r ctx.now entries.old entries.new (
         spec.line_set ctx.now op.now entries.old.current source.now line.now)) }

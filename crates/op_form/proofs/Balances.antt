@@ -1,33 +1,22 @@
 -- Balances and liabilities of accounts and of lines that stay in their ranges.
-use Rattle.std.proofs.Common.{◌≡◌, ◌⊎◌, inl, inr, refl, sym, ap, subst, ◌∙◌, Bool, true, false, cond, Option, Some}
-use Rattle.std.proofs.Common.{None}
-use Rattle.std.proofs.Common.{arith}
-use Rattle.std.proofs.lemmas.Int.{ints}
-use Rattle.std.specs.Prelude.{ℤ, pos, ◌+ℤ◌, ◌-ℤ◌, ◌≤ℤ◌, if◌then◌else◌}
-use Rattle.std.specs.FinMap.{get, get-insert, get-remove}
+use Rattle.op_form.proofs.Prelude.{◌≡◌, ◌⊎◌, inl, inr, refl, sym, ap, subst, ◌∙◌, Bool, true, false, cond, Option, Some}
+use Rattle.op_form.proofs.Prelude.{None, arith, ints, ℤ, pos, ◌+ℤ◌, ◌-ℤ◌, ◌≤ℤ◌, if◌then◌else◌, get, get-insert}
+use Rattle.op_form.proofs.Prelude.{get-remove, AccountId, AccountEntry, LedgerEntry, key_of, keys_total, EntryMap, put}
+use Rattle.op_form.proofs.Prelude.{erase, account_in, account_of, account_at, with_account, with_account_of}
+use Rattle.op_form.proofs.Prelude.{with_account_in, account_liabilities, line_in, line_of, line_at, IsInRange}
+use Rattle.op_form.proofs.Prelude.{IsLineInRange, greatest_i64, room, line_room, with_more_lumens}
+use Rattle.op_form.proofs.Prelude.{map_after_lumens_credit, map_after_lumens_credit_of, BalancesAreInRange}
 use Rattle.std.specs.Ordering.{is_lt, int_cmp}
-use Rattle.ledger_types.specs.declared.ids.AccountId.{AccountId}
-use Rattle.ledger_types.specs.declared.account.AccountEntry.{AccountEntry}
 use Rattle.ledger_types.specs.declared.asset.TrustLineAsset.{TrustLineAsset}
 use Rattle.ledger_types.specs.declared.trust_line.TrustLineEntry.{TrustLineEntry}
-use Rattle.ledger_types.specs.declared.entry.LedgerEntry.{LedgerEntry}
 use Rattle.ledger_types.specs.declared.entry.LedgerEntryBody.{LedgerEntryBody}
 use Rattle.ledger_types.specs.declared.entry.LedgerEntryBody.TheVariants as body
 use Rattle.ledger_types.specs.declared.key.LedgerKey.{LedgerKey}
 use Rattle.ledger_types.specs.declared.key.LedgerKey.TheVariants as key
-use Rattle.ledger_types.specs.Keys.{key_of}
-use Rattle.ledger_types.proofs.KeyOrdering.{keys_total}
-use Rattle.entry_map.specs.EntryMap.{EntryMap, put, erase}
-use Rattle.entry_slots.specs.Accounts.{account_in, account_of, account_at, with_account, with_account_of}
-use Rattle.entry_slots.specs.Accounts.{with_account_in}
-use Rattle.entry_slots.specs.AccountExtensions.{account_liabilities}
-use Rattle.entry_slots.specs.Lines.{line_in, line_of, line_at}
 use Rattle.entry_slots.specs.LineExtensions.{line_liabilities}
-use Rattle.reserve_rules.specs.Reserve.{IsInRange, IsLineInRange, greatest_i64, room, line_room}
 use Rattle.op_form.specs.Amounts.{with_more}
-use Rattle.op_form.specs.Lumens.{with_more_lumens, map_after_lumens_credit, map_after_lumens_credit_of}
-use Rattle.op_form.specs.Premises.{BalancesAreInRange}
 use Rattle.op_form.proofs.Premises.{in_range_with}
+use Rattle.ledger_types.proofs.Arithmetic.{add_nonnegative, int_cmp_not_less}
 
 -- ---- an entry that is put or erased
 
@@ -118,19 +107,13 @@ account_changed m id f range all = changed_of m f (get m (key.Account id)) range
 
 -- ---- lumens that are taken
 
-not_less : (x y : ℤ) → is_lt (int_cmp x y) ≡ false → y ≤ℤ x
-not_less x y h = grind (arith, ints)
-
-more_low : (b n : ℤ) → pos 0 ≤ℤ b → pos 0 ≤ℤ n → pos 0 ≤ℤ (b +ℤ n)
-more_low b n low also = omega (arith, ints)
-
 more_fits : (b n buying g : ℤ) → n ≤ℤ (g -ℤ b -ℤ buying) → ((b +ℤ n) +ℤ buying) ≤ℤ g
 more_fits b n buying g le = omega (arith, ints)
 
 more_in_range : (a : AccountEntry) (amount : ℤ) → IsInRange a → pos 0 ≤ℤ amount → amount ≤ℤ room a
     → IsInRange (with_more_lumens amount a)
 more_in_range a amount range low fits = record {
-  balance = more_low a.balance amount range.balance low;
+  balance = add_nonnegative a.balance amount range.balance low;
   buying = range.buying;
   selling = range.selling;
   fits = more_fits a.balance amount (account_liabilities a).buying greatest_i64 fits;
@@ -140,19 +123,19 @@ taken_by : (id : AccountId) (amount : ℤ) (m new : EntryMap) (a : AccountEntry)
     → is_lt (int_cmp (room a) amount) ≡ t → account_at m id ≡ Some a
     → (if t then None else Some (with_account m id (with_more_lumens amount))) ≡ Some new → pos 0 ≤ℤ amount
     → BalancesAreInRange m → BalancesAreInRange new
-taken_by id amount m new a true test stands is low all = absurd (cc)
-taken_by id amount m new a false test stands is low all =
+taken_by id amount m new a true test exists is low all = absurd (cc)
+taken_by id amount m new a false test exists is low all =
     let same : with_account m id (with_more_lumens amount) ≡ new = cc in
     subst BalancesAreInRange same (account_changed m id (with_more_lumens amount) (λ b there.
     let one : a ≡ b = cc in
     subst (λ (x : AccountEntry). IsInRange (with_more_lumens amount x)) one
-    (more_in_range a amount (all.accounts.in_range id a stands) low (not_less (room a) amount test))) all)
+    (more_in_range a amount (all.accounts.in_range id a exists) low (int_cmp_not_less (room a) amount test))) all)
 
 taken_of : (id : AccountId) (amount : ℤ) (m new : EntryMap) (o : Option AccountEntry) → account_at m id ≡ o
     → map_after_lumens_credit_of id amount m o ≡ Some new → pos 0 ≤ℤ amount → BalancesAreInRange m
     → BalancesAreInRange new
-taken_of id amount m new None stands is low all = absurd (cc)
-taken_of id amount m new (Some a) stands is low all = taken_by id amount m new a _ refl stands is low all
+taken_of id amount m new None exists is low all = absurd (cc)
+taken_of id amount m new (Some a) exists is low all = taken_by id amount m new a _ refl exists is low all
 
 pub lumens_taken : (id : AccountId) (amount : ℤ) (m new : EntryMap) → map_after_lumens_credit id amount m ≡ Some new
     → pos 0 ≤ℤ amount → BalancesAreInRange m → BalancesAreInRange new
@@ -160,20 +143,17 @@ lumens_taken id amount m new is low all = taken_of id amount m new (account_at m
 
 -- ---- a line that is changed
 
-line_more_fits : (b n buying limit : ℤ) → n ≤ℤ (limit -ℤ b -ℤ buying) → ((b +ℤ n) +ℤ buying) ≤ℤ limit
-line_more_fits b n buying limit le = omega (arith, ints)
-
 line_more_covers : (s b n : ℤ) → s ≤ℤ b → pos 0 ≤ℤ n → s ≤ℤ (b +ℤ n)
 line_more_covers s b n le low = omega (arith, ints)
 
 pub line_more_in_range : (t : TrustLineEntry) (amount : ℤ) → IsLineInRange t → pos 0 ≤ℤ amount → amount ≤ℤ line_room t
     → IsLineInRange (with_more amount t)
 line_more_in_range t amount range low fits = record {
-  balance = more_low t.balance amount range.balance low;
+  balance = add_nonnegative t.balance amount range.balance low;
   buying = range.buying;
   selling = range.selling;
   covered = line_more_covers (line_liabilities t).selling t.balance amount range.covered low;
-  fits = line_more_fits t.balance amount (line_liabilities t).buying t.limit fits;
+  fits = more_fits t.balance amount (line_liabilities t).buying t.limit fits;
 }
 
 pub line_only : (t : TrustLineEntry) → IsLineInRange t → IsInRangeIn (body.TrustLine t)

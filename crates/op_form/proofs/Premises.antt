@@ -1,17 +1,9 @@
 -- What operations ask of accounts, in a map into which an entry is put.
-use Rattle.std.proofs.Common.{◌≡◌, ◌⊎◌, inl, inr, sym, ap, ◌∙◌, Bool, true, false, cond, Option, Some}
-use Rattle.std.specs.FinMap.{get, get-insert}
-use Rattle.ledger_types.specs.declared.ids.AccountId.{AccountId}
-use Rattle.ledger_types.specs.declared.account.AccountEntry.{AccountEntry}
-use Rattle.ledger_types.specs.declared.entry.LedgerEntry.{LedgerEntry}
+use Rattle.op_form.proofs.Prelude.{◌≡◌, ◌⊎◌, inl, inr, sym, ap, ◌∙◌, Bool, true, false, cond, Option, Some, get}
+use Rattle.op_form.proofs.Prelude.{get-insert, AccountId, AccountEntry, LedgerEntry, key_of, keys_total, EntryMap, put}
+use Rattle.op_form.proofs.Prelude.{account_in, account_of, account_at, IsInRange, AccountsAreReady, AccountsAreInRange}
 use Rattle.ledger_types.specs.declared.key.LedgerKey.TheVariants as key
-use Rattle.ledger_types.specs.Keys.{key_of}
-use Rattle.ledger_types.proofs.KeyOrdering.{keys_total}
-use Rattle.entry_map.specs.EntryMap.{EntryMap, put}
-use Rattle.entry_slots.specs.Accounts.{account_in, account_of, account_at}
-use Rattle.reserve_rules.specs.Reserve.{IsInRange}
 use Rattle.sponsor_rules.specs.Payers.{IsReadyAccount}
-use Rattle.op_form.specs.Premises.{AccountsAreReady, AccountsAreInRange}
 
 found : (b : Bool) (e : LedgerEntry) (o : Option LedgerEntry) (account : AccountEntry)
     → account_of (cond b (Some e) o) ≡ Some account

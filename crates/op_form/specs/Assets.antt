@@ -22,7 +22,7 @@ is_issued_by asset.Native id = false
 is_issued_by (asset.Alphanum4 code issuer) id = is_same_account issuer id
 is_issued_by (asset.Alphanum12 code issuer) id = is_same_account issuer id
 
--- the account that issues an asset, where that stands
+-- the account that issues an asset, where that exists
 abbrev pub issuer_at : EntryMap → Asset → Option AccountEntry
 issuer_at m asset.Native = None
 issuer_at m (asset.Alphanum4 code issuer) = account_at m issuer
@@ -34,6 +34,6 @@ line_asset_of asset.Native = line.Native
 line_asset_of (asset.Alphanum4 code issuer) = line.Alphanum4 code issuer
 line_asset_of (asset.Alphanum12 code issuer) = line.Alphanum12 code issuer
 
--- an account's line in an asset, if it stands
+-- an account's line in an asset, if it exists
 abbrev pub line_of_asset : EntryMap → AccountId → Asset → Option TrustLineEntry
 line_of_asset m id held = line_at m id (line_asset_of held)

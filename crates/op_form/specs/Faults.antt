@@ -6,7 +6,7 @@ use Rattle.sponsor_rules.specs.declared.fault.AddFault.{AddFault}
 use Rattle.sponsor_rules.specs.declared.fault.AddFault.TheVariants as fault
 
 -- Too many subentries, or too much that is paid for, is a code of operations. `low` is the operation's own result for a
--- reserve that can't be paid. Want of memory answers nothing; it counts as that here.
+-- reserve that can't be paid. An allocation failure answers nothing; it counts as that here.
 abbrev pub fault_result : AddFault → OperationResult → OperationResult
 fault_result fault.TooManySubentries low = op.TooManySubentries
 fault_result fault.TooManySponsoring low = op.TooManySponsoring

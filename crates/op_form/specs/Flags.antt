@@ -35,7 +35,7 @@ is_authorized line = has_any line.flags 1
 abbrev pub is_line_clawback_enabled : TrustLineEntry → Bool
 is_line_clawback_enabled line = has_any line.flags 4
 
--- what is held in a line, if it stands, can be taken back
+-- what is held in a line, if it exists, can be taken back
 abbrev pub is_clawback_line : Option TrustLineEntry → Bool
 is_clawback_line None = false
 is_clawback_line (Some line) = is_line_clawback_enabled line

@@ -17,7 +17,7 @@ use Rattle.sponsor_rules.specs.Payers.{IsReady}
 pub record AccountsAreReady (m : EntryMap) : Type 0 where
   pub ready : (id : AccountId) → IsReady m id
 
--- balance and liabilities of the account with this id are in their ranges, if it stands
+-- balance and liabilities of the account with this id are in their ranges, if it exists
 abbrev pub IsInRangeAt : EntryMap → AccountId → Type 0
 IsInRangeAt m id = (account : AccountEntry) → account_at m id ≡ Some account → IsInRange account
 
@@ -25,7 +25,7 @@ IsInRangeAt m id = (account : AccountEntry) → account_at m id ≡ Some account
 pub record AccountsAreInRange (m : EntryMap) : Type 0 where
   pub in_range : (id : AccountId) → IsInRangeAt m id
 
--- balance and liabilities of the account's line in this asset are in their ranges, if it stands
+-- balance and liabilities of the account's line in this asset are in their ranges, if it exists
 abbrev pub IsLineInRangeAt : EntryMap → AccountId → TrustLineAsset → Type 0
 IsLineInRangeAt m id held = (line : TrustLineEntry) → line_at m id held ≡ Some line → IsLineInRange line
 

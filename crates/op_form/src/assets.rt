@@ -41,7 +41,7 @@ pub fn line_asset_of(asset: &Asset) -> TrustLineAsset
     }
 }
 
-/// The account that issues an asset, if it stands.
+/// The account that issues an asset, if it exists.
 pub fn load_issuer<B: Base>(
     entries: &Entries<'_, B>,
     asset: &Asset,

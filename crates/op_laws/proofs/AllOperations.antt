@@ -1,13 +1,10 @@
 -- Every operation is lawful.
-use Rattle.std.proofs.Common.{◌≡◌, refl, Ok, Err}
+use Rattle.op_laws.proofs.Prelude as prelude
+use prelude.{◌≡◌, refl, Ok, Err, OperationResult, NotSupported, EntryMap, Ctx, account_merge, bump_sequence}
+use prelude.{create_account, attempt_of, offers_operation, manage_data, set_options, path_payment_strict_receive}
+use prelude.{path_payment_strict_send, payment, liquidity_pool_deposit, liquidity_pool_withdraw, revoke_sponsorship}
+use prelude.{change_trust, trust_operation, Done, Attempt, done_of, IsLawful, AllLawful, IsUnderway, leaves_itself}
 use Rattle.op_flags.specs.op_types.declared.operation.OperationBody.TheVariants as body
-use Rattle.op_flags.specs.op_types.declared.operation_result.OperationResult.{OperationResult}
-use Rattle.op_flags.specs.op_types.declared.operation_result.OperationResult.TheVariants.{NotSupported}
-use Rattle.op_flags.specs.entry_map.EntryMap.{EntryMap}
-use Rattle.op_flags.specs.sponsor_rules.declared.context.Ctx.{Ctx}
-use Rattle.op_account.specs.AccountMerge.{account_merge}
-use Rattle.op_account.specs.BumpSequence.{bump_sequence}
-use Rattle.op_account.specs.CreateAccount.{create_account}
 use Rattle.op_account.specs.Operations.{account_operation}
 use Rattle.op_claim.specs.ClaimClaimableBalance.{claim_claimable_balance}
 use Rattle.op_claim.specs.Clawback.{clawback}
@@ -17,26 +14,13 @@ use Rattle.op_claim.specs.Operations.{claim_operation}
 use Rattle.op_flags.specs.AllowTrust.{allow_trust}
 use Rattle.op_flags.specs.Operations.{flags_operation}
 use Rattle.op_flags.specs.SetTrustLineFlags.{set_trust_line_flags}
-use Rattle.op_offers.specs.Operations.{attempt_of, offers_operation}
-use Rattle.op_options.specs.ManageData.{manage_data}
 use Rattle.op_options.specs.Operations.{options_operation}
-use Rattle.op_options.specs.SetOptions.{set_options}
 use Rattle.op_payment.specs.Operations.{payment_operation}
-use Rattle.op_payment.specs.PathReceive.{path_payment_strict_receive}
-use Rattle.op_payment.specs.PathSend.{path_payment_strict_send}
-use Rattle.op_payment.specs.Payment.{payment}
-use Rattle.op_pool.specs.Deposit.{liquidity_pool_deposit}
 use Rattle.op_pool.specs.Operations.{pool_operation}
-use Rattle.op_pool.specs.Withdraw.{liquidity_pool_withdraw}
 use Rattle.op_sponsor.specs.BeginSponsoringFutureReserves.{begin_sponsoring}
 use Rattle.op_sponsor.specs.EndSponsoringFutureReserves.{end_sponsoring}
 use Rattle.op_sponsor.specs.Operations.{sponsor_operation}
-use Rattle.op_sponsor.specs.RevokeSponsorship.{revoke_sponsorship}
-use Rattle.op_trust.specs.Operations.{change_trust, trust_operation}
-use Rattle.op_flags.specs.op_form.Done.{Done, Attempt, done_of}
 use Rattle.op_laws.specs.AnyOperation.{any_operation}
-use Rattle.op_laws.specs.Laws.{IsLawful, AllLawful}
-use Rattle.op_laws.specs.Underway.{IsUnderway}
 use Rattle.op_laws.proofs.BumpSequence.{bump_sequence_is_lawful}
 use Rattle.op_laws.proofs.ChangeTrust.{change_trust_is_lawful}
 use Rattle.op_laws.proofs.Claims.{claim_claimable_balance_is_lawful, clawback_claimable_balance_is_lawful}
@@ -55,7 +39,6 @@ use Rattle.op_laws.proofs.Payment.{payment_is_lawful}
 use Rattle.op_laws.proofs.Revoking.{revoke_sponsorship_is_lawful}
 use Rattle.op_laws.proofs.SetOptions.{set_options_is_lawful}
 use Rattle.op_laws.proofs.Sponsorships.{begin_sponsoring_is_lawful, end_sponsoring_is_lawful}
-use Rattle.op_flags.proofs.legal_rules_proofs.Leaving.{leaves_itself}
 use Rattle.op_laws.proofs.Withdrawals.{liquidity_pool_withdraw_is_lawful}
 
 -- An operation that fails leaves all as it was.
@@ -72,56 +55,56 @@ attempted ctx m under (Err result) lawful = failed_is_lawful ctx m under result
 pub all_are_lawful : AllLawful
 unfolding any_operation account_operation options_operation payment_operation trust_operation flags_operation
     claim_operation sponsor_operation offers_operation pool_operation
-all_are_lawful ctx (body.CreateAccount op) m fit under stands = attempted ctx m under (create_account ctx op m)
-    (λ done is. create_account_is_lawful ctx op m done under stands is)
-all_are_lawful ctx (body.AccountMerge op) m fit under stands = attempted ctx m under (account_merge ctx op m)
-    (λ done is. account_merge_is_lawful ctx op m done under stands is)
-all_are_lawful ctx body.Inflation m fit under stands = failed_is_lawful ctx m under NotSupported
-all_are_lawful ctx (body.BumpSequence op) m fit under stands = attempted ctx m under (bump_sequence ctx op m)
-    (λ done is. bump_sequence_is_lawful ctx op m done fit under stands is)
-all_are_lawful ctx (body.ManageSellOffer op) m fit under stands = attempted ctx m under
+all_are_lawful ctx (body.CreateAccount op) m fit under exists = attempted ctx m under (create_account ctx op m)
+    (λ done is. create_account_is_lawful ctx op m done under exists is)
+all_are_lawful ctx (body.AccountMerge op) m fit under exists = attempted ctx m under (account_merge ctx op m)
+    (λ done is. account_merge_is_lawful ctx op m done under exists is)
+all_are_lawful ctx body.Inflation m fit under exists = failed_is_lawful ctx m under NotSupported
+all_are_lawful ctx (body.BumpSequence op) m fit under exists = attempted ctx m under (bump_sequence ctx op m)
+    (λ done is. bump_sequence_is_lawful ctx op m done fit under exists is)
+all_are_lawful ctx (body.ManageSellOffer op) m fit under exists = attempted ctx m under
     (attempt_of ctx (body.ManageSellOffer op) m)
-    (λ done is. manage_sell_offer_is_lawful ctx op m done under stands is)
-all_are_lawful ctx (body.CreatePassiveSellOffer op) m fit under stands = attempted ctx m under
+    (λ done is. manage_sell_offer_is_lawful ctx op m done under exists is)
+all_are_lawful ctx (body.CreatePassiveSellOffer op) m fit under exists = attempted ctx m under
     (attempt_of ctx (body.CreatePassiveSellOffer op) m)
-    (λ done is. create_passive_sell_offer_is_lawful ctx op m done under stands is)
-all_are_lawful ctx (body.ManageBuyOffer op) m fit under stands = attempted ctx m under
+    (λ done is. create_passive_sell_offer_is_lawful ctx op m done under exists is)
+all_are_lawful ctx (body.ManageBuyOffer op) m fit under exists = attempted ctx m under
     (attempt_of ctx (body.ManageBuyOffer op) m)
-    (λ done is. manage_buy_offer_is_lawful ctx op m done under stands is)
-all_are_lawful ctx (body.SetOptions op) m fit under stands = attempted ctx m under (set_options ctx op m)
-    (λ done is. set_options_is_lawful ctx op m done under stands is)
-all_are_lawful ctx (body.ManageData op) m fit under stands = attempted ctx m under (manage_data ctx op m)
-    (λ done is. manage_data_is_lawful ctx op m done under stands is)
-all_are_lawful ctx (body.Payment op) m fit under stands = attempted ctx m under (payment ctx op m)
-    (λ done is. payment_is_lawful ctx op m done under stands is)
-all_are_lawful ctx (body.PathPaymentStrictReceive op) m fit under stands = attempted ctx m under
-    (path_payment_strict_receive ctx op m) (λ done is. path_receive_is_lawful ctx op m done under stands is)
-all_are_lawful ctx (body.PathPaymentStrictSend op) m fit under stands = attempted ctx m under
-    (path_payment_strict_send ctx op m) (λ done is. path_send_is_lawful ctx op m done under stands is)
-all_are_lawful ctx (body.ChangeTrust op) m fit under stands = attempted ctx m under (change_trust ctx op m)
-    (λ done is. change_trust_is_lawful ctx op m done fit under stands is)
-all_are_lawful ctx (body.AllowTrust op) m fit under stands = attempted ctx m under (allow_trust ctx op m)
-    (λ done is. allow_trust_is_lawful ctx op m done under stands is)
-all_are_lawful ctx (body.SetTrustLineFlags op) m fit under stands =
+    (λ done is. manage_buy_offer_is_lawful ctx op m done under exists is)
+all_are_lawful ctx (body.SetOptions op) m fit under exists = attempted ctx m under (set_options ctx op m)
+    (λ done is. set_options_is_lawful ctx op m done under exists is)
+all_are_lawful ctx (body.ManageData op) m fit under exists = attempted ctx m under (manage_data ctx op m)
+    (λ done is. manage_data_is_lawful ctx op m done under exists is)
+all_are_lawful ctx (body.Payment op) m fit under exists = attempted ctx m under (payment ctx op m)
+    (λ done is. payment_is_lawful ctx op m done under exists is)
+all_are_lawful ctx (body.PathPaymentStrictReceive op) m fit under exists = attempted ctx m under
+    (path_payment_strict_receive ctx op m) (λ done is. path_receive_is_lawful ctx op m done under exists is)
+all_are_lawful ctx (body.PathPaymentStrictSend op) m fit under exists = attempted ctx m under
+    (path_payment_strict_send ctx op m) (λ done is. path_send_is_lawful ctx op m done under exists is)
+all_are_lawful ctx (body.ChangeTrust op) m fit under exists = attempted ctx m under (change_trust ctx op m)
+    (λ done is. change_trust_is_lawful ctx op m done fit under exists is)
+all_are_lawful ctx (body.AllowTrust op) m fit under exists = attempted ctx m under (allow_trust ctx op m)
+    (λ done is. allow_trust_is_lawful ctx op m done under exists is)
+all_are_lawful ctx (body.SetTrustLineFlags op) m fit under exists =
     attempted ctx m under (set_trust_line_flags ctx op m)
-    (λ done is. set_trust_line_flags_is_lawful ctx op m done under stands is)
-all_are_lawful ctx (body.CreateClaimableBalance op) m fit under stands = attempted ctx m under
+    (λ done is. set_trust_line_flags_is_lawful ctx op m done under exists is)
+all_are_lawful ctx (body.CreateClaimableBalance op) m fit under exists = attempted ctx m under
     (create_claimable_balance ctx op m)
-    (λ done is. create_claimable_balance_is_lawful ctx op m done fit under stands is)
-all_are_lawful ctx (body.ClaimClaimableBalance op) m fit under stands = attempted ctx m under
-    (claim_claimable_balance ctx op m) (λ done is. claim_claimable_balance_is_lawful ctx op m done under stands is)
-all_are_lawful ctx (body.Clawback op) m fit under stands = attempted ctx m under (clawback ctx op m)
-    (λ done is. clawback_is_lawful ctx op m done under stands is)
-all_are_lawful ctx (body.ClawbackClaimableBalance op) m fit under stands = attempted ctx m under
+    (λ done is. create_claimable_balance_is_lawful ctx op m done fit under exists is)
+all_are_lawful ctx (body.ClaimClaimableBalance op) m fit under exists = attempted ctx m under
+    (claim_claimable_balance ctx op m) (λ done is. claim_claimable_balance_is_lawful ctx op m done under exists is)
+all_are_lawful ctx (body.Clawback op) m fit under exists = attempted ctx m under (clawback ctx op m)
+    (λ done is. clawback_is_lawful ctx op m done under exists is)
+all_are_lawful ctx (body.ClawbackClaimableBalance op) m fit under exists = attempted ctx m under
     (clawback_claimable_balance ctx op m)
-    (λ done is. clawback_claimable_balance_is_lawful ctx op m done under stands is)
-all_are_lawful ctx (body.BeginSponsoringFutureReserves op) m fit under stands = attempted ctx m under
-    (begin_sponsoring ctx op m) (λ done is. begin_sponsoring_is_lawful ctx op m done under stands is)
-all_are_lawful ctx body.EndSponsoringFutureReserves m fit under stands = attempted ctx m under (end_sponsoring ctx m)
-    (λ done is. end_sponsoring_is_lawful ctx tt m done under stands is)
-all_are_lawful ctx (body.RevokeSponsorship op) m fit under stands = attempted ctx m under (revoke_sponsorship ctx op m)
-    (λ done is. revoke_sponsorship_is_lawful ctx op m done under stands is)
-all_are_lawful ctx (body.LiquidityPoolDeposit op) m fit under stands = attempted ctx m under
-    (liquidity_pool_deposit ctx op m) (λ done is. liquidity_pool_deposit_is_lawful ctx op m done under stands is)
-all_are_lawful ctx (body.LiquidityPoolWithdraw op) m fit under stands = attempted ctx m under
-    (liquidity_pool_withdraw ctx op m) (λ done is. liquidity_pool_withdraw_is_lawful ctx op m done under stands is)
+    (λ done is. clawback_claimable_balance_is_lawful ctx op m done under exists is)
+all_are_lawful ctx (body.BeginSponsoringFutureReserves op) m fit under exists = attempted ctx m under
+    (begin_sponsoring ctx op m) (λ done is. begin_sponsoring_is_lawful ctx op m done under exists is)
+all_are_lawful ctx body.EndSponsoringFutureReserves m fit under exists = attempted ctx m under (end_sponsoring ctx m)
+    (λ done is. end_sponsoring_is_lawful ctx tt m done under exists is)
+all_are_lawful ctx (body.RevokeSponsorship op) m fit under exists = attempted ctx m under (revoke_sponsorship ctx op m)
+    (λ done is. revoke_sponsorship_is_lawful ctx op m done under exists is)
+all_are_lawful ctx (body.LiquidityPoolDeposit op) m fit under exists = attempted ctx m under
+    (liquidity_pool_deposit ctx op m) (λ done is. liquidity_pool_deposit_is_lawful ctx op m done under exists is)
+all_are_lawful ctx (body.LiquidityPoolWithdraw op) m fit under exists = attempted ctx m under
+    (liquidity_pool_withdraw ctx op m) (λ done is. liquidity_pool_withdraw_is_lawful ctx op m done under exists is)

@@ -1,21 +1,10 @@
--- Amounts of any asset that accounts give and take, as what moves tell.
-use Rattle.std.proofs.Common.{◌≡◌, refl, ℕ, Ok}
-use Rattle.std.specs.Prelude.{ℤ, pos, neg_ℤ, ◌≤ℤ◌}
-use Rattle.op_flags.specs.ledger_types.declared.ids.AccountId.{AccountId}
-use Rattle.op_flags.specs.ledger_types.declared.asset.Asset.{Asset}
+-- Amounts of any asset that accounts give and take, as moves say.
+use Rattle.op_laws.proofs.Prelude.{◌≡◌, refl, ℕ, Ok, ℤ, pos, neg_ℤ, ◌≤ℤ◌, AccountId, Asset, LedgerKey, EntryMap, Ctx}
+use Rattle.op_laws.proofs.Prelude.{Increase, AreEntriesLegal, leaves_as, map_after_debit, map_after_credit, OfAccount}
+use Rattle.op_laws.proofs.Prelude.{IsMoved, more_of, unless_issuer}
 use Rattle.op_flags.specs.ledger_types.declared.asset.Asset.TheVariants as asset
-use Rattle.op_flags.specs.ledger_types.declared.key.LedgerKey.{LedgerKey}
-use Rattle.op_flags.specs.entry_map.EntryMap.{EntryMap}
-use Rattle.op_flags.specs.sponsor_rules.declared.context.Ctx.{Ctx}
-use Rattle.op_flags.specs.legal_rules.Holdings.{Increase}
-use Rattle.op_flags.specs.legal_rules.Owing.{AreEntriesLegal}
-use Rattle.op_flags.proofs.legal_rules_proofs.Leaving.{leaves_as}
-use Rattle.op_flags.specs.op_form.Amounts.{map_after_debit, map_after_credit}
-use Rattle.op_flags.specs.op_form.Done.{OfAccount}
 use Rattle.op_payment.proofs.Amounts as plain
-use Rattle.op_payment.proofs.Amounts.{IsMoved, more_of}
-use Rattle.op_payment.proofs.Shifts.{unless_issuer}
-use Rattle.op_laws.proofs.Told.{more_for, account_more}
+use Rattle.op_laws.proofs.Described.{more_for, account_more}
 
 -- what entries hold more, in other words
 moved_as : (id_pool base : ℕ) (shift : Asset → ℤ) (d e : Increase) (old new : EntryMap)
@@ -26,11 +15,11 @@ moved_as id_pool base shift d e old new same moved = record {
   left = leaves_as base d e old new moved.left same;
 }
 
-more_told : (held : Asset) (id : AccountId) (n : ℤ) (k : LedgerKey) (x : Asset)
+more_described : (held : Asset) (id : AccountId) (n : ℤ) (k : LedgerKey) (x : Asset)
     → more_of held id n k x ≡ more_for held (OfAccount id) n k x
-more_told asset.Native id n k x = refl
-more_told (asset.Alphanum4 code issuer) id n k x = account_more (asset.Alphanum4 code issuer) refl id n k x
-more_told (asset.Alphanum12 code issuer) id n k x = account_more (asset.Alphanum12 code issuer) refl id n k x
+more_described asset.Native id n k x = refl
+more_described (asset.Alphanum4 code issuer) id n k x = account_more (asset.Alphanum4 code issuer) refl id n k x
+more_described (asset.Alphanum12 code issuer) id n k x = account_more (asset.Alphanum12 code issuer) refl id n k x
 
 module _ (ctx : Ctx) (id_pool : ℕ) (m : EntryMap) (legal : AreEntriesLegal id_pool m) (id : AccountId) (n : ℤ)
     (low : pos 0 ≤ℤ n) (new : EntryMap) where
@@ -38,11 +27,11 @@ module _ (ctx : Ctx) (id_pool : ℕ) (m : EntryMap) (legal : AreEntriesLegal id_
       → IsMoved id_pool ctx.base_reserve (λ x. unless_issuer x held id (neg_ℤ n))
       (more_for held (OfAccount id) (neg_ℤ n)) m new
   amount_given held is = moved_as id_pool ctx.base_reserve (λ x. unless_issuer x held id (neg_ℤ n))
-      (more_of held id (neg_ℤ n)) (more_for held (OfAccount id) (neg_ℤ n)) m new (more_told held id (neg_ℤ n))
+      (more_of held id (neg_ℤ n)) (more_for held (OfAccount id) (neg_ℤ n)) m new (more_described held id (neg_ℤ n))
       (plain.amount_given ctx id_pool m legal id n low new held is)
 
   pub amount_taken : (held : Asset) → map_after_credit id held n m ≡ Ok new
       → IsMoved id_pool ctx.base_reserve (λ x. unless_issuer x held id n) (more_for held (OfAccount id) n) m new
   amount_taken held is = moved_as id_pool ctx.base_reserve (λ x. unless_issuer x held id n) (more_of held id n)
-      (more_for held (OfAccount id) n) m new (more_told held id n)
+      (more_for held (OfAccount id) n) m new (more_described held id n)
       (plain.amount_taken ctx id_pool m legal id n low new held is)

@@ -1,20 +1,10 @@
 -- What is issued where an account gives something to a holder that issues nothing, or takes it from there: a claimable
 -- balance or a pool.
-use Rattle.std.proofs.Common.{◌≡◌, refl, ◌∙◌, Bool, true, false, [], ◌∷◌, arith}
-use Rattle.std.proofs.lemmas.Int.{ints}
-use Rattle.std.specs.Prelude.{ℤ, pos, neg_ℤ, ◌+ℤ◌, if◌then◌else◌}
-use Rattle.std.specs.Ordering.{is_eq}
-use Rattle.op_flags.specs.ledger_types.declared.ids.AccountId.{AccountId}
-use Rattle.op_flags.specs.ledger_types.declared.ids.ClaimableBalanceId.{ClaimableBalanceId}
-use Rattle.op_flags.specs.ledger_types.declared.ids.Hash.{Hash}
-use Rattle.op_flags.specs.ledger_types.declared.asset.Asset.{Asset}
+use Rattle.op_laws.proofs.Prelude.{◌≡◌, refl, ◌∙◌, Bool, true, false, [], ◌∷◌, arith, ints, ℤ, pos, neg_ℤ, ◌+ℤ◌}
+use Rattle.op_laws.proofs.Prelude.{if◌then◌else◌, is_eq, AccountId, ClaimableBalanceId, Hash, Asset, asset_cmp}
+use Rattle.op_laws.proofs.Prelude.{of_asset, is_issued_by, Holder, OfAccount, OfBalance, OfPool, Move, issued}
+use Rattle.op_laws.proofs.Prelude.{is_issuer, unless_issuer}
 use Rattle.op_flags.specs.ledger_types.declared.asset.Asset.TheVariants as asset
-use Rattle.op_flags.specs.ledger_types.KeyOrder.{asset_cmp}
-use Rattle.op_flags.specs.legal_rules.Supply.{of_asset}
-use Rattle.op_flags.specs.op_form.Assets.{is_issued_by}
-use Rattle.op_flags.specs.op_form.Done.{Holder, OfAccount, OfBalance, OfPool, Move}
-use Rattle.op_laws.specs.Moves.{issued, is_issuer}
-use Rattle.op_payment.proofs.Shifts.{unless_issuer}
 use Rattle.op_laws.proofs.IssuedMoves.{same_issuer, issued_so, issued_by_move}
 
 pub balance_issues_none : (held : Asset) (id : ClaimableBalanceId) → false ≡ is_issuer held (OfBalance id)

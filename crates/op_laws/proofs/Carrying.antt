@@ -1,67 +1,48 @@
--- What an amount that goes along a path leaves behind it, and what its trades move.
-use Rattle.std.proofs.Common.{◌≡◌, refl, sym, ap, ◌∙◌, ℕ, Bool, true, false, List, [], ◌∷◌, ◌++◌}
-use Rattle.std.proofs.Common.{◌&&◌, arith}
-use Rattle.std.proofs.lemmas.Int.{ints}
-use Rattle.std.specs.Prelude.{ℤ, pos, neg_ℤ, ◌+ℤ◌, ◌-ℤ◌, if◌then◌else◌}
-use Rattle.std.specs.Ordering.{is_eq}
-use Rattle.op_flags.specs.ledger_types.declared.asset.Asset.{Asset}
+-- What an amount that goes along a path leaves, and what its trades move.
+use Rattle.op_laws.proofs.Prelude as prelude
+use prelude.{◌≡◌, refl, sym, ap, ◌∙◌, ℕ, Bool, true, false, List, [], ◌∷◌, ◌++◌, ◌&&◌, arith, ints, ℤ, pos, neg_ℤ, ◌+ℤ◌}
+use prelude.{◌-ℤ◌, if◌then◌else◌, is_eq, Asset, ClaimAtom, LedgerKey, asset_cmp, EntryMap, IsKeyed, both_more, of_asset}
+use prelude.{Leaves, leaves_itself, leaves_as, leaves_both, moves_of, atom_moves, Holder, Transit, Move, Trade}
+use prelude.{Crossing, kept_in, kept_by, more_in, atom_more, AreHopped, ShiftsLegal, shifts_as, shifts_both}
+use prelude.{shifts_nothing, is_holder, is_of_asset, gained, add_assoc, add_two_zeros, if_add, zero_add}
 use Rattle.op_flags.specs.ledger_types.declared.asset.Asset.TheVariants as asset
-use Rattle.op_flags.specs.ledger_types.declared.claim_atom.ClaimAtom.{ClaimAtom}
 use Rattle.op_flags.specs.ledger_types.declared.claim_atom.ClaimAtom.TheVariants as atom
-use Rattle.op_flags.specs.ledger_types.declared.key.LedgerKey.{LedgerKey}
-use Rattle.op_flags.specs.ledger_types.KeyOrder.{asset_cmp}
-use Rattle.op_flags.specs.entry_map.EntryMap.{EntryMap}
-use Rattle.op_flags.specs.legal_rules.Holdings.{IsKeyed, both_more}
-use Rattle.op_flags.specs.legal_rules.Supply.{of_asset}
-use Rattle.op_flags.proofs.legal_rules_proofs.Leaving.{Leaves, leaves_itself, leaves_as, leaves_both}
-use Rattle.op_flags.specs.op_form.AtomMoves.{moves_of, atom_moves}
-use Rattle.op_flags.specs.op_form.Done.{Holder, Transit, Move}
-use Rattle.op_flags.specs.trade_cross.declared.trade.Trade.{Trade}
-use Rattle.op_flags.specs.trade_cross.Crossing.{Crossing}
-use Rattle.op_flags.specs.trade_cross.CrossingLaws.{kept_in, kept_by, more_in, more_by as atom_more}
-use Rattle.op_flags.specs.trade_cross.HopLaws.{AreHopped}
-use Rattle.op_payment.proofs.Shifts.{ShiftsLegal, shifts_as, shifts_both, shifts_nothing}
-use Rattle.op_laws.specs.Moves.{is_holder, is_of_asset, gained}
-use Rattle.op_laws.proofs.Issued.{plus_assoc}
-use Rattle.op_laws.proofs.MoveSums.{Measure, summed, summed_behind, held_by, more_by}
-use Rattle.op_laws.proofs.TradeMoves.{IsLinear, others, sum_of_atoms, sum_if, held_linear, more_linear, others_kept}
+use Rattle.op_laws.proofs.MoveSums.{Measure, summed, summed_after, held_by, more_by}
+use Rattle.op_laws.proofs.TradeMoves.{IsLinear, others, sum_of_atoms, held_linear, more_linear, others_kept}
 use Rattle.op_laws.proofs.TradeMoves.{others_more}
 
 -- ---- lists of atoms
 
-none_before : (n : ℤ) → (pos 0 +ℤ n) ≡ n
-none_before n = omega (arith, ints)
-
-pub kept_behind : (x : Asset) (atoms later : List ClaimAtom)
+pub kept_after : (x : Asset) (atoms later : List ClaimAtom)
     → kept_in x (atoms ++ later) ≡ (kept_in x atoms +ℤ kept_in x later)
-kept_behind x [] later = sym (none_before (kept_in x later))
-kept_behind x (first ∷ atoms) later =
-    ap (λ n. kept_by x first +ℤ n) (kept_behind x atoms later)
-    ∙ sym (plus_assoc (kept_by x first) (kept_in x atoms) (kept_in x later))
+kept_after x [] later = sym (zero_add (kept_in x later))
+kept_after x (first ∷ atoms) later =
+    ap (λ n. kept_by x first +ℤ n) (kept_after x atoms later)
+    ∙ sym (add_assoc (kept_by x first) (kept_in x atoms) (kept_in x later))
 
-pub more_behind : (k : LedgerKey) (x : Asset) (atoms later : List ClaimAtom)
+pub more_after : (k : LedgerKey) (x : Asset) (atoms later : List ClaimAtom)
     → more_in (atoms ++ later) k x ≡ (more_in atoms k x +ℤ more_in later k x)
-more_behind k x [] later = sym (none_before (more_in later k x))
-more_behind k x (first ∷ atoms) later =
-    ap (λ n. atom_more first k x +ℤ n) (more_behind k x atoms later)
-    ∙ sym (plus_assoc (atom_more first k x) (more_in atoms k x) (more_in later k x))
+more_after k x [] later = sym (zero_add (more_in later k x))
+more_after k x (first ∷ atoms) later =
+    ap (λ n. atom_more first k x +ℤ n) (more_after k x atoms later)
+    ∙ sym (add_assoc (atom_more first k x) (more_in atoms k x) (more_in later k x))
 
 append_assoc : (a b c : List Move) → ((a ++ b) ++ c) ≡ (a ++ (b ++ c))
 append_assoc [] b c = refl
 append_assoc (move ∷ a) b c = ap (λ (l : List Move). move ∷ l) (append_assoc a b c)
 
-pub moves_behind : (taker : Holder) (atoms later : List ClaimAtom)
+pub moves_after : (taker : Holder) (atoms later : List ClaimAtom)
     → moves_of taker (atoms ++ later) ≡ moves_of taker atoms ++ moves_of taker later
-moves_behind taker [] later = refl
-moves_behind taker (first ∷ atoms) later =
-    ap (λ (l : List Move). atom_moves taker first ++ l) (moves_behind taker atoms later)
+moves_after taker [] later = refl
+moves_after taker (first ∷ atoms) later =
+    ap (λ (l : List Move). atom_moves taker first ++ l) (moves_after taker atoms later)
     ∙ sym (append_assoc (atom_moves taker first) (moves_of taker atoms) (moves_of taker later))
 
 pub summed_later : (by : Measure) (taker : Holder) (atoms later : List ClaimAtom)
     → summed by (moves_of taker (atoms ++ later))
     ≡ (summed by (moves_of taker atoms) +ℤ summed by (moves_of taker later))
 summed_later by taker atoms later =
-    ap (summed by) (moves_behind taker atoms later) ∙ summed_behind by (moves_of taker atoms) (moves_of taker later)
+    ap (summed by) (moves_after taker atoms later) ∙ summed_after by (moves_of taker atoms) (moves_of taker later)
 
 -- ---- the transit
 
@@ -98,8 +79,8 @@ gained_on_way x (move ∷ moves) =
 
 pub way_linear : (x : Asset) → IsLinear (way_by x)
 way_linear x held h a b =
-    ap (λ n. if is_holder Transit h then n else pos 0) (sum_if (is_eq (asset_cmp x held)) a b)
-    ∙ sum_if (is_holder Transit h) (of_asset x held a) (of_asset x held b)
+    ap (λ n. if is_holder Transit h then n else pos 0) (if_add (is_eq (asset_cmp x held)) a b)
+    ∙ if_add (is_holder Transit h) (of_asset x held a) (of_asset x held b)
 
 no_others : (x : Asset) (atoms : List ClaimAtom) → others (way_by x) atoms ≡ pos 0
 no_others x [] = refl
@@ -144,7 +125,7 @@ nothing_carried id_pool base p a m keyed = record {
   shifts = shifts_nothing id_pool m;
   left = leaves_itself base m keyed;
   way = λ x. gone_again (of_asset x p (pos a));
-  kept = λ x. gone_again (of_asset x p (pos a)) ∙ sym (none_before (turned x p a p a));
+  kept = λ x. gone_again (of_asset x p (pos a)) ∙ sym (zero_add (turned x p a p a));
   more = λ k x. refl;
 }
 
@@ -174,7 +155,7 @@ module _ (id_pool base : ℕ) (p : Asset) (a : ℕ) (q : Asset) (b : ℕ) (r : A
       summed_later (held_by x) Transit first later ∙ (λ i. one x i +ℤ two x i)
       ∙ kept_twice (kept_in x first) (kept_in x later) (of_asset x p (pos a)) (of_asset x q (pos b))
       (of_asset x r (pos c))
-      ∙ ap (λ n. n +ℤ turned x p a r c) (sym (kept_behind x first later))
+      ∙ ap (λ n. n +ℤ turned x p a r c) (sym (kept_after x first later))
 
   more_both : ((k : LedgerKey) (x : Asset) → summed (more_by k x) (moves_of Transit first) ≡ more_in first k x)
       → ((k : LedgerKey) (x : Asset) → summed (more_by k x) (moves_of Transit later) ≡ more_in later k x)
@@ -182,18 +163,18 @@ module _ (id_pool base : ℕ) (p : Asset) (a : ℕ) (q : Asset) (b : ℕ) (r : A
       ≡ more_in (first ++ later) k x
   more_both one two k x =
       summed_later (more_by k x) Transit first later ∙ (λ i. one k x i +ℤ two k x i)
-      ∙ sym (more_behind k x first later)
+      ∙ sym (more_after k x first later)
 
   -- the first trades are made first
   pub carried_on : IsCarried id_pool base p a q b old now first → IsCarried id_pool base q b r c now new later
       → IsCarried id_pool base p a r c old new (first ++ later)
   carried_on one two = record {
     shifts = shifts_as id_pool (λ x. kept_in x first +ℤ kept_in x later) (λ x. kept_in x (first ++ later)) old new
-        (λ x. sym (kept_behind x first later))
+        (λ x. sym (kept_after x first later))
         (shifts_both id_pool (λ x. kept_in x first) (λ x. kept_in x later) old now new one.shifts two.shifts);
     left = leaves_as base (both_more (more_in first) (more_in later)) (more_in (first ++ later)) old new
         (leaves_both base (more_in first) (more_in later) old now new one.left two.left)
-        (λ k x. sym (more_behind k x first later));
+        (λ k x. sym (more_after k x first later));
     way = way_both one.way two.way;
     kept = kept_both one.kept two.kept;
     more = more_both one.more two.more;
@@ -204,11 +185,11 @@ module _ (id_pool base : ℕ) (p : Asset) (a : ℕ) (q : Asset) (b : ℕ) (r : A
       → IsCarried id_pool base p a r c old new (first ++ later)
   carried_back two one = record {
     shifts = shifts_as id_pool (λ x. kept_in x later +ℤ kept_in x first) (λ x. kept_in x (first ++ later)) old new
-        (λ x. other_way (kept_in x first) (kept_in x later) ∙ sym (kept_behind x first later))
+        (λ x. other_way (kept_in x first) (kept_in x later) ∙ sym (kept_after x first later))
         (shifts_both id_pool (λ x. kept_in x later) (λ x. kept_in x first) old now new two.shifts one.shifts);
     left = leaves_as base (both_more (more_in later) (more_in first)) (more_in (first ++ later)) old new
         (leaves_both base (more_in later) (more_in first) old now new two.left one.left)
-        (λ k x. other_way (more_in first k x) (more_in later k x) ∙ sym (more_behind k x first later));
+        (λ k x. other_way (more_in first k x) (more_in later k x) ∙ sym (more_after k x first later));
     way = way_both one.way two.way;
     kept = kept_both one.kept two.kept;
     more = more_both one.more two.more;
@@ -218,9 +199,6 @@ module _ (id_pool base : ℕ) (p : Asset) (a : ℕ) (q : Asset) (b : ℕ) (r : A
 
 ends_turned : (o s w : ℤ) → (o +ℤ (neg_ℤ s +ℤ w)) ≡ (o +ℤ (w -ℤ s))
 ends_turned o s w = omega (arith, ints)
-
-nothing_more_there : (o : ℤ) → (o +ℤ (pos 0 +ℤ pos 0)) ≡ o
-nothing_more_there o = omega (arith, ints)
 
 -- what the atoms of a hop move
 module _ (trade : Trade) (done : Crossing) (hopped : AreHopped trade done) where
@@ -239,7 +217,7 @@ module _ (trade : Trade) (done : Crossing) (hopped : AreHopped trade done) where
       ∙ (λ i. no_others x done.atoms i
       +ℤ (of_neg x trade.sheep (pos done.sheep) i +ℤ of_asset x trade.wheat (pos done.wheat)))
       ∙ ends_turned (pos 0) (of_asset x trade.sheep (pos done.sheep)) (of_asset x trade.wheat (pos done.wheat))
-      ∙ none_before (turned x trade.sheep done.sheep trade.wheat done.wheat)
+      ∙ zero_add (turned x trade.sheep done.sheep trade.wheat done.wheat)
 
   pub hop_kept : (x : Asset) → summed (held_by x) (moves_of Transit done.atoms)
       ≡ (kept_in x done.atoms +ℤ turned x trade.sheep done.sheep trade.wheat done.wheat)
@@ -258,4 +236,4 @@ module _ (trade : Trade) (done : Crossing) (hopped : AreHopped trade done) where
       ∙ (λ i. sym (others_more k x done.atoms) i
       +ℤ (more_on_way k x trade.sheep (neg_ℤ (pos done.sheep)) i
       +ℤ more_on_way k x trade.wheat (pos done.wheat) i))
-      ∙ nothing_more_there (more_in done.atoms k x)
+      ∙ add_two_zeros (more_in done.atoms k x)

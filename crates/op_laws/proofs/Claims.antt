@@ -1,87 +1,41 @@
 -- CREATE_CLAIMABLE_BALANCE, CLAIM_CLAIMABLE_BALANCE and CLAWBACK_CLAIMABLE_BALANCE are lawful.
-use Rattle.std.proofs.Common.{◌≡◌, ◌≢◌, refl, sym, ap, subst, ◌∙◌, ℕ, Bool, true, false, not, ◌||◌}
-use Rattle.std.proofs.Common.{◌∷◌, [], length, map, is_some, Option, Some, None, Ok, arith}
-use Rattle.std.proofs.lemmas.Int.{ints}
-use Rattle.std.specs.Prelude.{ℤ, pos, neg_ℤ, int_le, ◌+ℤ◌, ◌≤ℤ◌, if◌then◌else◌}
-use Rattle.std.specs.FinMap.{get}
-use Rattle.std.specs.Ordering.{is_eq}
-use Rattle.op_flags.specs.ledger_types.declared.ids.AccountId.{AccountId}
-use Rattle.op_flags.specs.ledger_types.declared.ids.ClaimableBalanceId.{ClaimableBalanceId}
-use Rattle.op_flags.specs.ledger_types.declared.account.AccountEntry.{AccountEntry}
-use Rattle.op_flags.specs.ledger_types.declared.asset.Asset.{Asset}
+use Rattle.op_laws.proofs.Prelude as prelude
+use prelude.{◌≡◌, ◌≢◌, refl, sym, ap, subst, ◌∙◌, ℕ, Bool, true, false, not, ◌||◌, ◌∷◌, [], length, map, is_some}
+use prelude.{Option, Some, None, Ok, arith, ints, ℤ, pos, neg_ℤ, int_le, ◌+ℤ◌, ◌≤ℤ◌, if◌then◌else◌, get, is_eq}
+use prelude.{AccountId, ClaimableBalanceId, AccountEntry, Asset, TrustLineEntry, ClaimableBalanceEntry, LedgerEntry}
+use prelude.{LedgerKey, asset_cmp, key_of, OperationResult, NotSupported, is_valid_asset, EntryMap, erase, account_at}
+use prelude.{with_account, HasAccount, balance_at, sponsor_of, line_at, with_line, Tests, part, Ctx, map_after_adding}
+use prelude.{open_sponsor, payer_of, map_after_releasing, map_after_removing, map_after_removing_entry, nothing_owed}
+use prelude.{AreEntriesLegal, IsBodyInRange, IsBalanceInRange, of_asset, held, sponsors_ready, balance_added_so}
+use prelude.{balance_removed_so, line_entry, with_line_body, with_line_is, nothing_settled, account_entry}
+use prelude.{with_account_is, with_body, map_after_credit, map_after_debit, map_after_line_debit_of, line_debit_tests}
+use prelude.{is_issued_by, line_asset_of, Done, OfAccount, OfBalance, map_after_lumens_debit, with_less_lumens}
+use prelude.{flagged_ext, fixed_claimant, IsLawful, AreLawful, AreLawfulWhere, AreClaimantsFew, issued, is_issuer}
+use prelude.{IsUnderway, IsMoved, unless_issuer, shifts_as, shifts_both, ok_of, releasing_kept, erased_left, none_more}
+use prelude.{both_more, under_key, still_holds, cancelled, Leaves, leaves_both, leaves_as, keeps_then, went_on}
+use prelude.{went_after_some, went_after_step, first_passed, went_after_charge, put_elsewhere, add_zero_at_most}
+use prelude.{nonnegative_from_positive, positive_from_int_le, not-false, or_parts, unless_first_ok, debit_is_given}
 use Rattle.op_flags.specs.ledger_types.declared.asset.Asset.TheVariants as asset
-use Rattle.op_flags.specs.ledger_types.declared.trust_line.TrustLineEntry.{TrustLineEntry}
-use Rattle.op_flags.specs.ledger_types.declared.claimable_balance.ClaimableBalanceEntry.{ClaimableBalanceEntry}
-use Rattle.op_flags.specs.ledger_types.declared.entry.LedgerEntry.{LedgerEntry}
 use Rattle.op_flags.specs.ledger_types.declared.entry.LedgerEntryBody.TheVariants as body
-use Rattle.op_flags.specs.ledger_types.declared.key.LedgerKey.{LedgerKey}
 use Rattle.op_flags.specs.ledger_types.declared.key.LedgerKey.TheVariants as key
-use Rattle.op_flags.specs.ledger_types.KeyOrder.{asset_cmp}
-use Rattle.op_flags.specs.ledger_types.Keys.{key_of}
 use Rattle.op_flags.specs.op_types.declared.balance_ops.CreateClaimableBalanceOp.{CreateClaimableBalanceOp}
 use Rattle.op_flags.specs.op_types.declared.balance_results.CreateClaimableBalanceResult.TheVariants as create
 use Rattle.op_flags.specs.op_types.declared.balance_results.ClaimClaimableBalanceResult.TheVariants as claim
 use Rattle.op_flags.specs.op_types.declared.balance_results.ClawbackClaimableBalanceResult.TheVariants as claw
-use Rattle.op_flags.specs.op_types.declared.operation_result.OperationResult.{OperationResult}
-use Rattle.op_flags.specs.op_types.declared.operation_result.OperationResult.TheVariants.{NotSupported}
-use Rattle.op_flags.specs.valid_values.Assets.{is_valid_asset}
-use Rattle.op_flags.specs.entry_map.EntryMap.{EntryMap, erase}
-use Rattle.op_flags.specs.entry_slots.Accounts.{account_at, with_account, HasAccount}
-use Rattle.op_flags.specs.entry_slots.Balances.{balance_at}
-use Rattle.op_flags.specs.entry_slots.EntrySponsor.{sponsor_of}
-use Rattle.op_flags.specs.entry_slots.Lines.{line_at, with_line}
-use Rattle.op_flags.specs.entry_slots.Tests.{Tests}
-use Rattle.op_flags.specs.entry_sums.Sums.{part}
-use Rattle.op_flags.proofs.entry_sums_proofs.Lookups.{put_elsewhere}
-use Rattle.op_flags.specs.sponsor_rules.declared.context.Ctx.{Ctx}
-use Rattle.op_flags.specs.sponsor_rules.Adding.{map_after_adding}
-use Rattle.op_flags.specs.sponsor_rules.Payers.{open_sponsor, payer_of}
-use Rattle.op_flags.specs.sponsor_rules.Paying.{map_after_releasing}
-use Rattle.op_flags.specs.sponsor_rules.Removing.{map_after_removing, map_after_removing_entry}
-use Rattle.op_flags.specs.legal_rules.Owing.{nothing_owed, AreEntriesLegal}
-use Rattle.op_flags.specs.legal_rules.Ranges.{IsBodyInRange, IsBalanceInRange}
-use Rattle.op_flags.specs.legal_rules.Supply.{of_asset, held}
-use Rattle.op_flags.proofs.legal_rules_proofs.Given.{sponsors_ready}
-use Rattle.op_flags.proofs.legal_rules_proofs.Kept.{balance_added_so, balance_removed_so}
-use Rattle.op_flags.proofs.legal_rules_proofs.Liable.{line_entry, with_line_body, with_line_is}
-use Rattle.op_flags.proofs.legal_rules_proofs.PaidFor.{nothing_settled}
-use Rattle.op_flags.proofs.legal_rules_proofs.Steps.{account_entry, with_account_is, with_body}
 use Rattle.op_flags.specs.op_form.declared.amounts.DebitFault.TheVariants as debit
-use Rattle.op_flags.specs.op_form.Amounts.{map_after_credit, map_after_debit, map_after_line_debit_of}
-use Rattle.op_flags.specs.op_form.Amounts.{line_debit_tests, with_less}
-use Rattle.op_flags.specs.op_form.Assets.{is_issued_by, line_asset_of}
-use Rattle.op_flags.specs.op_form.Done.{Done, OfAccount, OfBalance}
-use Rattle.op_flags.specs.op_form.Lumens.{map_after_lumens_debit, with_less_lumens}
+use Rattle.op_flags.specs.op_form.Amounts.{with_less}
 use Rattle.op_claim.specs.ClaimClaimableBalance as claiming
 use Rattle.op_claim.specs.ClawbackClaimableBalance as clawing
-use Rattle.op_flags.specs.op_form.Flags.{flagged_ext}
 use Rattle.op_claim.specs.CreateClaimableBalance as creating
-use Rattle.op_claim.specs.Predicates.{fixed_claimant}
-use Rattle.op_laws.specs.Laws.{IsLawful, AreLawful, AreLawfulWhere, AreClaimantsFew}
-use Rattle.op_laws.specs.Moves.{issued, is_issuer}
-use Rattle.op_laws.specs.Underway.{IsUnderway}
-use Rattle.op_payment.proofs.Amounts.{IsMoved}
-use Rattle.op_payment.proofs.Shifts.{unless_issuer, shifts_as, shifts_both}
 use Rattle.op_laws.proofs.Amounts.{amount_taken}
 use Rattle.op_laws.proofs.Amounts.{amount_given}
-use Rattle.op_payment.proofs.Amounts.{ok_of}
 use Rattle.op_laws.proofs.AsideMoves.{balance_issues_none, less_of, put_aside_issued, taken_back, taken_back_issued}
-use Rattle.op_flags.proofs.legal_rules_proofs.ChargesLeft.{releasing_kept, erased_left}
 use Rattle.op_laws.proofs.IssuedMoves.{same_issuer, issued_so, issued_by_move}
 use Rattle.op_laws.proofs.Lawful.{lawful_with, shifted_after}
-use Rattle.op_flags.proofs.BalanceLeft.{balance_left, no_balance, new_flags, payer_stands}
+use Rattle.op_flags.proofs.BalanceLeft.{balance_left, no_balance, new_flags, payer_exists}
 use Rattle.op_laws.proofs.NewBalances.{IsBalanceEntry, balance_entry, claimants_in_range}
-use Rattle.op_payment.proofs.Paying.{given}
-use Rattle.op_flags.specs.legal_rules.Holdings.{none_more, both_more, under_key}
-use Rattle.op_flags.proofs.legal_rules_proofs.Holdings.{still_holds}
-use Rattle.op_flags.proofs.legal_rules_proofs.Holdings.{cancelled}
-use Rattle.op_flags.proofs.legal_rules_proofs.Leaving.{Leaves, leaves_both, leaves_as, keeps_then}
-use Rattle.op_laws.proofs.Told.{more_for, account_place, balance_place, moved, move_tells, more_turned, redeemed_more}
-use Rattle.op_laws.proofs.Told.{balance_more}
-use Rattle.op_flags.proofs.Went.{went_on, went_after_some, went_after_step}
-use Rattle.op_flags.proofs.legal_rules_proofs.Passed.{first_passed, neither, passed}
-use Rattle.op_flags.proofs.Went.{went_after_charge}
-use Rattle.op_laws.proofs.TrustLines.{not_true}
+use Rattle.op_laws.proofs.Described.{more_for, account_location, balance_location, moved, move_describes, more_turned, redeemed_more}
+use Rattle.op_laws.proofs.Described.{balance_more}
 
 -- ---- what moves issue and give
 
@@ -104,9 +58,6 @@ clawed_issued x held id to n issuer =
     ∙ issued_by_move x held (OfBalance id) (OfAccount to) n
 
 -- ---- a balance that is removed
-
-at_least_none : (n : ℤ) → pos 1 ≤ℤ n → pos 0 ≤ℤ n
-at_least_none n low = omega (arith, ints)
 
 module _ (id_pool base : ℕ) (m : EntryMap) (legal : AreEntriesLegal id_pool m) (id : ClaimableBalanceId)
     (b : ClaimableBalanceEntry) (found : (e : LedgerEntry) × IsBalanceEntry m id b e) where
@@ -150,7 +101,7 @@ module _ (id_pool base : ℕ) (m : EntryMap) (legal : AreEntriesLegal id_pool m)
 -- ---- CLAIM_CLAIMABLE_BALANCE
 
 pub claim_claimable_balance_is_lawful : AreLawful claiming.claim_claimable_balance
-claim_claimable_balance_is_lawful ctx op m done under stands is =
+claim_claimable_balance_is_lawful ctx op m done under exists is =
     let src = ctx.op_source in
     let balance = went_after_some (balance_at m op.balance_id) (claiming.answer claim.DoesNotExist) _ done is in
     let b = balance.0 in
@@ -158,7 +109,7 @@ claim_claimable_balance_is_lawful ctx op m done under stands is =
     let found = balance_entry m op.balance_id b balance.1 in
     let gone = balance_gone ctx.id_pool ctx.base_reserve m under.settled.legal op.balance_id b found in
     let range = its_range ctx.id_pool ctx.base_reserve m under.settled.legal op.balance_id b found in
-    let low = at_least_none b.amount range.amount in
+    let low = nonnegative_from_positive b.amount range.amount in
     let now = map_after_removing (key.ClaimableBalance op.balance_id) m in
     let shift = λ (x : Asset). neg_ℤ (of_asset x b.asset b.amount) in
     let now_legal = shifted_after ctx m under none_more shift now gone.shifts in
@@ -177,13 +128,13 @@ claim_claimable_balance_is_lawful ctx op m done under stands is =
     (shifts_both ctx.id_pool shift (λ x. unless_issuer x b.asset src b.amount) m now taken.0 gone.shifts one.shifts))
     (leaves_as ctx.base_reserve (both_more less more) all m taken.0
     (leaves_both ctx.base_reserve less more m now taken.0 gone.left one.left) (more_turned less more))
-    (move_tells b.asset (OfBalance op.balance_id) (OfAccount src) b.amount (balance_place b.asset op.balance_id)
-    (account_place b.asset src)))
+    (move_describes b.asset (OfBalance op.balance_id) (OfAccount src) b.amount (balance_location b.asset op.balance_id)
+    (account_location b.asset src)))
 
 -- ---- CLAWBACK_CLAIMABLE_BALANCE
 
 pub clawback_claimable_balance_is_lawful : AreLawful clawing.clawback_claimable_balance
-clawback_claimable_balance_is_lawful ctx op m done under stands is =
+clawback_claimable_balance_is_lawful ctx op m done under exists is =
     let src = ctx.op_source in
     let balance = went_after_some (balance_at m op.balance_id) (clawing.answer claw.DoesNotExist) _ done is in
     let b = balance.0 in
@@ -191,7 +142,7 @@ clawback_claimable_balance_is_lawful ctx op m done under stands is =
     (not (clawing.is_balance_clawback_enabled b), clawing.answer claw.NotClawbackEnabled) ∷ [] in
     let went = went_on (clawing.balance_tests ctx b) _ done balance.2 in
     let first = first_passed (not (is_issued_by b.asset src)) (clawing.answer claw.NotIssuer) flag went.0 in
-    let issuer = not_true (is_issued_by b.asset src) first.0 in
+    let issuer = not-false (is_issued_by b.asset src) first.0 in
     let found = balance_entry m op.balance_id b balance.1 in
     let gone = balance_gone ctx.id_pool ctx.base_reserve m under.settled.legal op.balance_id b found in
     let new = map_after_removing (key.ClaimableBalance op.balance_id) m in
@@ -206,24 +157,24 @@ clawback_claimable_balance_is_lawful ctx op m done under stands is =
     (λ x. clawed_issued x b.asset op.balance_id src b.amount issuer) gone.shifts)
     (leaves_as ctx.base_reserve (more_for b.asset from (neg_ℤ b.amount)) all m new gone.left
     (redeemed_more b.asset from (OfAccount src) b.amount (sym (same_issuer b.asset src) ∙ issuer)))
-    (move_tells b.asset from (OfAccount src) b.amount (balance_place b.asset op.balance_id)
-    (account_place b.asset src)))
+    (move_describes b.asset from (OfAccount src) b.amount (balance_location b.asset op.balance_id)
+    (account_location b.asset src)))
 
 -- ---- what a debit leaves under other keys
 
 account_beside : (m : EntryMap) (id : AccountId) (f : AccountEntry → AccountEntry) (a : AccountEntry)
     → account_at m id ≡ Some a → (k : LedgerKey) → ((x : AccountId) → k ≢ key.Account x)
     → get (with_account m id f) k ≡ get m k
-account_beside m id f a stands k apart =
-    let found = account_entry m id a stands in
+account_beside m id f a exists k apart =
+    let found = account_entry m id a exists in
     ap (λ q. get q k) (with_account_is m id f a found.0 found.1)
     ∙ put_elsewhere m (with_body found.0 (f a)) k (apart (f a).account_id)
 
 line_beside : (m : EntryMap) (id : AccountId) (held : Asset) (f : TrustLineEntry → TrustLineEntry) (t : TrustLineEntry)
     → line_at m id (line_asset_of held) ≡ Some t → (balance : ClaimableBalanceId)
     → get (with_line m id (line_asset_of held) f) (key.ClaimableBalance balance) ≡ get m (key.ClaimableBalance balance)
-line_beside m id held f t stands balance =
-    let found = line_entry m id (line_asset_of held) t stands in
+line_beside m id held f t exists balance =
+    let found = line_entry m id (line_asset_of held) t exists in
     ap (λ q. get q (key.ClaimableBalance balance)) (with_line_is m id (line_asset_of held) f t found.0 found.1)
     ∙ put_elsewhere m (with_line_body found.0 (f t)) (key.ClaimableBalance balance) (λ same. absurd (cc))
 
@@ -233,11 +184,11 @@ module _ (ctx : Ctx) (id : AccountId) (n : ℤ) (m new : EntryMap) (balance : Cl
 
   by_line : (held : Asset) (o : Option TrustLineEntry) → line_at m id (line_asset_of held) ≡ o
       → map_after_line_debit_of id (line_asset_of held) n m o ≡ Ok new → IsAsItWas
-  by_line held None stands is = absurd (cc)
-  by_line held (Some t) stands is =
-      let tests = passed (line_debit_tests n t) (with_line m id (line_asset_of held) (with_less n)) new is in
+  by_line held None exists is = absurd (cc)
+  by_line held (Some t) exists is =
+      let tests = unless_first_ok (line_debit_tests n t) (with_line m id (line_asset_of held) (with_less n)) new is in
       ap (λ q. get q (key.ClaimableBalance balance)) (sym tests.1)
-      ∙ line_beside m id held (with_less n) t stands balance
+      ∙ line_beside m id held (with_less n) t exists balance
 
   by_issuer : (held : Asset) (b : Bool) → is_issued_by held id ≡ b
       → (if b then Ok m else map_after_line_debit_of id (line_asset_of held) n m (line_at m id (line_asset_of held)))
@@ -247,25 +198,19 @@ module _ (ctx : Ctx) (id : AccountId) (n : ℤ) (m new : EntryMap) (balance : Cl
 
   balance_beside : (held : Asset) → map_after_debit ctx id held n m ≡ Ok new → IsAsItWas
   balance_beside asset.Native is =
-      let h = given ctx id n m new (ok_of (map_after_lumens_debit ctx id n m) debit.Short new is) in
+      let h = debit_is_given ctx id n m new (ok_of (map_after_lumens_debit ctx id n m) debit.Short new is) in
       ap (λ q. get q (key.ClaimableBalance balance)) (sym h.is)
-      ∙ account_beside m id (with_less_lumens n) h.account h.stands (key.ClaimableBalance balance)
+      ∙ account_beside m id (with_less_lumens n) h.account h.exists (key.ClaimableBalance balance)
       (λ x same. absurd (cc))
   balance_beside (asset.Alphanum4 code issuer) is =
       by_issuer (asset.Alphanum4 code issuer) (is_issued_by (asset.Alphanum4 code issuer) id) refl is
   balance_beside (asset.Alphanum12 code issuer) is =
       by_issuer (asset.Alphanum12 code issuer) (is_issued_by (asset.Alphanum12 code issuer) id) refl is
 
-pub at_least_one : (n : ℤ) → int_le n (pos 0) ≡ false → pos 1 ≤ℤ n
-at_least_one n h = grind (arith, ints)
-
-plus_none : (x : ℤ) → x ≤ℤ pos 1 → (x +ℤ pos 0) ≤ℤ pos 1
-plus_none x le = omega (arith, ints)
-
 -- ---- CREATE_CLAIMABLE_BALANCE
 
 module _ (ctx : Ctx) (op : CreateClaimableBalanceOp) (m : EntryMap) (done : Done) (few : AreClaimantsFew op)
-    (under : IsUnderway ctx m) (stands : HasAccount m ctx.op_source) (low : pos 1 ≤ℤ op.amount)
+    (under : IsUnderway ctx m) (exists : HasAccount m ctx.op_source) (low : pos 1 ≤ℤ op.amount)
     (valid : is_valid_asset op.asset ≡ true) (good : creating.are_claimants_bad op.claimants ≡ false)
     (free : get m (key.ClaimableBalance (creating.new_id ctx)) ≡ None) where
   abbrev src : AccountId
@@ -302,15 +247,15 @@ module _ (ctx : Ctx) (op : CreateClaimableBalanceOp) (m : EntryMap) (done : Done
       let n = op.amount in
       let first = went_after_step (map_after_debit ctx src op.asset n m) creating.debit_result _ done is in
       let now = first.0 in
-      let one = amount_given ctx ctx.id_pool m under.settled.legal src n (at_least_none n low) now op.asset first.1 in
+      let one = amount_given ctx ctx.id_pool m under.settled.legal src n (nonnegative_from_positive n low) now op.asset first.1 in
       let shift = λ (x : Asset). unless_issuer x op.asset src (neg_ℤ n) in
       let now_legal = shifted_after ctx m under none_more shift now one.shifts in
       let second = went_after_charge (map_after_adding ctx src entry now) (creating.answer create.LowReserve) _ done
       first.2 in
       let new = second.0 in
       let ready = sponsors_ready ctx m src under.sponsorships in
-      let payer = payer_stands now src (open_sponsor ctx src) (one.left.stand src stands)
-      (λ sponsor at. one.left.stand sponsor (ready.stands sponsor at)) in
+      let payer = payer_exists now src (open_sponsor ctx src) (one.left.exist src exists)
+      (λ sponsor at. one.left.exist sponsor (ready.exists sponsor at)) in
       let moves = creating.create_move ctx op ∷ [] in
       let also = second.2 in
       let result = creating.answer (create.Success (creating.new_id ctx)) in
@@ -329,7 +274,7 @@ module _ (ctx : Ctx) (op : CreateClaimableBalanceOp) (m : EntryMap) (done : Done
       (λ v sum legal. balance_added_so v ctx.id_pool nothing_owed sum ctx src balance entry now new legal refl (record {
         free = still_free;
         unsponsored = refl;
-        id_free = λ id. plus_none _ (legal.offers id);
+        id_free = λ id. add_zero_at_most _ (pos 1) (legal.offers id);
       }) entry_range payer second.1)))
       (leaves_as ctx.base_reserve (both_more less more) all m new
       (leaves_both ctx.base_reserve less more m now new one.left
@@ -337,21 +282,21 @@ module _ (ctx : Ctx) (op : CreateClaimableBalanceOp) (m : EntryMap) (done : Done
       (balance_left ctx now (payer_of ctx src) times entry new one.left.keyed (λ id at. absurd (cc)) still_free
       second.1)
       (balance_more op.asset (creating.new_id ctx) n))) (more_turned less more))
-      (move_tells op.asset (OfAccount src) to n (account_place op.asset src)
-      (balance_place op.asset (creating.new_id ctx))))
+      (move_describes op.asset (OfAccount src) to n (account_location op.asset src)
+      (balance_location op.asset (creating.new_id ctx))))
 
 pub create_claimable_balance_is_lawful : AreLawfulWhere AreClaimantsFew creating.create_claimable_balance
-create_claimable_balance_is_lawful ctx op m done few under stands is =
+create_claimable_balance_is_lawful ctx op m done few under exists is =
     let went = went_on (creating.create_tests op) _ done is in
     let none = int_le op.amount (pos 0) in
     let bad = not (is_valid_asset op.asset) in
     let claimants = creating.are_claimants_bad op.claimants in
     let test = first_passed (none || bad || claimants) (creating.answer create.Malformed) [] went.0 in
-    let last = neither (none || bad) claimants test.0 in
-    let first = neither none bad last.0 in
+    let last = or_parts (none || bad) claimants test.0 in
+    let first = or_parts none bad last.0 in
     let there = is_some (balance_at m (creating.new_id ctx)) in
     let second = went_on ((there, NotSupported) ∷ []) _ done went.1 in
     let free = first_passed there NotSupported [] second.0 in
-    given_added ctx op m done few under stands (at_least_one op.amount first.0)
-    (not_true (is_valid_asset op.asset) first.1)
+    given_added ctx op m done few under exists (positive_from_int_le op.amount first.0)
+    (not-false (is_valid_asset op.asset) first.1)
     last.1 (no_balance m (creating.new_id ctx) under.settled.legal.keyed free.0) second.1

@@ -1,41 +1,19 @@
 -- CLAWBACK is lawful.
-use Rattle.std.proofs.Common.{◌≡◌, sym, ap, subst, ◌∙◌, true, false, not, ◌||◌, ◌∷◌, []}
-use Rattle.std.proofs.Common.{arith}
-use Rattle.std.proofs.lemmas.Int.{ints}
-use Rattle.std.specs.Prelude.{ℤ, pos, neg_ℤ, int_le, int_lt}
-use Rattle.op_flags.specs.ledger_types.declared.ids.AccountId.{AccountId}
-use Rattle.op_flags.specs.ledger_types.declared.asset.Asset.{Asset}
+use Rattle.op_laws.proofs.Prelude as prelude
+use prelude.{◌≡◌, sym, ap, subst, ◌∙◌, true, false, not, ◌||◌, ◌∷◌, [], arith, ints, ℤ, pos, neg_ℤ, int_le, int_lt}
+use prelude.{AccountId, Asset, account_of, OperationResult, is_valid_asset, with_line, Tests, line_available}
+use prelude.{is_same_account, same_account, of_asset, is_issued_by, line_asset_of, line_of_asset, Done, OfAccount}
+use prelude.{is_line_clawback_enabled, IsLawful, AreLawful, issued, in_line, line_given, shifts_as, leaves_as, went_on}
+use prelude.{went_after_some, first_passed, int_lt_false, nonnegative_from_int_le, not-false, or_parts}
 use Rattle.op_flags.specs.ledger_types.declared.asset.Asset.TheVariants as asset
-use Rattle.op_flags.specs.ledger_types.Ids.{account_of}
-use Rattle.op_flags.specs.op_types.declared.operation_result.OperationResult.{OperationResult}
 use Rattle.op_flags.specs.op_types.declared.trust_results.ClawbackResult.TheVariants as claw
-use Rattle.op_flags.specs.valid_values.Assets.{is_valid_asset}
-use Rattle.op_flags.specs.entry_slots.Lines.{with_line}
-use Rattle.op_flags.specs.entry_slots.Tests.{Tests}
-use Rattle.op_pool.specs.reserve_rules.Reserve.{line_available}
-use Rattle.op_flags.specs.sponsor_rules.Payers.{is_same_account}
-use Rattle.op_flags.proofs.sponsor_rules_proofs.Ids.{same_account}
-use Rattle.op_flags.specs.legal_rules.Supply.{of_asset}
 use Rattle.op_flags.specs.op_form.Amounts.{with_less}
-use Rattle.op_flags.specs.op_form.Assets.{is_issued_by, line_asset_of, line_of_asset}
-use Rattle.op_flags.specs.op_form.Done.{Done}
-use Rattle.op_flags.specs.op_form.Done.{OfAccount}
-use Rattle.op_flags.specs.op_form.Flags.{is_line_clawback_enabled}
 use Rattle.op_claim.specs.Clawback as spec
-use Rattle.op_laws.specs.Laws.{IsLawful, AreLawful}
-use Rattle.op_laws.specs.Moves.{issued}
-use Rattle.op_payment.proofs.Amounts.{in_line, line_given}
-use Rattle.op_payment.proofs.Shifts.{shifts_as}
 use Rattle.op_laws.proofs.IssuedMoves.{same_both_ways, same_issuer, issued_so, issued_by_move}
 use Rattle.op_laws.proofs.Lawful.{lawful_with}
 use Rattle.op_laws.proofs.LineFlags.{issued_is}
-use Rattle.op_laws.proofs.Payment.{above, asset_move}
-use Rattle.op_flags.proofs.legal_rules_proofs.Leaving.{leaves_as}
-use Rattle.op_laws.proofs.Told.{account_place, moved, move_tells, redeemed_more, line_more}
-use Rattle.op_flags.proofs.Went.{went_on, went_after_some}
-use Rattle.op_flags.proofs.legal_rules_proofs.Passed.{first_passed, neither}
-use Rattle.op_laws.proofs.LineLimits.{not_less}
-use Rattle.op_laws.proofs.TrustLines.{not_true}
+use Rattle.op_laws.proofs.Payment.{asset_move}
+use Rattle.op_laws.proofs.Described.{account_location, moved, move_describes, redeemed_more, line_more}
 
 -- an asset has one issuer
 other_issuer : (held : Asset) (id other : AccountId) → is_issued_by held id ≡ true → is_same_account other id ≡ false
@@ -60,7 +38,7 @@ redeemed_move x held from to n issuer other =
     ∙ issued_by_move x held (OfAccount from) (OfAccount to) n
 
 pub clawback_is_lawful : AreLawful spec.clawback
-clawback_is_lawful ctx op m done under stands is =
+clawback_is_lawful ctx op m done under exists is =
     let src = ctx.op_source in
     let from = account_of op.from in
     let held = op.asset in
@@ -70,12 +48,12 @@ clawback_is_lawful ctx op m done under stands is =
     let foreign = not (is_issued_by held src) in
     let own = is_same_account from src in
     let test = first_passed (none || bad || foreign || own) (spec.answer claw.Malformed) [] went.0 in
-    let fourth = neither (none || bad || foreign) own test.0 in
-    let third = neither (none || bad) foreign fourth.0 in
-    let second = neither none bad third.0 in
-    let issuer = not_true (is_issued_by held src) third.1 in
+    let fourth = or_parts (none || bad || foreign) own test.0 in
+    let third = or_parts (none || bad) foreign fourth.0 in
+    let second = or_parts none bad third.0 in
+    let issuer = not-false (is_issued_by held src) third.1 in
     let issued_asset = issued_is held src issuer in
-    let low = above op.amount second.0 in
+    let low = nonnegative_from_int_le op.amount second.0 in
     let line = went_after_some (line_of_asset m from held) (spec.answer claw.NoTrust) _ done went.1 in
     let t = line.0 in
     let short : Tests OperationResult = (int_lt (line_available t) op.amount, spec.answer claw.Underfunded) ∷ [] in
@@ -93,7 +71,7 @@ clawback_is_lawful ctx op m done under stands is =
     let same : made ≡ done = cc in
     let given = line_given ctx.id_pool ctx.base_reserve m under.settled.legal from held issued_asset t line.1
     op.amount low
-    (not_less (line_available t) op.amount enough.0) in
+    (int_lt_false (line_available t) op.amount enough.0) in
     let other = other_issuer held src from issuer fourth.1 in
     let all = moved held (OfAccount from) (OfAccount src) op.amount in
     subst (IsLawful ctx m) same (lawful_with ctx m under all (spec.answer claw.Success) new
@@ -104,4 +82,4 @@ clawback_is_lawful ctx op m done under stands is =
     (leaves_as ctx.base_reserve (in_line from held (neg_ℤ op.amount)) all m new given.left
     (λ k x. line_more held issued_asset from (neg_ℤ op.amount) other k x
     ∙ redeemed_more held (OfAccount from) (OfAccount src) op.amount (sym (same_issuer held src) ∙ issuer) k x))
-    (move_tells held (OfAccount from) (OfAccount src) op.amount (account_place held from) (account_place held src)))
+    (move_describes held (OfAccount from) (OfAccount src) op.amount (account_location held from) (account_location held src)))

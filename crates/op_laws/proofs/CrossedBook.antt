@@ -1,44 +1,20 @@
 -- An offer that is crossed leaves the rest of its book.
-use Rattle.std.proofs.Common.{◌≡◌, ◌≢◌, refl, sym, ap, subst, ◌∙◌, ℕ, zero, suc, ℤ, Bool, true, false, cond, not, All}
-use Rattle.std.proofs.Common.{List, [], ◌∷◌, Some}
-use Rattle.std.proofs.lemmas.List.Elements.{All-nil, All-cons, All-head, All-tail, All-weaker, All-filter}
-use Rattle.std.proofs.lemmas.List.Elements.{filter_passes}
-use Rattle.std.specs.Prelude.{◌+ℤ◌}
-use Rattle.std.specs.FinMap.{get}
-use Rattle.std.specs.List.{filter}
-use Rattle.std.specs.Ordering.{eq_by_cmp}
-use Rattle.op_flags.specs.ledger_types.declared.asset.Asset.{Asset}
-use Rattle.op_flags.specs.ledger_types.declared.offer.OfferEntry.{OfferEntry}
-use Rattle.op_flags.specs.ledger_types.declared.entry.LedgerEntry.{LedgerEntry}
-use Rattle.op_flags.specs.ledger_types.Keys.{key_of}
-use Rattle.op_flags.specs.ledger_types.KeyOrder.{key_cmp}
-use Rattle.op_flags.specs.ledger_types.Prices.{IsPriced}
-use Rattle.op_flags.specs.entry_map.EntryMap.{EntryMap, erase}
-use Rattle.op_flags.specs.entry_map.EntryMap.{IsKeyed as IsOwnKeyed}
-use Rattle.op_flags.specs.entry_map.Book.{offers_of, AreApart, AreOffersSound, placed, ranked, head, is_of_pair}
-use Rattle.op_flags.specs.entry_map.Book.{book_in}
-use Rattle.op_flags.proofs.entry_map_proofs.KeyMaps.{same_keys, same_itself}
-use Rattle.op_flags.proofs.entry_map_proofs.Layers.{some_is}
-use Rattle.op_flags.proofs.entry_map_proofs.Ranked.{all_ranked}
-use Rattle.op_flags.specs.entry_slots.Offers.{offer_of, offer_at}
+use Rattle.op_laws.proofs.Prelude as prelude
+use prelude.{◌≡◌, ◌≢◌, refl, sym, ap, subst, ◌∙◌, ℕ, zero, suc, Bool, true, false, cond, not, All, List, [], ◌∷◌, Some}
+use prelude.{All-nil, All-cons, All-head, All-tail, All-weaker, All-filter, filter_passes, ◌+ℤ◌, get, filter, eq_by_cmp}
+use prelude.{Asset, OfferEntry, LedgerEntry, key_of, key_cmp, IsPriced, EntryMap, erase, IsOwnKeyed, offers_of}
+use prelude.{AreApart, AreOffersSound, inserted, ranked, head, is_of_pair, book_in, same_itself, all_ranked, offer_of}
+use prelude.{offer_at, book, best, Rounding, View, IsKeyed, IsOwedRightly, Owed, IsLegalOwing, offer_entry}
+use prelude.{with_offer_body, Left, with_amount, offer_key, atom_of, Step, step, kept_by, IsInBook, best_exists}
+use prelude.{step_legal, CrossedOffersGo, CrossedOffersRest, IsRestedBook, apart_filter, same_keys}
+use Rattle.std.proofs.Common.{ℤ}
 use Rattle.op_flags.proofs.entry_sums_proofs.Lookups.{erase_each}
-use Rattle.op_flags.specs.offer_book.Book.{book, best}
-use Rattle.op_offers.specs.offer_exchange.declared.rounding.Rounding.{Rounding}
-use Rattle.op_flags.specs.legal_rules.Books.{View}
-use Rattle.op_flags.specs.legal_rules.Holdings.{IsKeyed}
-use Rattle.op_flags.specs.legal_rules.OneMore.{IsOwedRightly}
-use Rattle.op_flags.specs.legal_rules.Owing.{Owed, IsLegalOwing}
-use Rattle.op_flags.proofs.legal_rules_proofs.OffersKept.{offer_entry, with_offer_body}
-use Rattle.op_flags.specs.trade_cross.Crossing.{Left, with_amount, offer_key, atom_of, Step, step}
-use Rattle.op_flags.specs.trade_cross.CrossingLaws.{kept_by}
-use Rattle.op_flags.proofs.trade_cross_proofs.Book.{IsInBook, best_stands}
-use Rattle.op_flags.proofs.trade_cross_proofs.BooksSound.{offers_sound}
-use Rattle.op_flags.proofs.trade_cross_proofs.StepLegal.{step_legal}
+use Rattle.op_flags.proofs.trade_cross_proofs.OffersSound.{offers_sound}
 use Rattle.op_flags.proofs.OwnOffers.{holds_of}
-use Rattle.op_laws.specs.CrossedBooks.{CrossedOffersGo, CrossedOffersRest, IsRestedBook}
 use Rattle.op_laws.proofs.OfferLists.{is_elsewhere, IsGone, IsReplaced, offers_left, erased_gone, replaced_gone}
 use Rattle.op_laws.proofs.OffersBeside.{IsRested, step_gone, step_rests}
-use Rattle.op_laws.proofs.PlacedOffers.{IsToldFrom, ranked_among, first_of, resized_first}
+use Rattle.op_laws.proofs.InsertedOffers.{IsDistinctFrom, ranked_among, first_of, resized_first}
+use Rattle.op_flags.proofs.ledger_types_proofs.Lists.{if_some_from}
 
 -- ---- filters
 
@@ -64,11 +40,6 @@ apart_by : (t : Bool) (o : OfferEntry) (os : List OfferEntry) → All (λ x. o.o
 apart_by true o os apart rest = (apart, rest)
 apart_by false o os apart rest = rest
 
-filtered_apart : (p : OfferEntry → Bool) (os : List OfferEntry) → AreApart os → AreApart (filter p os)
-filtered_apart p [] apart = tt
-filtered_apart p (o ∷ os) apart = apart_by (p o) o (filter p os)
-    (All-filter p (λ x. o.offer_id ≢ x.offer_id) os apart.0) (filtered_apart p os apart.1)
-
 -- ---- offers with distinct ids
 
 abbrev IsSame : OfferEntry → OfferEntry → Type 0
@@ -77,13 +48,13 @@ IsSame a b = a.offer_id ≡ b.offer_id → a ≡ b
 abbrev AreSame : List OfferEntry → OfferEntry → Type 0
 AreSame os a = All (IsSame a) os
 
-behind_another : (x : OfferEntry) (os rest : List OfferEntry) → All (λ a. x.offer_id ≢ a.offer_id) rest
+after_another : (x : OfferEntry) (os rest : List OfferEntry) → All (λ a. x.offer_id ≢ a.offer_id) rest
     → All (AreSame os) rest → All (AreSame (x ∷ os)) rest
-behind_another x os [] apart all = All-nil (AreSame (x ∷ os))
-behind_another x os (a ∷ rest) apart all = All-cons (AreSame (x ∷ os)) a rest
+after_another x os [] apart all = All-nil (AreSame (x ∷ os))
+after_another x os (a ∷ rest) apart all = All-cons (AreSame (x ∷ os)) a rest
     (All-cons (IsSame a) x os (λ same. absurd (All-head (λ b. x.offer_id ≢ b.offer_id) a rest apart (sym same)))
     (All-head (AreSame os) a rest all))
-    (behind_another x os rest (All-tail (λ b. x.offer_id ≢ b.offer_id) a rest apart)
+    (after_another x os rest (All-tail (λ b. x.offer_id ≢ b.offer_id) a rest apart)
     (All-tail (AreSame os) a rest all))
 
 all_same : (os : List OfferEntry) → AreApart os → All (AreSame os) os
@@ -91,9 +62,9 @@ all_same [] apart = All-nil (AreSame [])
 all_same (x ∷ os) apart = All-cons (AreSame (x ∷ os)) x os
     (All-cons (IsSame x) x os (λ same. refl)
     (All-weaker (λ a. x.offer_id ≢ a.offer_id) (IsSame x) (λ a beside same. absurd (beside same)) os apart.0))
-    (behind_another x os os apart.0 (all_same os apart.1))
+    (after_another x os os apart.0 (all_same os apart.1))
 
--- ---- the offer at the head, told from the others by its key
+-- ---- the offer at the head, distinguished from the others by its key
 
 module _ (o : OfferEntry) where
   abbrev other : OfferEntry → Bool
@@ -109,8 +80,8 @@ module _ (o : OfferEntry) where
   tied true e = refl
   tied false e = absurd (cc)
 
-  told : (x : OfferEntry) → IsPriced x.price × IsSame o x → IsToldFrom o other x
-  told x both = record {
+  described : (x : OfferEntry) → IsPriced x.price × IsSame o x → IsDistinctFrom o other x
+  described x both = record {
     itself = λ e. sym (both.1 (sym (ids x (same_keys (offer_key x) (offer_key o)
         (tied (eq_by_cmp key_cmp (offer_key x) (offer_key o)) e)))));
     apart = λ e same.
@@ -119,16 +90,16 @@ module _ (o : OfferEntry) where
     priced = both.0;
   }
 
-  all_told : (os : List OfferEntry) → All (λ x. IsPriced x.price) os → All (IsSame o) os → All (IsToldFrom o other) os
-  all_told [] priced same = All-nil (IsToldFrom o other)
-  all_told (x ∷ os) priced same = All-cons (IsToldFrom o other) x os
-      (told x (All-head (λ y. IsPriced y.price) x os priced, All-head (IsSame o) x os same))
-      (all_told os (All-tail (λ y. IsPriced y.price) x os priced) (All-tail (IsSame o) x os same))
+  all_described : (os : List OfferEntry) → All (λ x. IsPriced x.price) os → All (IsSame o) os → All (IsDistinctFrom o other) os
+  all_described [] priced same = All-nil (IsDistinctFrom o other)
+  all_described (x ∷ os) priced same = All-cons (IsDistinctFrom o other) x os
+      (described x (All-head (λ y. IsPriced y.price) x os priced, All-head (IsSame o) x os same))
+      (all_described os (All-tail (λ y. IsPriced y.price) x os priced) (All-tail (IsSame o) x os same))
 
--- ---- a book that an offer stands in
+-- ---- a book that contains an offer
 
 own_keys : (m : EntryMap) → IsKeyed m → IsOwnKeyed m
-own_keys m keyed q = some_is (λ e. key_of e ≡ q) (get m q) (keyed q)
+own_keys m keyed q = if_some_from (λ e. key_of e ≡ q) (get m q) (keyed q)
 
 module _ (p : OfferEntry → Bool) (P : OfferEntry → Type 0) where
   -- what holds of all that a filter lets through holds of all that pass
@@ -160,11 +131,11 @@ module _ (v : View) (id_pool : ℕ) (owed : Owed) (sum : ℤ) (m : EntryMap) (le
   -- what holds of each offer holds of this one
   holds : (P : OfferEntry → Type 0) → All P offers → P o
   holds P all =
-      let found = offer_entry m o.seller_id o.offer_id o here.stands in
+      let found = offer_entry m o.seller_id o.offer_id o here.exists in
       holds_of P m (offer_key o) found.0 o found.1.there found.1.is all
 
-  told_all : All (IsToldFrom o (other o)) offers
-  told_all = all_told o offers sound.priced (holds (AreSame offers) (all_same offers sound.apart))
+  described_all : All (IsDistinctFrom o (other o)) offers
+  described_all = all_described o offers sound.priced (holds (AreSame offers) (all_same offers sound.apart))
 
   is_among : All (λ x. other o x ≡ true) (filter pair offers) → ⊥
   is_among all =
@@ -172,9 +143,9 @@ module _ (v : View) (id_pool : ℕ) (owed : Owed) (sum : ℤ) (m : EntryMap) (le
       (all_that_pass pair (λ x. other o x ≡ true) offers all) here.pair in
       cc (passes, own o)
 
-  among : ranked (filter pair offers) ≡ placed o (ranked others)
+  among : ranked (filter pair offers) ≡ inserted o (ranked others)
   among = ranked_among o (holds (λ x. IsPriced x.price) sound.priced) (other o) (filter pair offers)
-      (All-filter pair (IsToldFrom o (other o)) offers told_all) (filtered_apart pair offers sound.apart) is_among
+      (All-filter pair (IsDistinctFrom o (other o)) offers described_all) (apart_filter pair offers sound.apart) is_among
 
   module _ (n : EntryMap) (keyed : IsKeyed n) (gone : IsGone (offer_key o) m n) where
     others_are : ranked others ≡ book n selling buying
@@ -183,9 +154,9 @@ module _ (v : View) (id_pool : ℕ) (owed : Owed) (sum : ℤ) (m : EntryMap) (le
         ∙ ap (filter pair) (sym (offers_left (offer_key o) m n (own_keys m legal.keyed) (own_keys n keyed) gone)))
 
     -- it is placed in the book that is without it
-    pub book_with : book m selling buying ≡ placed o (book n selling buying)
+    pub book_with : book m selling buying ≡ inserted o (book n selling buying)
     unfolding book book_in
-    book_with = among ∙ ap (placed o) others_are
+    book_with = among ∙ ap (inserted o) others_are
 
     pub others_pass : All (λ x. other o x ≡ true) (book n selling buying)
     others_pass = subst (λ l. All (λ x. other o x ≡ true) l) others_are
@@ -197,7 +168,7 @@ module _ (v : View) (id_pool base : ℕ) (owed : Owed) (right : IsOwedRightly ow
     (legal : IsLegalOwing v id_pool owed sum m) (selling buying : Asset) (o : OfferEntry)
     (first : best m selling buying ≡ Some o) (rounding : Rounding) (left : Left) where
   here : IsInBook m selling buying o
-  here = best_stands m legal.keyed selling buying o first
+  here = best_exists m legal.keyed selling buying o first
 
   abbrev x : Step
   x = step base rounding left o m
@@ -206,25 +177,25 @@ module _ (v : View) (id_pool base : ℕ) (owed : Owed) (right : IsOwedRightly ow
   sum_then = sum +ℤ kept_by v.asset (atom_of o x.amounts)
 
   legal_then : IsLegalOwing v id_pool owed sum_then x.entries
-  legal_then = step_legal v id_pool base owed right o sum m legal here.stands rounding left
+  legal_then = step_legal v id_pool base owed right o sum m legal here.exists rounding left
 
   module _ (n : EntryMap) (keyed : IsKeyed n) (gone : IsGone (offer_key o) m n) where
-    with_it : book m selling buying ≡ placed o (book n selling buying)
+    with_it : book m selling buying ≡ inserted o (book n selling buying)
     with_it = book_with v id_pool owed sum m legal selling buying o here n keyed gone
 
     none_itself : All (λ y. other o y ≡ true) (book n selling buying)
     none_itself = others_pass v id_pool owed sum m legal selling buying o here n keyed gone
 
-    at_head : head (placed o (book n selling buying)) ≡ Some o
+    at_head : head (inserted o (book n selling buying)) ≡ Some o
     unfolding best
     at_head = ap head (sym with_it) ∙ first
 
-    behind_it : book m selling buying ≡ o ∷ book n selling buying
-    behind_it = with_it ∙ first_of o (other o) (own o) (book n selling buying) none_itself at_head
+    after_it : book m selling buying ≡ o ∷ book n selling buying
+    after_it = with_it ∙ first_of o (other o) (own o) (book n selling buying) none_itself at_head
 
   pub book_left : x.stays ≡ false → book m selling buying ≡ o ∷ book x.entries selling buying
-  book_left goes = behind_it x.entries legal_then.keyed
-      (step_gone v id_pool base owed right o sum m legal here.stands rounding left goes)
+  book_left goes = after_it x.entries legal_then.keyed
+      (step_gone v id_pool base owed right o sum m legal here.exists rounding left goes)
 
   module _ (n : ℕ) (e : LedgerEntry)
       (replaced : IsReplaced (offer_key o) (with_offer_body e (with_amount (suc n) o)) m x.entries) where
@@ -240,20 +211,20 @@ module _ (v : View) (id_pool base : ℕ) (owed : Owed) (right : IsOwedRightly ow
     lone_gone : IsGone (offer_key o) m lone
     lone_gone = replaced_gone (offer_key o) (with_offer_body e rested) m x.entries replaced
 
-    rested_stands : offer_at x.entries o.seller_id o.offer_id ≡ Some rested
+    rested_exists : offer_at x.entries o.seller_id o.offer_id ≡ Some rested
     unfolding offer_at
-    rested_stands = ap offer_of (replaced o.seller_id o.offer_id
+    rested_exists = ap offer_of (replaced o.seller_id o.offer_id
         ∙ ap (λ t. cond t (Some (with_offer_body e rested)) (get m (offer_key o))) (same_itself (offer_key o)))
 
-    with_rested : book x.entries selling buying ≡ placed rested (book lone selling buying)
+    with_rested : book x.entries selling buying ≡ inserted rested (book lone selling buying)
     with_rested = book_with v id_pool owed sum_then x.entries legal_then selling buying rested
-        (record { stands = rested_stands; pair = here.pair }) lone lone_keyed (erased_gone (offer_key o) x.entries)
+        (record { exists = rested_exists; pair = here.pair }) lone lone_keyed (erased_gone (offer_key o) x.entries)
 
     rested_book : IsRestedBook o (book m selling buying) (book x.entries selling buying)
     rested_book = record {
       rest = suc n;
       others = book lone selling buying;
-      was = behind_it lone lone_keyed lone_gone;
+      was = after_it lone lone_keyed lone_gone;
       now = with_rested ∙ resized_first o (other o) (own o) (suc n) (book lone selling buying)
           (none_itself lone lone_keyed lone_gone) (at_head lone lone_keyed lone_gone);
     }
@@ -263,14 +234,14 @@ module _ (v : View) (id_pool base : ℕ) (owed : Owed) (right : IsOwedRightly ow
   rested_by zero gone = record {
     rest = 0;
     others = book x.entries selling buying;
-    was = behind_it x.entries legal_then.keyed gone;
+    was = after_it x.entries legal_then.keyed gone;
     now = refl;
   }
   rested_by (suc n) rests = rested_book n rests.0 rests.1
 
   pub book_rests : x.stays ≡ true → IsRestedBook o (book m selling buying) (book x.entries selling buying)
   book_rests stays =
-      let rests = step_rests v id_pool base owed right o sum m legal here.stands rounding left stays in
+      let rests = step_rests v id_pool base owed right o sum m legal here.exists rounding left stays in
       rested_by rests.0 rests.1
 
 pub crossed_offers_go : CrossedOffersGo

@@ -1,83 +1,46 @@
 -- LIQUIDITY_POOL_DEPOSIT is lawful.
-use Rattle.std.proofs.Common.{◌≡◌, inl, inr, refl, sym, ap, subst, ◌∙◌, ℕ, ◌*◌, ◌≤◌, zero, suc, Bool, true, false}
-use Rattle.std.proofs.Common.{◌||◌, List, [], ◌∷◌, Option, Some, None, Ok, arith}
-use Rattle.std.proofs.lemmas.Int.{ints}
-use Rattle.std.proofs.Math.Nat.{one-le-mul}
-use Rattle.std.specs.Prelude.{ℤ, pos, neg_ℤ, ◌+ℤ◌, ◌-ℤ◌, ◌≤ℤ◌, ◌<ℤ◌, int_le, int_lt, nat_eq, unsigned_abs}
-use Rattle.op_flags.specs.ledger_types.declared.ids.AccountId.{AccountId}
-use Rattle.op_flags.specs.ledger_types.declared.ids.Hash.{Hash}
-use Rattle.op_flags.specs.ledger_types.declared.asset.Asset.{Asset}
+use Rattle.op_laws.proofs.Prelude as prelude
+use prelude.{◌≡◌, inl, inr, refl, sym, ap, subst, ◌∙◌, ℕ, ◌*◌, ◌≤◌, zero, suc, Bool, true, false, ◌||◌, List, [], ◌∷◌}
+use prelude.{Option, Some, None, Ok, arith, ints, one-le-mul, ℤ, pos, neg_ℤ, ◌+ℤ◌, ◌-ℤ◌, ◌≤ℤ◌, ◌<ℤ◌, int_le, int_lt}
+use prelude.{unsigned_abs, AccountId, Hash, Asset, TrustLineEntry, LiquidityPoolEntry, LedgerKey, OperationResult}
+use prelude.{EntryMap, HasAccount, line_liabilities, line_at, pool_at, first_fault, total, greatest_i64, line_room}
+use prelude.{unlimited, Ctx, IsFilledOrEmpty, Increase, both_more, view, nothing_owed, of_asset, held_of, holder}
+use prelude.{leaves_as, IsLegalLine, line_legal, first_passed, is_short_of, has_at, most_given, CanPay, CanShare}
+use prelude.{IsLegalPool, pool_legal, first_used, second_used, Done, OfAccount, OfPool, Move, is_price_bad, is_above}
+use prelude.{deposit_tests, is_unusable, do_shares_pass, deposit_by, is_price_outside, is_price_wrong, does_pass}
+use prelude.{is_pool_full, given_tests, map_after_depositing, put_in, liquidity_pool_deposit, IsLawful, AreLawful}
+use prelude.{issued, IsUnderway, IsMoved, unless_issuer, shifts_as, went_on, went_after_some, add_natural_nonnegative}
+use prelude.{int_lt_false, natural_positive_from_unequal, positive_from_int_le, unsigned_abs_positive, or_parts}
+use Rattle.std.specs.Prelude.{nat_eq}
 use Rattle.op_flags.specs.ledger_types.declared.asset.Asset.TheVariants as asset
 use Rattle.op_flags.specs.ledger_types.declared.asset.TrustLineAsset.TheVariants as line
-use Rattle.op_flags.specs.ledger_types.declared.trust_line.TrustLineEntry.{TrustLineEntry}
-use Rattle.op_flags.specs.ledger_types.declared.liquidity_pool.LiquidityPoolEntry.{LiquidityPoolEntry}
 use Rattle.op_flags.specs.ledger_types.declared.entry.LedgerEntryBody.TheVariants as body
-use Rattle.op_flags.specs.ledger_types.declared.key.LedgerKey.{LedgerKey}
-use Rattle.op_flags.specs.op_types.declared.operation_result.OperationResult.{OperationResult}
 use Rattle.op_flags.specs.op_types.declared.pool_ops.LiquidityPoolDepositOp.{LiquidityPoolDepositOp}
 use Rattle.op_flags.specs.op_types.declared.pool_results.LiquidityPoolDepositResult.TheVariants as depositing
 use Rattle.op_flags.specs.wide_math.Root.{IsRoot, square_root}
 use Rattle.op_flags.proofs.wide_math_proofs.Roots.{root_is}
-use Rattle.op_flags.specs.entry_map.EntryMap.{EntryMap}
-use Rattle.op_flags.specs.entry_slots.Accounts.{HasAccount}
-use Rattle.op_flags.specs.entry_slots.LineExtensions.{line_liabilities}
-use Rattle.op_flags.specs.entry_slots.Lines.{line_at}
-use Rattle.op_flags.specs.entry_slots.Pools.{pool_at}
-use Rattle.op_flags.specs.entry_slots.Tests.{first_fault}
-use Rattle.op_flags.specs.entry_sums.Sums.{total}
-use Rattle.op_pool.specs.reserve_rules.Reserve.{greatest_i64, line_room}
-use Rattle.op_offers.specs.offer_exchange.Exchange.{unlimited}
-use Rattle.op_flags.specs.sponsor_rules.declared.context.Ctx.{Ctx}
 use Rattle.op_pool.specs.pool_math.Pools.{Deposit, deposited}
-use Rattle.op_flags.specs.legal_rules.Bounds.{IsFilledOrEmpty}
-use Rattle.op_flags.specs.legal_rules.Holdings.{Increase, both_more}
-use Rattle.op_flags.specs.legal_rules.Legal.{view}
-use Rattle.op_flags.specs.legal_rules.Owing.{nothing_owed}
-use Rattle.op_flags.specs.legal_rules.Supply.{of_asset, held as held_of}
-use Rattle.op_flags.specs.legal_rules.Trades.{holder}
-use Rattle.op_flags.proofs.legal_rules_proofs.Leaving.{leaves_as}
-use Rattle.op_flags.proofs.legal_rules_proofs.LinesLeft.{IsLegalLine, line_legal}
-use Rattle.op_flags.proofs.legal_rules_proofs.Passed.{first_passed, neither}
-use Rattle.op_flags.specs.trade_cross.Holdings.{is_short_of, has_at, most_given}
-use Rattle.op_flags.proofs.trade_cross_proofs.Paying.{CanPay}
-use Rattle.op_flags.proofs.pool_shares_proofs.Sharing.{CanShare}
-use Rattle.op_flags.proofs.pool_shares_proofs.Sound.{IsLegalPool, pool_legal, first_used, second_used}
-use Rattle.op_flags.specs.op_form.Done.{Done, OfAccount, OfPool, Move}
-use Rattle.op_pool.specs.Deposit.{answer, disabled_tests, is_price_bad, is_above, deposit_tests, is_unusable}
-use Rattle.op_pool.specs.Deposit.{do_shares_pass, deposit_by, is_price_outside, is_price_wrong, does_pass, is_pool_full}
-use Rattle.op_pool.specs.Deposit.{given_tests, map_after_depositing, move_of_a, move_of_b, put_in}
-use Rattle.op_pool.specs.Deposit.{liquidity_pool_deposit}
-use Rattle.op_pool.proofs.Fitting.{not_less}
-use Rattle.op_laws.specs.Laws.{IsLawful, AreLawful}
-use Rattle.op_laws.specs.Moves.{issued}
-use Rattle.op_laws.specs.Underway.{IsUnderway}
-use Rattle.op_payment.proofs.Amounts.{IsMoved}
-use Rattle.op_payment.proofs.Shifts.{unless_issuer, shifts_as}
+use Rattle.op_pool.specs.Deposit.{answer, disabled_tests}
+use Rattle.op_pool.specs.Deposit.{move_of_a, move_of_b}
 use Rattle.op_laws.proofs.AsideMoves.{pool_issues_none, put_aside_issued}
-use Rattle.op_laws.proofs.Claims.{at_least_one}
-use Rattle.op_laws.proofs.Issued.{issued_behind}
+use Rattle.op_laws.proofs.Issued.{issued_after}
 use Rattle.op_laws.proofs.Lawful.{lawful_with}
-use Rattle.op_laws.proofs.ManageData.{not_empty}
-use Rattle.op_laws.proofs.PoolPayments.{holder_stands, gives_so, shift_of, more_of, pool_before, account_before}
+use Rattle.op_laws.proofs.PoolPayments.{holder_exists, gives_so, shift_of, more_of, pool_before, account_before}
 use Rattle.op_laws.proofs.PoolPayments.{both_given}
-use Rattle.op_flags.proofs.Went.{went_on, went_after_some}
-use Rattle.op_laws.proofs.Told.{Tells, more_for, account_place, pool_place, moved, move_tells, tells_both}
+use Rattle.op_laws.proofs.Described.{Describes, more_for, account_location, pool_location, moved, move_describes, describes_both}
 
 -- ---- tests that let a deposit through
 
-passed : (a b c d e f : Bool) (u v w x y z : OperationResult)
+no_fault_tests_false : (a b c d e f : Bool) (u v w x y z : OperationResult)
     → first_fault ((a, u) ∷ (b, v) ∷ (c, w) ∷ (d, x) ∷ (e, y) ∷ (f, z) ∷ []) ≡ None
     → (c ≡ false) × (d ≡ false) × (e ≡ false) × (f ≡ false)
-passed true b c d e f u v w x y z h = absurd (cc)
-passed false true c d e f u v w x y z h = absurd (cc)
-passed false false true d e f u v w x y z h = absurd (cc)
-passed false false false true e f u v w x y z h = absurd (cc)
-passed false false false false true f u v w x y z h = absurd (cc)
-passed false false false false false true u v w x y z h = absurd (cc)
-passed false false false false false false u v w x y z h = (refl, refl, refl, refl)
-
-number_some : (n : ℤ) → pos 1 ≤ℤ n → 1 ≤ unsigned_abs n
-number_some n some = omega (arith, ints)
+no_fault_tests_false true b c d e f u v w x y z h = absurd (cc)
+no_fault_tests_false false true c d e f u v w x y z h = absurd (cc)
+no_fault_tests_false false false true d e f u v w x y z h = absurd (cc)
+no_fault_tests_false false false false true e f u v w x y z h = absurd (cc)
+no_fault_tests_false false false false false true f u v w x y z h = absurd (cc)
+no_fault_tests_false false false false false false true u v w x y z h = absurd (cc)
+no_fault_tests_false false false false false false false u v w x y z h = (refl, refl, refl, refl)
 
 -- ---- what may be put in
 
@@ -92,9 +55,6 @@ first_shares reserve_a reserve_b all max_a max_b none some_a some_b =
     subst (λ n. 1 ≤ (deposited reserve_a reserve_b n max_a max_b).shares) (sym none)
     (root_some (max_a * max_b) (square_root (max_a * max_b)) (root_is (max_a * max_b)) (one-le-mul some_a some_b))
 
-still_low : (b : ℤ) (n : ℕ) → pos 0 ≤ℤ b → pos 0 ≤ℤ (b +ℤ pos n)
-still_low b n low = omega (arith, ints)
-
 filled_more : (b : ℤ) (n : ℕ) → pos 0 ≤ℤ b → 1 ≤ n → pos 0 <ℤ (b +ℤ pos n)
 filled_more b n low some = omega (arith, ints)
 
@@ -104,8 +64,8 @@ filled_still b n full = omega (arith, ints)
 in_limit : (b buying limit : ℤ) (n : ℕ) → pos n ≤ℤ (limit -ℤ b -ℤ buying) → pos 0 ≤ℤ buying → (b +ℤ pos n) ≤ℤ limit
 in_limit b buying limit n room low = omega (arith, ints)
 
-few : (b : ℤ) (n : ℕ) → (b +ℤ pos n) ≤ℤ greatest_i64 → pos 0 ≤ℤ b → n ≤ unlimited
-few b n le low = omega (arith, ints)
+deposit_within_unlimited : (b : ℤ) (n : ℕ) → (b +ℤ pos n) ≤ℤ greatest_i64 → pos 0 ≤ℤ b → n ≤ unlimited
+deposit_within_unlimited b n le low = omega (arith, ints)
 
 shares_some : (p : LiquidityPoolEntry) (n : ℕ) → IsFilledOrEmpty (body.LiquidityPool p) → pos 0 ≤ℤ p.total_pool_shares
     → (unsigned_abs p.total_pool_shares ≡ 0 → 1 ≤ n) → pos 0 <ℤ (p.total_pool_shares +ℤ pos n)
@@ -120,15 +80,15 @@ can_put : (ctx : Ctx) (op : LiquidityPoolDepositOp) (t : TrustLineEntry) (p : Li
 can_put ctx op t p d its was some_a some_b some room =
     let r = was.range in
     record {
-      low = still_low t.balance d.shares its.range.range.balance;
+      low = add_natural_nonnegative t.balance d.shares its.range.range.balance;
       within = in_limit t.balance (line_liabilities t).buying t.limit d.shares room its.range.range.buying;
       range = record {
         fee = r.fee;
         assets = r.assets;
         id = r.id;
-        reserve_a = still_low p.reserve_a d.a r.reserve_a;
-        reserve_b = still_low p.reserve_b d.b r.reserve_b;
-        shares = still_low p.total_pool_shares d.shares r.shares;
+        reserve_a = add_natural_nonnegative p.reserve_a d.a r.reserve_a;
+        reserve_b = add_natural_nonnegative p.reserve_b d.b r.reserve_b;
+        shares = add_natural_nonnegative p.total_pool_shares d.shares r.shares;
         lines = r.lines;
       };
       filled = inl (
@@ -168,7 +128,7 @@ module _ (ctx : Ctx) (op : LiquidityPoolDepositOp) (p : LiquidityPoolEntry) (d :
       (unless_issuer x b src (neg_ℤ put_b))
       ∙ (λ i. put_aside_issued x a src (OfPool pool) put_a (pool_issues_none a pool) i
       +ℤ put_aside_issued x b src (OfPool pool) put_b (pool_issues_none b pool) i)
-      ∙ sym (issued_behind x (move_of_a ctx op p d ∷ []) (move_of_b ctx op p d ∷ []))
+      ∙ sym (issued_after x (move_of_a ctx op p d ∷ []) (move_of_b ctx op p d ∷ []))
 
   abbrev more_a : Increase
   more_a = moved a (OfAccount src) (OfPool pool) put_a
@@ -181,10 +141,10 @@ module _ (ctx : Ctx) (op : LiquidityPoolDepositOp) (p : LiquidityPoolEntry) (d :
   more_is k x = pool_before (more_for a (OfPool pool) put_a k x) (more_for b (OfPool pool) put_b k x)
       (more_for a (OfAccount src) (neg_ℤ put_a) k x) (more_for b (OfAccount src) (neg_ℤ put_b) k x)
 
-  tells : Tells (both_more more_a more_b) moves
-  tells = tells_both more_a more_b (move_of_a ctx op p d ∷ []) (move_of_b ctx op p d ∷ [])
-      (move_tells a (OfAccount src) (OfPool pool) put_a (account_place a src) (pool_place a pool))
-      (move_tells b (OfAccount src) (OfPool pool) put_b (account_place b src) (pool_place b pool))
+  describes : Describes (both_more more_a more_b) moves
+  describes = describes_both more_a more_b (move_of_a ctx op p d ∷ []) (move_of_b ctx op p d ∷ [])
+      (move_describes a (OfAccount src) (OfPool pool) put_a (account_location a src) (pool_location a pool))
+      (move_describes b (OfAccount src) (OfPool pool) put_b (account_location b src) (pool_location b pool))
 
   -- a deposit that moves both amounts is lawful
   deposit_lawful : (m : EntryMap) → IsUnderway ctx m
@@ -202,14 +162,14 @@ module _ (ctx : Ctx) (op : LiquidityPoolDepositOp) (p : LiquidityPoolEntry) (d :
       (shifts_as ctx.id_pool (shift_of p src put_a put_b (neg_ℤ put_a) (neg_ℤ put_b)) (λ x. issued x moves) m new
       shifted both.shifts)
       (leaves_as ctx.base_reserve (more_of p src pool put_a put_b (neg_ℤ put_a) (neg_ℤ put_b))
-      (both_more more_a more_b) m new both.left more_is) tells
+      (both_more more_a more_b) m new both.left more_is) describes
 
 -- ---- the operation
 
 module _ (ctx : Ctx) (op : LiquidityPoolDepositOp) (m : EntryMap) (done : Done) (under : IsUnderway ctx m)
     (source : HasAccount m ctx.op_source) (some_a : 1 ≤ unsigned_abs op.max_amount_a)
     (some_b : 1 ≤ unsigned_abs op.max_amount_b) (t : TrustLineEntry) (p : LiquidityPoolEntry)
-    (has : line_at m ctx.op_source (line.PoolShare op.pool_id) ≡ Some t) (stands : pool_at m op.pool_id ≡ Some p) where
+    (has : line_at m ctx.op_source (line.PoolShare op.pool_id) ≡ Some t) (exists : pool_at m op.pool_id ≡ Some p) where
   abbrev d : Deposit
   d = deposit_by op p
 
@@ -221,7 +181,7 @@ module _ (ctx : Ctx) (op : LiquidityPoolDepositOp) (m : EntryMap) (done : Done) 
       under.settled.legal has
 
   was : IsLegalPool op.pool_id p
-  was = pool_legal (view m) ctx.id_pool nothing_owed lumens m op.pool_id p under.settled.legal stands
+  was = pool_legal (view m) ctx.id_pool nothing_owed lumens m op.pool_id p under.settled.legal exists
 
   abbrev gives_a : Option LedgerKey
   gives_a = holder ctx.op_source p.params.asset_a
@@ -239,15 +199,15 @@ module _ (ctx : Ctx) (op : LiquidityPoolDepositOp) (m : EntryMap) (done : Done) 
   gives_first : short_a ≡ false → d.a ≤ unlimited
       → (CanPay m gives_a (neg_ℤ (pos d.a))) × (d.a ≤ most_given ctx.base_reserve m gives_a)
   gives_first enough fits = gives_so (view m) ctx.id_pool ctx.base_reserve lumens m under.settled.legal d.a gives_a
-      (holder_stands m ctx.op_source source p.params.asset_a
-      (first_used (view m) ctx.id_pool lumens m under.settled.legal ctx.op_source op.pool_id t has p stands))
+      (holder_exists m ctx.op_source source p.params.asset_a
+      (first_used (view m) ctx.id_pool lumens m under.settled.legal ctx.op_source op.pool_id t has p exists))
       fits enough
 
   gives_second : short_b ≡ false → d.b ≤ unlimited
       → (CanPay m gives_b (neg_ℤ (pos d.b))) × (d.b ≤ most_given ctx.base_reserve m gives_b)
   gives_second enough fits = gives_so (view m) ctx.id_pool ctx.base_reserve lumens m under.settled.legal d.b gives_b
-      (holder_stands m ctx.op_source source p.params.asset_b
-      (second_used (view m) ctx.id_pool lumens m under.settled.legal ctx.op_source op.pool_id t has p stands))
+      (holder_exists m ctx.op_source source p.params.asset_b
+      (second_used (view m) ctx.id_pool lumens m under.settled.legal ctx.op_source op.pool_id t has p exists))
       fits enough
 
   put_in_lawful : put_in ctx op t p d m ≡ Ok done → IsLawful ctx m done
@@ -258,20 +218,20 @@ module _ (ctx : Ctx) (op : LiquidityPoolDepositOp) (m : EntryMap) (done : Done) 
       let pass_shares = does_pass p.total_pool_shares d.shares in
       let none_a = nat_eq d.a 0 in
       let none_b = nat_eq d.b 0 in
-      let tests = passed (is_unusable m gives_a || is_unusable m gives_b) (do_shares_pass op p) (short_a || short_b)
+      let tests = no_fault_tests_false (is_unusable m gives_a || is_unusable m gives_b) (do_shares_pass op p) (short_a || short_b)
       (is_price_wrong op d.a d.b) (int_lt (line_room t) (pos d.shares)) (is_pool_full p d)
       (answer depositing.NotAuthorized) (answer depositing.PoolFull) (answer depositing.Underfunded)
       (answer depositing.BadPrice) (answer depositing.LineFull) (answer depositing.PoolFull) tested.0 in
-      let enough = neither short_a short_b tests.0 in
-      let priced = neither none_a none_b (neither (none_a || none_b) (is_price_outside op d.a d.b) tests.1).0 in
-      let fits = neither pass_a pass_b (neither (pass_a || pass_b) pass_shares tests.3).0 in
-      let fits_a = few p.reserve_a d.a (not_less greatest_i64 (p.reserve_a +ℤ pos d.a) fits.0) was.range.reserve_a in
-      let fits_b = few p.reserve_b d.b (not_less greatest_i64 (p.reserve_b +ℤ pos d.b) fits.1) was.range.reserve_b in
-      let can = can_put ctx op t p d its was (not_empty d.a priced.0) (not_empty d.b priced.1)
+      let enough = or_parts short_a short_b tests.0 in
+      let priced = or_parts none_a none_b (or_parts (none_a || none_b) (is_price_outside op d.a d.b) tests.1).0 in
+      let fits = or_parts pass_a pass_b (or_parts (pass_a || pass_b) pass_shares tests.3).0 in
+      let fits_a = deposit_within_unlimited p.reserve_a d.a (int_lt_false greatest_i64 (p.reserve_a +ℤ pos d.a) fits.0) was.range.reserve_a in
+      let fits_b = deposit_within_unlimited p.reserve_b d.b (int_lt_false greatest_i64 (p.reserve_b +ℤ pos d.b) fits.1) was.range.reserve_b in
+      let can = can_put ctx op t p d its was (natural_positive_from_unequal d.a priced.0) (natural_positive_from_unequal d.b priced.1)
       (λ none. first_shares (unsigned_abs p.reserve_a) (unsigned_abs p.reserve_b) (unsigned_abs p.total_pool_shares)
       (unsigned_abs op.max_amount_a) (unsigned_abs op.max_amount_b) none some_a some_b)
-      (not_less (line_room t) (pos d.shares) tests.2) in
-      let both = both_given ctx.id_pool ctx.base_reserve m under.settled.legal ctx.op_source op.pool_id t p has stands
+      (int_lt_false (line_room t) (pos d.shares) tests.2) in
+      let both = both_given ctx.id_pool ctx.base_reserve m under.settled.legal ctx.op_source op.pool_id t p has exists
       (pos d.a) (pos d.b) (pos d.shares) can d.a d.b (gives_first enough.0 fits_a) (gives_second enough.1 fits_b) in
       let also = tested.1 in
       let made : Done = record {
@@ -297,11 +257,11 @@ liquidity_pool_deposit_is_lawful ctx op m done under source is =
     let crossed = is_above op.min_price.n op.min_price.d op.max_price.n op.max_price.d in
     let test = first_passed (none_a || none_b || bad_least || bad_most || crossed) (answer depositing.Malformed) []
     formed.0 in
-    let prices = neither (none_a || none_b || bad_least || bad_most) crossed test.0 in
-    let most = neither (none_a || none_b || bad_least) bad_most prices.0 in
-    let least = neither (none_a || none_b) bad_least most.0 in
-    let some = neither none_a none_b least.0 in
+    let prices = or_parts (none_a || none_b || bad_least || bad_most) crossed test.0 in
+    let most = or_parts (none_a || none_b || bad_least) bad_most prices.0 in
+    let least = or_parts (none_a || none_b) bad_least most.0 in
+    let some = or_parts none_a none_b least.0 in
     put_in_lawful ctx op m done under source
-    (number_some op.max_amount_a (at_least_one op.max_amount_a some.0))
-    (number_some op.max_amount_b (at_least_one op.max_amount_b some.1)) line_found.0 pool_found.0 line_found.1
+    (unsigned_abs_positive op.max_amount_a (positive_from_int_le op.max_amount_a some.0))
+    (unsigned_abs_positive op.max_amount_b (positive_from_int_le op.max_amount_b some.1)) line_found.0 pool_found.0 line_found.1
     pool_found.1 pool_found.2

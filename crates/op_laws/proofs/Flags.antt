@@ -1,18 +1,15 @@
 -- Account flags that SET_OPTIONS leaves.
-use Rattle.std.proofs.Common.{◌≡◌, ◌⊎◌, inl, inr, refl, sym, subst, ℕ, suc, ◌<◌, ◌≤◌, true, false}
-use Rattle.std.proofs.Common.{not, ◌&&◌, nat_eq, bit_and, bit_xor, ◌^◌, Option, arith}
-use Rattle.std.proofs.lemmas.Bool.{cases_lt}
+use Rattle.op_laws.proofs.Prelude.{◌≡◌, ◌⊎◌, inl, inr, refl, sym, subst, ℕ, suc, ◌<◌, ◌≤◌, true, false, not, ◌&&◌}
+use Rattle.op_laws.proofs.Prelude.{nat_eq, bit_and, bit_xor, ◌^◌, Option, arith, cases_lt, SetOptionsOp, has_flag}
+use Rattle.op_laws.proofs.Prelude.{AreAccountFlags, flags_in, has_unknown, new_flags}
 use Rattle.std.proofs.lemmas.Nat.{or_lt, xor_lt, and_le_l}
-use Rattle.op_flags.specs.op_types.declared.account_ops.SetOptionsOp.{SetOptionsOp}
-use Rattle.op_flags.specs.legal_rules.Ranges.{has_flag, AreAccountFlags}
-use Rattle.op_options.specs.OptionTests.{flags_in, has_unknown, new_flags}
 
 -- ---- numbers up to 15
 
 one_less : (k n : ℕ) → n ≤ suc k → (n ≡ suc k) ⊎ (n ≤ k)
 one_less k n le = elim (cases_lt n (suc k)) [ inl lt ↦ inr (omega arith) | inr ge ↦ inl (omega arith) ]
 
--- AUTH_CLAWBACK_ENABLED (8) stands beside AUTH_REVOCABLE (2) where the test of it passes
+-- AUTH_CLAWBACK_ENABLED (8) is set only with AUTH_REVOCABLE (2) where the test of it passes
 abbrev IsRevocable : ℕ → Type 0
 IsRevocable n = (not (nat_eq (bit_and n 8) 0) && nat_eq (bit_and n 2) 0) ≡ false → has_flag n 8 ≡ true
     → has_flag n 2 ≡ true

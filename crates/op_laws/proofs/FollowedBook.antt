@@ -1,22 +1,12 @@
 -- Crossing meets the offers of the book as it was ranked at first.
-use Rattle.std.proofs.Common.{◌≡◌, refl, sym, ap, ◌∙◌, ℕ, zero, suc, Bool, true, false, List, Option, Some, None}
-use Rattle.std.specs.Prelude.{if◌then◌else◌}
-use Rattle.op_flags.specs.ledger_types.declared.offer.OfferEntry.{OfferEntry}
-use Rattle.op_flags.specs.entry_map.EntryMap.{EntryMap}
-use Rattle.op_flags.specs.sponsor_rules.Payers.{is_same_account}
-use Rattle.op_flags.specs.offer_book.Book.{book, best}
+use Rattle.op_laws.proofs.Prelude.{◌≡◌, refl, sym, ap, ◌∙◌, ℕ, zero, suc, Bool, true, false, List, Option, Some, None}
+use Rattle.op_laws.proofs.Prelude.{if◌then◌else◌, OfferEntry, EntryMap, is_same_account, book, best, Trade, IsCrossable}
+use Rattle.op_laws.proofs.Prelude.{Left, step, is_too_dear, is_used_up, turn_at, turn, Crossing, ended, at_limit}
+use Rattle.op_laws.proofs.Prelude.{joined, left_after, crossed, atom_of, kept_by, best_exists, step_legal, ◌+ℤ◌}
+use Rattle.op_laws.proofs.Prelude.{turn_over, after_head, crossed_over, CrossingFollowsBook}
 use Rattle.op_flags.specs.trade_cross.declared.crossed.CrossEnd.TheVariants.{Converted, BadPrice, CrossSelf}
-use Rattle.op_flags.specs.trade_cross.declared.trade.Trade.{Trade}
 use Rattle.op_flags.specs.trade_cross.declared.turn.Turn.{Turn}
 use Rattle.op_flags.specs.trade_cross.declared.turn.Turn.TheVariants.{Ends, Meets}
-use Rattle.op_flags.specs.trade_cross.Crossable.{IsCrossable}
-use Rattle.op_flags.specs.trade_cross.Crossing.{Left, step, is_too_dear, is_used_up, turn_at, turn, Crossing, ended}
-use Rattle.op_flags.specs.trade_cross.Crossing.{at_limit, joined, left_after, crossed, atom_of}
-use Rattle.op_flags.specs.trade_cross.CrossingLaws.{kept_by}
-use Rattle.op_flags.proofs.trade_cross_proofs.Book.{best_stands}
-use Rattle.op_flags.proofs.trade_cross_proofs.StepLegal.{step_legal}
-use Rattle.std.specs.Prelude.{◌+ℤ◌}
-use Rattle.op_laws.specs.CrossedBooks.{turn_over, behind_head, crossed_over, CrossingFollowsBook}
 use Rattle.op_laws.proofs.CrossedBook.{crossed_offers_go}
 
 -- ---- an offer that is met is the best one
@@ -66,7 +56,7 @@ module _ (base : ℕ) (trade : Trade) where
     owed = k.owed;
     sum = k.sum +ℤ kept_by k.view.asset (atom_of o (step base trade.rounding left o m).amounts);
     legal = step_legal k.view k.id_pool base k.owed k.right o k.sum m k.legal
-        (best_stands m k.legal.keyed trade.wheat trade.sheep o first).stands trade.rounding left;
+        (best_exists m k.legal.keyed trade.wheat trade.sheep o first).exists trade.rounding left;
     right = k.right;
   }
 
@@ -81,11 +71,11 @@ module _ (base : ℕ) (trade : Trade) where
         → (step base trade.rounding left o m).stays ≡ t
         → (if t then ended (new o) Converted else crossed base trade n (next o) (new o))
         ≡ (if t then ended (new o) Converted
-        else crossed_over base trade n (next o) (behind_head (ranked_now m)) (new o))
+        else crossed_over base trade n (next o) (after_head (ranked_now m)) (new o))
     by_stays o first true stays = refl
     by_stays o first false goes =
         later (next o) (new o) (then_crossable left m o can first)
-        ∙ ap (λ l. crossed_over base trade n (next o) (behind_head l) (new o))
+        ∙ ap (λ l. crossed_over base trade n (next o) (after_head l) (new o))
         (sym (crossed_offers_go base trade.rounding left m trade.wheat trade.sheep o can first goes))
 
     by_turn : (t : Turn) → turn trade left m ≡ t → ◌≡◌ {A = Crossing} (elim t as (λ s. Crossing) [
@@ -99,7 +89,7 @@ module _ (base : ℕ) (trade : Trade) where
       | Meets o ↦
           let x = step base trade.rounding left o m in
           joined o x.amounts (if x.stays then ended x.entries Converted
-          else crossed_over base trade n (left_after left x.amounts) (behind_head (ranked_now m)) x.entries)
+          else crossed_over base trade n (left_after left x.amounts) (after_head (ranked_now m)) x.entries)
     ])
     by_turn (Ends end) is = refl
     by_turn (Meets o) is = ap (joined o (step base trade.rounding left o m).amounts)
@@ -111,7 +101,7 @@ module _ (base : ℕ) (trade : Trade) where
     | Meets o ↦
         let x = step base trade.rounding left o m in
         joined o x.amounts (if x.stays then ended x.entries Converted
-        else crossed_over base trade n (left_after left x.amounts) (behind_head offers) x.entries)
+        else crossed_over base trade n (left_after left x.amounts) (after_head offers) x.entries)
   ]
 
   pub follows : (n : ℕ) → Follows n

@@ -1,33 +1,17 @@
 -- Hops of a path, and paths, carry an amount from one asset to another.
-use Rattle.std.proofs.Common.{◌≡◌, refl, sym, ap, subst, ◌∙◌, ℕ, Bool, true, false, List, [], ◌∷◌, ◌++◌, Ok, Err}
-use Rattle.std.proofs.Common.{Result}
-use Rattle.std.proofs.lemmas.Bool.{eqb-true}
-use Rattle.std.specs.Prelude.{if◌then◌else◌}
-use Rattle.op_flags.specs.ledger_types.declared.asset.Asset.{Asset}
-use Rattle.op_flags.specs.ledger_types.declared.claim_atom.ClaimAtom.{ClaimAtom}
-use Rattle.op_flags.specs.entry_map.EntryMap.{EntryMap}
-use Rattle.op_flags.specs.sponsor_rules.declared.context.Ctx.{Ctx}
-use Rattle.op_flags.specs.legal_rules.Legal.{view}
-use Rattle.op_flags.specs.legal_rules.Owing.{nothing_owed, AreEntriesLegal}
-use Rattle.op_flags.specs.legal_rules.Supply.{held}
-use Rattle.op_flags.specs.entry_sums.Sums.{total}
-use Rattle.op_flags.proofs.legal_rules_proofs.Legality.{entries_legal}
+use Rattle.op_laws.proofs.Prelude.{◌≡◌, refl, sym, ap, subst, ◌∙◌, ℕ, Bool, true, false, List, [], ◌∷◌, ◌++◌, Ok, Err}
+use Rattle.op_laws.proofs.Prelude.{Result, eqb-true, if◌then◌else◌, Asset, ClaimAtom, EntryMap, Ctx, view, nothing_owed}
+use Rattle.op_laws.proofs.Prelude.{AreEntriesLegal, held, total, entries_legal, Trade, Crossing, hop, is_served}
+use Rattle.op_laws.proofs.Prelude.{IsHopTrade, IsHopped, hop_keeps, PathFault, Carried, and_then, by_end, hopped}
+use Rattle.op_laws.proofs.Prelude.{after_hop, receiving, sending, needed_before, carried_on, is_same_asset}
+use Rattle.op_laws.proofs.Prelude.{received_hop, sent_hop, received, sent, same_assets}
 use Rattle.op_flags.proofs.legal_rules_proofs.MayOwe.{nothing_right}
 use Rattle.op_flags.specs.ledger_types.declared.asset.Asset.TheVariants as asset
 use Rattle.op_flags.specs.trade_cross.declared.crossed.CrossEnd.{CrossEnd}
 use Rattle.op_flags.specs.trade_cross.declared.crossed.CrossEnd.TheVariants as ends
-use Rattle.op_flags.specs.trade_cross.declared.trade.Trade.{Trade}
-use Rattle.op_flags.specs.trade_cross.Crossing.{Crossing}
-use Rattle.op_flags.specs.trade_cross.Hop.{hop, is_served}
-use Rattle.op_flags.specs.trade_cross.HopLaws.{IsHopTrade, IsHopped}
-use Rattle.op_flags.proofs.trade_cross_proofs.HopsKeep.{hop_keeps}
 use Rattle.op_payment.proofs.HopsMade.{receiving_asks, sending_asks}
-use Rattle.op_payment.specs.declared.path_fault.PathFault.{PathFault}
-use Rattle.op_payment.specs.Paths.{Carried, and_then, by_end, hopped, after_hop, receiving, sending, needed_before}
-use Rattle.op_payment.specs.Paths.{carried_on, is_same_asset, received_hop, sent_hop, received, sent}
 use Rattle.op_laws.proofs.Carrying as carrying
 use Rattle.op_laws.proofs.Carrying.{IsCarried, nothing_carried, carried_back, hop_way, hop_kept, hop_more}
-use Rattle.op_laws.proofs.IssuedMoves.{same_asset}
 
 -- ---- one hop
 
@@ -52,7 +36,7 @@ hop_carried ctx id_pool trade m asks legal =
       left = record {
         each = law.accounts;
         holds = law.holds;
-        stand = law.stand;
+        exist = law.exist;
         keyed = (hop_legal ctx id_pool trade m asks legal).keyed;
       };
       way = hop_way trade (hop ctx trade m) law.atoms;
@@ -81,7 +65,7 @@ went_hop (Ok done) next new is = (done, refl, cc)
 
 -- ---- between two assets
 
--- An amount of an asset becomes an amount of another one, by atoms behind or before which others stand.
+-- An amount of an asset becomes an amount of another one, by atoms that come before or after others.
 pub record IsWent (ctx : Ctx) (id_pool : ℕ) (p : Asset) (a : ℕ) (q : Asset) (b : ℕ) (old new : EntryMap)
     (atoms : List ClaimAtom) : Type 0 where
   pub carried : IsCarried id_pool ctx.base_reserve p a q b old new atoms
@@ -112,7 +96,7 @@ module _ (ctx : Ctx) (id_pool : ℕ) where
 
   module _ (p q : Asset) (carried new : Carried) (legal : AreEntriesLegal id_pool carried.entries) where
     same_back : is_same_asset p q ≡ true → carried ≡ new → IsBack p q carried new
-    same_back is same = subst (λ (x : Asset). IsBack p x carried new) (same_asset p q is)
+    same_back is same = subst (λ (x : Asset). IsBack p x carried new) (same_assets p q is)
         (subst (IsBack p p carried) same (record {
           atoms = [];
           listed = refl;
@@ -151,19 +135,19 @@ module _ (ctx : Ctx) (id_pool : ℕ) where
         ] refl is
 
     same_on : is_same_asset p q ≡ true → carried ≡ new → IsOn p q carried new
-    same_on is same = subst (λ (x : Asset). IsOn p x carried new) (same_asset p q is)
+    same_on is same = subst (λ (x : Asset). IsOn p x carried new) (same_assets p q is)
         (subst (IsOn p p carried) same (record {
           atoms = [];
-          listed = nothing_behind carried.atoms;
+          listed = nothing_after carried.atoms;
           went = record {
             carried = nothing_carried id_pool ctx.base_reserve p carried.amount carried.entries legal.keyed;
             legal = legal;
           };
         }))
       where
-        nothing_behind : (l : List ClaimAtom) → l ≡ l ++ []
-        nothing_behind [] = refl
-        nothing_behind (first ∷ l) = ap (λ (k : List ClaimAtom). first ∷ k) (nothing_behind l)
+        nothing_after : (l : List ClaimAtom) → l ≡ l ++ []
+        nothing_after [] = refl
+        nothing_after (first ∷ l) = ap (λ (k : List ClaimAtom). first ∷ k) (nothing_after l)
 
     traded_on : is_same_asset p q ≡ false
         → after_hop (hopped ctx (sending ctx p q carried) carried.entries) (carried_on carried) ≡ Ok new

@@ -1,21 +1,10 @@
 -- What one move issues of each asset.
-use Rattle.std.proofs.Common.{◌≡◌, refl, sym, ap, subst, Bool, true, false, [], ◌∷◌, arith}
-use Rattle.std.proofs.lemmas.Int.{ints}
-use Rattle.std.specs.Prelude.{ℤ, pos, ◌+ℤ◌, ◌-ℤ◌, ◌&&◌, if◌then◌else◌}
-use Rattle.std.specs.declared.cmp.Ordering.{Ordering}
-use Rattle.std.specs.declared.cmp.Ordering.TheVariants.{Less, Equal, Greater}
-use Rattle.std.specs.Ordering.{is_eq}
-use Rattle.op_flags.specs.ledger_types.declared.ids.AccountId.{AccountId}
-use Rattle.op_flags.specs.ledger_types.declared.asset.Asset.{Asset}
+use Rattle.op_laws.proofs.Prelude.{◌≡◌, refl, sym, ap, subst, Bool, true, false, [], ◌∷◌, arith, ints, ℤ, pos, ◌+ℤ◌}
+use Rattle.op_laws.proofs.Prelude.{◌-ℤ◌, if◌then◌else◌, is_eq, AccountId, Asset, asset_cmp, is_same_account}
+use Rattle.op_laws.proofs.Prelude.{same_account, is_itself, of_asset, is_issued_by, Holder, OfAccount, is_issuer}
+use Rattle.op_laws.proofs.Prelude.{issued, same_assets}
+use Rattle.std.specs.Prelude.{◌&&◌}
 use Rattle.op_flags.specs.ledger_types.declared.asset.Asset.TheVariants as asset
-use Rattle.op_flags.specs.ledger_types.KeyOrder.{asset_cmp}
-use Rattle.op_flags.proofs.ledger_types_proofs.KeyOrdering.{assets_exact}
-use Rattle.op_flags.specs.sponsor_rules.Payers.{is_same_account}
-use Rattle.op_flags.proofs.sponsor_rules_proofs.Ids.{same_account, is_itself}
-use Rattle.op_flags.specs.legal_rules.Supply.{of_asset}
-use Rattle.op_flags.specs.op_form.Assets.{is_issued_by}
-use Rattle.op_flags.specs.op_form.Done.{Holder, OfAccount}
-use Rattle.op_laws.specs.Moves.{is_issuer, issued}
 
 -- ---- issuers
 
@@ -38,14 +27,6 @@ same_issuer (asset.Alphanum12 code issuer) id = same_both_ways issuer id
 
 -- ---- moves
 
-equal_of : (o : Ordering) → is_eq o ≡ true → o ≡ Equal
-equal_of Less is = absurd (cc)
-equal_of Equal is = refl
-equal_of Greater is = absurd (cc)
-
-pub same_asset : (a b : Asset) → is_eq (asset_cmp a b) ≡ true → a ≡ b
-same_asset a b is = assets_exact a b (equal_of (asset_cmp a b) is)
-
 -- what a move of an asset issues of it
 abbrev pub issued_so : (from to : Bool) → ℤ → ℤ
 issued_so from to n = (if from then n else pos 0) -ℤ (if to then n else pos 0)
@@ -53,8 +34,8 @@ issued_so from to n = (if from then n else pos 0) -ℤ (if to then n else pos 0)
 alone : (f t : Bool) (n : ℤ) → (issued_so f t n +ℤ pos 0) ≡ issued_so f t n
 alone f t n = omega (arith, ints)
 
-nothing : ((pos 0 -ℤ pos 0) +ℤ pos 0) ≡ pos 0
-nothing = refl
+zeros_cancel : ((pos 0 -ℤ pos 0) +ℤ pos 0) ≡ pos 0
+zeros_cancel = refl
 
 pub issued_by_move : (x held : Asset) (from to : Holder) (n : ℤ)
     → of_asset x held (issued_so (is_issuer held from) (is_issuer held to) n)
@@ -64,7 +45,7 @@ issued_by_move x held from to n = elim (is_eq (asset_cmp x held)) as (λ b. is_e
     → (if b then issued_so (is_issuer held from) (is_issuer held to) n else pos 0)
     ≡ (((if b && is_issuer x from then n else pos 0) -ℤ (if b && is_issuer x to then n else pos 0)) +ℤ pos 0)) [
       | true ↦ λ is.
-          let same = same_asset x held is in
+          let same = same_assets x held is in
           subst (λ (y : Asset). issued_so (is_issuer held from) (is_issuer held to) n
           ≡ (issued_so (is_issuer y from) (is_issuer y to) n +ℤ pos 0)) (sym same)
           (sym (alone (is_issuer held from) (is_issuer held to) n))

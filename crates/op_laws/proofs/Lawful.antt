@@ -1,38 +1,14 @@
--- A lawful operation, by what it leaves of the books and of the accounts.
-use Rattle.std.proofs.Common.{◌≡◌, refl, sym, ap, subst, ◌∙◌, ℕ, ◌<◌, List, [], inl, inr, arith}
-use Rattle.std.proofs.lemmas.Int.{ints}
-use Rattle.std.proofs.lemmas.List.Elements.{All-weaker}
-use Rattle.std.specs.Prelude.{ℤ, pos, ◌+ℤ◌}
-use Rattle.op_flags.specs.ledger_types.declared.ids.AccountId.{AccountId}
-use Rattle.op_flags.specs.ledger_types.declared.account.AccountEntry.{AccountEntry}
-use Rattle.op_flags.specs.ledger_types.declared.asset.Asset.{Asset}
+-- A lawful operation, by what it leaves of the aggregates and of the accounts.
+use Rattle.op_laws.proofs.Prelude.{◌≡◌, refl, sym, ap, subst, ◌∙◌, ℕ, ◌<◌, List, [], inl, inr, arith, ints, All-weaker}
+use Rattle.op_laws.proofs.Prelude.{ℤ, pos, ◌+ℤ◌, AccountId, AccountEntry, Asset, OperationResult, EntryMap, account_at}
+use Rattle.op_laws.proofs.Prelude.{HasAccount, total, Ctx, Sponsorship, View, held, nothing_owed, IsLegalOwing}
+use Rattle.op_laws.proofs.Prelude.{AreEntriesLegal, AreSponsorshipsSound, view, view_of, same_id_at, Done, OfAccount}
+use Rattle.op_laws.proofs.Prelude.{Move, IsCovered, IsLawful, gained, issued, AreDescribed, lumens_at, IsUnderway}
+use Rattle.op_laws.proofs.Prelude.{AreDrawn, KeepsTerms, entries_legal, owing_of, IsKeyed, Increase, none_more}
+use Rattle.op_laws.proofs.Prelude.{HoldsMore, lumens_there, IsAfter, IsCoveredBy, Leaves, ShiftsLegal}
 use Rattle.op_flags.specs.ledger_types.declared.asset.Asset.TheVariants as asset
-use Rattle.op_flags.specs.op_types.declared.operation_result.OperationResult.{OperationResult}
-use Rattle.op_flags.specs.entry_map.EntryMap.{EntryMap}
-use Rattle.op_flags.specs.entry_slots.Accounts.{account_at, HasAccount}
-use Rattle.op_flags.specs.entry_sums.Sums.{total}
-use Rattle.op_flags.specs.sponsor_rules.declared.context.Ctx.{Ctx}
-use Rattle.op_flags.specs.sponsor_rules.declared.context.Sponsorship.{Sponsorship}
-use Rattle.op_flags.specs.legal_rules.Books.{View}
-use Rattle.op_flags.specs.legal_rules.Supply.{held}
-use Rattle.op_flags.specs.legal_rules.Owing.{nothing_owed, IsLegalOwing, AreEntriesLegal}
-use Rattle.op_flags.specs.legal_rules.Sponsorships.{AreSponsorshipsSound}
-use Rattle.op_flags.specs.legal_rules.Legal.{view}
-use Rattle.op_flags.proofs.legal_rules_proofs.Legality.{view_of}
-use Rattle.op_flags.proofs.legal_rules_proofs.Steps.{same_id_at}
-use Rattle.op_flags.specs.op_form.Done.{Done, OfAccount, Move}
-use Rattle.op_laws.specs.Laws.{IsCovered, IsLawful}
-use Rattle.op_laws.specs.Moves.{gained, issued, AreTold}
-use Rattle.op_flags.specs.legal_rules.Supply.{lumens_at}
-use Rattle.op_laws.specs.Underway.{IsUnderway, AreDrawn, KeepsTerms}
 use Rattle.op_laws.proofs.Lumens.{nothing_issued}
-use Rattle.op_flags.proofs.legal_rules_proofs.Legality.{entries_legal, owing_of}
-use Rattle.op_flags.specs.legal_rules.Holdings.{IsKeyed, Increase, none_more, HoldsMore}
-use Rattle.op_flags.proofs.legal_rules_proofs.Holdings.{lumens_there}
-use Rattle.op_flags.specs.legal_rules.Holdings.{IsAfter, IsCoveredBy}
-use Rattle.op_flags.proofs.legal_rules_proofs.Leaving.{Leaves}
-use Rattle.op_payment.proofs.Shifts.{ShiftsLegal}
-use Rattle.op_laws.proofs.Told.{Tells, told_by, tells_nothing}
+use Rattle.op_laws.proofs.Described.{Describes, described_by, describes_nothing}
 
 -- A change keeps a state legal, and the supply of the asset at hand, by whatever it is viewed.
 abbrev pub KeepsLegal : ℕ → (old new : EntryMap) → Type 0
@@ -69,11 +45,11 @@ pub covered_as : (ctx : Ctx) (m : EntryMap) (id : AccountId) (a : AccountEntry) 
 covered_as ctx m id a named (inl low) = inl low
 covered_as ctx m id a named (inr was) = inr (was.0, ap (account_at m) named ∙ was.1, was.2)
 
--- what is told of each holder tells the lumens of each account
-pub lumens_told_by : (m new : EntryMap) (moves : List Move) → IsKeyed m → IsKeyed new → AreTold m new moves
+-- what is said of each holder says the lumens of each account
+pub lumens_described_by : (m new : EntryMap) (moves : List Move) → IsKeyed m → IsKeyed new → AreDescribed m new moves
     → (id : AccountId) → lumens_at new id ≡ (lumens_at m id +ℤ gained asset.Native (OfAccount id) moves)
-lumens_told_by m new moves keyed also told id =
-    lumens_there new id also ∙ told asset.Native (OfAccount id) refl
+lumens_described_by m new moves keyed also described id =
+    lumens_there new id also ∙ described asset.Native (OfAccount id) refl
     ∙ ap (λ n. n +ℤ gained asset.Native (OfAccount id) moves) (sym (lumens_there m id keyed))
 
 module _ (ctx : Ctx) (m : EntryMap) (under : IsUnderway ctx m) (more : Increase) where
@@ -85,14 +61,14 @@ module _ (ctx : Ctx) (m : EntryMap) (under : IsUnderway ctx m) (more : Increase)
 
   -- the entries are left so, with what the moves issue and the ids that are drawn, in a context with the same terms
   pub lawful_drawn : (done : Done) → DrawsLegal ctx.id_pool done.ctx.id_pool (λ x. issued x done.moves) m done.entries
-      → AreEachAfter ctx.base_reserve m done.entries → HoldsMore more m done.entries → Tells more done.moves
+      → AreEachAfter ctx.base_reserve m done.entries → HoldsMore more m done.entries → Describes more done.moves
       → KeepsTerms ctx done.ctx → AreDrawn 1 ctx.id_pool done.ctx.id_pool
       → AreSponsorshipsSound done.ctx done.entries → IsLawful ctx m done
-  lawful_drawn done shifts each holds tells terms drawn sound =
+  lawful_drawn done shifts each holds describes terms drawn sound =
       let legal : AreEntriesLegal done.ctx.id_pool done.entries =
       entries_legal (view m) done.ctx.id_pool (total (held asset.Native) m +ℤ issued asset.Native done.moves)
       done.entries (shifts (view m) (total (held asset.Native) m) under.settled.legal) in
-      let told = told_by more m done.entries done.moves holds tells in
+      let described = described_by more m done.entries done.moves holds describes in
       record {
         legal = record {
           settled = record { legal = legal };
@@ -101,62 +77,62 @@ module _ (ctx : Ctx) (m : EntryMap) (under : IsUnderway ctx m) (more : Increase)
         };
         terms = terms;
         ids = drawn;
-        lumens = lumens_told_by m done.entries done.moves under.settled.legal.keyed legal.keyed told;
-        told = told;
+        lumens = lumens_described_by m done.entries done.moves under.settled.legal.keyed legal.keyed described;
+        described = described;
         supply = λ x. (shifts (view_of x m) (total (held x) m) (owing_of x ctx.id_pool m under.settled.legal)).supply;
-        reserves = λ id a stands. covered_as ctx m id a (same_id_at done.entries id a legal.keyed stands)
-            ((each id).covered a stands);
+        reserves = λ id a exists. covered_as ctx m id a (same_id_at done.entries id a legal.keyed exists)
+            ((each id).covered a exists);
       }
 
   -- the same where no id is drawn
   pub lawful_moved : (done : Done) → ShiftsLegal ctx.id_pool (λ x. issued x done.moves) m done.entries
-      → AreEachAfter ctx.base_reserve m done.entries → HoldsMore more m done.entries → Tells more done.moves
+      → AreEachAfter ctx.base_reserve m done.entries → HoldsMore more m done.entries → Describes more done.moves
       → KeepsTerms ctx done.ctx → done.ctx.id_pool ≡ ctx.id_pool
       → AreSponsorshipsSound done.ctx done.entries → IsLawful ctx m done
-  lawful_moved done shifts each holds tells terms pool sound =
+  lawful_moved done shifts each holds describes terms pool sound =
       lawful_drawn done
       (subst (λ n. DrawsLegal ctx.id_pool n (λ x. issued x done.moves) m done.entries) (sym pool) shifts) each holds
-      tells terms (none_drawn 1 ctx.id_pool done.ctx.id_pool pool) sound
+      describes terms (none_drawn 1 ctx.id_pool done.ctx.id_pool pool) sound
 
   -- the same where nothing is issued
   pub lawful_by : (done : Done) → KeepsLegal ctx.id_pool m done.entries
-      → AreEachAfter ctx.base_reserve m done.entries → HoldsMore more m done.entries → Tells more done.moves
+      → AreEachAfter ctx.base_reserve m done.entries → HoldsMore more m done.entries → Describes more done.moves
       → ((x : Asset) → issued x done.moves ≡ pos 0) → KeepsTerms ctx done.ctx → done.ctx.id_pool ≡ ctx.id_pool
       → AreSponsorshipsSound done.ctx done.entries → IsLawful ctx m done
-  lawful_by done keeps each holds tells none terms pool sound =
+  lawful_by done keeps each holds describes none terms pool sound =
       lawful_moved done
       (λ v sum legal. subst (λ n. IsLegalOwing v ctx.id_pool nothing_owed n done.entries)
-      (plus_none sum sum (issued v.asset done.moves) refl (none v.asset)) (keeps v sum legal)) each holds tells
+      (plus_none sum sum (issued v.asset done.moves) refl (none v.asset)) (keeps v sum legal)) each holds describes
       terms pool sound
 
   pub sound_after : (new : EntryMap) → ((id : AccountId) → HasAccount m id → HasAccount new id)
       → AreSponsorshipsSound ctx new
-  sound_after new stand = record {
+  sound_after new exist = record {
     once = under.sponsorships.once;
     other = under.sponsorships.other;
-    stand = All-weaker (λ (x : Sponsorship). HasAccount m x.sponsor) (λ x. HasAccount new x.sponsor)
-        (λ x. stand x.sponsor) ctx.sponsorships under.sponsorships.stand;
+    exist = All-weaker (λ (x : Sponsorship). HasAccount m x.sponsor) (λ x. HasAccount new x.sponsor)
+        (λ x. exist x.sponsor) ctx.sponsorships under.sponsorships.exist;
   }
 
   -- the same in the same context
   pub lawful_here : (result : OperationResult) (new : EntryMap) (moves : List Move) → KeepsLegal ctx.id_pool m new
-      → Leaves ctx.base_reserve more m new → Tells more moves → ((x : Asset) → issued x moves ≡ pos 0)
+      → Leaves ctx.base_reserve more m new → Describes more moves → ((x : Asset) → issued x moves ≡ pos 0)
       → IsLawful ctx m (record { result = result; entries = new; ctx = ctx; moves = moves })
-  lawful_here result new moves keeps leaves tells none =
+  lawful_here result new moves keeps leaves describes none =
       lawful_by (record { result = result; entries = new; ctx = ctx; moves = moves }) keeps leaves.each leaves.holds
-      tells none (terms_kept ctx) refl (sound_after new leaves.stand)
+      describes none (terms_kept ctx) refl (sound_after new leaves.exist)
 
   -- the same with what the moves issue
   pub lawful_with : (result : OperationResult) (new : EntryMap) (moves : List Move)
       → ShiftsLegal ctx.id_pool (λ x. issued x moves) m new → Leaves ctx.base_reserve more m new
-      → Tells more moves → IsLawful ctx m (record { result = result; entries = new; ctx = ctx; moves = moves })
-  lawful_with result new moves shifts leaves tells =
+      → Describes more moves → IsLawful ctx m (record { result = result; entries = new; ctx = ctx; moves = moves })
+  lawful_with result new moves shifts leaves describes =
       lawful_moved (record { result = result; entries = new; ctx = ctx; moves = moves }) shifts leaves.each
-      leaves.holds tells (terms_kept ctx) refl (sound_after new leaves.stand)
+      leaves.holds describes (terms_kept ctx) refl (sound_after new leaves.exist)
 
 -- nothing moves
 pub lawful_still : (ctx : Ctx) (m : EntryMap) → IsUnderway ctx m → (result : OperationResult) (new : EntryMap)
     → KeepsLegal ctx.id_pool m new → Leaves ctx.base_reserve none_more m new
     → IsLawful ctx m (record { result = result; entries = new; ctx = ctx; moves = [] })
 lawful_still ctx m under result new keeps leaves =
-    lawful_here ctx m under none_more result new [] keeps leaves tells_nothing nothing_issued
+    lawful_here ctx m under none_more result new [] keeps leaves describes_nothing nothing_issued

@@ -1,6 +1,6 @@
 pub mod Settled
 pub mod Payments
-pub mod Told
+pub mod Described
 pub mod Lumens
 pub mod Issued
 pub mod Lawful
@@ -44,7 +44,7 @@ pub mod ManageOffers
 pub mod AllOperations
 pub mod OfferLists
 pub mod PricedOrder
-pub mod PlacedOffers
+pub mod InsertedOffers
 pub mod OffersBeside
 pub mod CrossedBook
 pub mod FollowedBook
@@ -57,3 +57,4 @@ pub use Rattle.op_pool.proofs.pool_math_proofs
 pub use Rattle.op_flags.proofs.pool_shares_proofs
 pub use Rattle.op_flags.proofs.sponsor_laws_proofs
 pub use Rattle.op_flags.proofs.trade_cross_proofs
+pub mod Prelude

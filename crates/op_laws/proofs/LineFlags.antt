@@ -1,48 +1,22 @@
 -- ALLOW_TRUST and SET_TRUST_LINE_FLAGS are lawful.
-use Rattle.std.proofs.Common.{◌≡◌, ◌≢◌, refl, sym, subst, ℕ, ◌%◌, ◌≤◌, Bool, true, false}
-use Rattle.std.proofs.Common.{not, ◌||◌, [], nat_lt, Option, Some, None}
-use Rattle.std.proofs.Common.{Ok, arith}
-use Rattle.std.specs.Prelude.{ℤ}
-use Rattle.op_flags.specs.ledger_types.declared.ids.AccountId.{AccountId}
-use Rattle.op_flags.specs.ledger_types.declared.asset.Asset.{Asset}
+use Rattle.op_laws.proofs.Prelude as prelude
+use prelude.{◌≡◌, ◌≢◌, refl, sym, subst, ℕ, ◌%◌, ◌≤◌, Bool, true, false, not, ◌||◌, [], nat_lt, Option, Some, None, Ok}
+use prelude.{arith, ℤ, AccountId, Asset, TrustLineAsset, TrustLineEntry, OperationResult, NoAccount, is_valid_asset}
+use prelude.{EntryMap, account_at, line_at, with_line, total, Ctx, is_same_account, IsKeyed, none_more, view, held_of}
+use prelude.{Leaves, leaves_itself, keeps_both, line_kept, first_passed, is_native, is_issued_by, line_asset_of}
+use prelude.{line_of_asset, Done, success, IsLawful, AreLawful, IsUnderway, Revoked, no_line_changed, view_of}
+use prelude.{entries_legal, owing_of, went_on, went_after, went_after_some, not-false, or_parts}
 use Rattle.op_flags.specs.ledger_types.declared.asset.Asset.TheVariants as asset
-use Rattle.op_flags.specs.ledger_types.declared.asset.TrustLineAsset.{TrustLineAsset}
-use Rattle.op_flags.specs.ledger_types.declared.trust_line.TrustLineEntry.{TrustLineEntry}
-use Rattle.op_flags.specs.op_types.declared.operation_result.OperationResult.{OperationResult}
-use Rattle.op_flags.specs.op_types.declared.operation_result.OperationResult.TheVariants.{NoAccount}
 use Rattle.op_flags.specs.op_types.declared.trust_results.AllowTrustResult.TheVariants as allow
 use Rattle.op_flags.specs.op_types.declared.trust_results.SetTrustLineFlagsResult.TheVariants as set
-use Rattle.op_flags.specs.valid_values.Assets.{is_valid_asset}
-use Rattle.op_flags.specs.entry_map.EntryMap.{EntryMap}
-use Rattle.op_flags.specs.entry_slots.Accounts.{account_at}
-use Rattle.op_flags.specs.entry_slots.Lines.{line_at, with_line}
-use Rattle.op_flags.specs.entry_sums.Sums.{total}
-use Rattle.op_flags.specs.sponsor_rules.declared.context.Ctx.{Ctx}
-use Rattle.op_flags.specs.sponsor_rules.Payers.{is_same_account}
-use Rattle.op_flags.specs.legal_rules.Holdings.{IsKeyed, none_more}
-use Rattle.op_flags.specs.legal_rules.Legal.{view}
-use Rattle.op_flags.specs.legal_rules.Supply.{held as held_of}
-use Rattle.op_flags.proofs.legal_rules_proofs.Leaving.{Leaves, leaves_itself, keeps_both}
-use Rattle.op_flags.proofs.legal_rules_proofs.LinesLeft.{line_kept}
-use Rattle.op_flags.proofs.legal_rules_proofs.Passed.{first_passed, neither}
-use Rattle.op_flags.specs.op_form.Assets.{is_native, is_issued_by, line_asset_of, line_of_asset}
-use Rattle.op_flags.specs.op_form.Done.{Done}
-use Rattle.op_flags.specs.op_form.Steps.{success}
 use Rattle.op_flags.specs.LineFlags as flags
 use Rattle.op_flags.specs.AllowTrust as allowing
 use Rattle.op_flags.specs.SetTrustLineFlags as setting
-use Rattle.op_laws.specs.Laws.{IsLawful, AreLawful}
-use Rattle.op_laws.specs.Underway.{IsUnderway}
 use Rattle.op_flags.proofs.Revoked.{revoked_left}
 use Rattle.op_flags.proofs.Flagged.{old_flags, flagged_legal}
 use Rattle.op_flags.proofs.FlagTests.{allowed_fit, allowed_issued, set_fit}
-use Rattle.op_flags.specs.RevokedShares.{Revoked}
 use Rattle.op_laws.proofs.Parts.{IsPart, still_part, both_parts, lawful_part}
 use Rattle.op_laws.proofs.RevokedShares.{shares_part}
-use Rattle.op_flags.proofs.pool_shares_proofs.Counted.{no_line_changed}
-use Rattle.op_flags.proofs.legal_rules_proofs.Legality.{view_of, entries_legal, owing_of}
-use Rattle.op_flags.proofs.Went.{went_on, went_after, went_after_some}
-use Rattle.op_laws.proofs.TrustLines.{not_true}
 
 -- ---- the line gets its flags, once the offers are gone
 
@@ -120,15 +94,15 @@ at_most_2 : (a : ℕ) → nat_lt 2 a ≡ false → a ≤ 2
 at_most_2 a h = grind arith
 
 pub allow_trust_is_lawful : AreLawful allowing.allow_trust
-allow_trust_is_lawful ctx op m done under stands is =
+allow_trust_is_lawful ctx op m done under exists is =
     let held = allowing.asset_allowed ctx op in
     let went = went_on (allowing.allow_tests ctx op) _ done is in
     let great = nat_lt 2 op.authorize in
     let bad = not (is_valid_asset held) in
     let own = is_same_account op.trustor ctx.op_source in
     let test = first_passed (great || bad || own) (allowing.answer allow.Malformed) [] went.0 in
-    let last = neither (great || bad) own test.0 in
-    let first = neither great bad last.0 in
+    let last = or_parts (great || bad) own test.0 in
+    let first = or_parts great bad last.0 in
     let line = went_after_some (line_of_asset m op.trustor held) (allowing.answer allow.NoTrustLine) _ done went.1 in
     let source = went_after_some (account_at m ctx.op_source) NoAccount _ done line.2 in
     let passed = went_on (allowing.revoke_tests op source.0 line.0) _ done source.2 in
@@ -146,18 +120,18 @@ issued_is (asset.Alphanum4 code issuer) id is = refl
 issued_is (asset.Alphanum12 code issuer) id is = refl
 
 pub set_trust_line_flags_is_lawful : AreLawful setting.set_trust_line_flags
-set_trust_line_flags_is_lawful ctx op m done under stands is =
+set_trust_line_flags_is_lawful ctx op m done under exists is =
     let held = op.asset in
     let went = went_on (setting.set_tests ctx op) _ done is in
     let test = first_passed (setting.is_foreign ctx op || setting.are_flags_bad op) (setting.answer set.Malformed) []
     went.0 in
-    let both = neither (setting.is_foreign ctx op) (setting.are_flags_bad op) test.0 in
+    let both = or_parts (setting.is_foreign ctx op) (setting.are_flags_bad op) test.0 in
     let bad = not (is_valid_asset held) in
     let foreign = not (is_issued_by held ctx.op_source) in
     let own = is_same_account op.trustor ctx.op_source in
-    let not_own = neither (bad || foreign) own both.0 in
-    let its_own = neither bad foreign not_own.0 in
-    let issued_asset = issued_is held ctx.op_source (not_true (is_issued_by held ctx.op_source) its_own.1) in
+    let not_own = or_parts (bad || foreign) own both.0 in
+    let its_own = or_parts bad foreign not_own.0 in
+    let issued_asset = issued_is held ctx.op_source (not-false (is_issued_by held ctx.op_source) its_own.1) in
     let line = went_after_some (line_of_asset m op.trustor held) (setting.answer set.NoTrustLine) _ done went.1 in
     let source = went_after_some (account_at m ctx.op_source) NoAccount _ done line.2 in
     let f = setting.new_flags op line.0 in

@@ -1,34 +1,27 @@
 -- Lumens that move from one account to another: what each gains, and that none are issued.
-use Rattle.std.proofs.Common.{◌≡◌, refl, ap, ◌∙◌, Bool, true, false, ◌&&◌, [], ◌∷◌, arith}
-use Rattle.std.proofs.lemmas.Int.{ints}
-use Rattle.std.specs.Prelude.{ℤ, pos, neg_ℤ, ◌+ℤ◌, ◌-ℤ◌, if◌then◌else◌}
-use Rattle.std.specs.Ordering.{is_eq}
-use Rattle.op_flags.specs.ledger_types.declared.ids.AccountId.{AccountId}
-use Rattle.op_flags.specs.ledger_types.declared.asset.Asset.{Asset}
+use Rattle.op_laws.proofs.Prelude.{◌≡◌, refl, ap, ◌∙◌, Bool, true, false, ◌&&◌, [], ◌∷◌, arith, ints, ℤ, pos, neg_ℤ}
+use Rattle.op_laws.proofs.Prelude.{◌+ℤ◌, ◌-ℤ◌, if◌then◌else◌, is_eq, AccountId, Asset, asset_cmp, OfAccount, Move}
+use Rattle.op_laws.proofs.Prelude.{is_holder, gained, issued, location_of, none_more, both_more, for_one}
 use Rattle.op_flags.specs.ledger_types.declared.asset.Asset.TheVariants as asset
-use Rattle.op_flags.specs.ledger_types.KeyOrder.{asset_cmp}
-use Rattle.op_flags.specs.op_form.Done.{OfAccount, Move}
-use Rattle.op_laws.specs.Moves.{is_holder, gained, issued, place_of}
-use Rattle.op_flags.specs.legal_rules.Holdings.{none_more, both_more, for_one}
-use Rattle.op_laws.proofs.Told.{Tells, none_at, account_place, move_tells}
+use Rattle.op_laws.proofs.Described.{Describes, none_at, account_location, move_describes}
 
 -- an account gives another one lumens
 abbrev pub lumens_move : (from to : AccountId) → ℤ → Move
 lumens_move from to amount =
     record { from = OfAccount from; to = OfAccount to; asset = asset.Native; amount = amount }
 
-pub lumens_told : (from to : AccountId) (amount : ℤ)
-    → Tells (both_more (for_one to amount) (for_one from (neg_ℤ amount))) (lumens_move from to amount ∷ [])
-lumens_told from to amount = move_tells asset.Native (OfAccount from) (OfAccount to) amount
-    (account_place asset.Native from) (account_place asset.Native to)
+pub lumens_described : (from to : AccountId) (amount : ℤ)
+    → Describes (both_more (for_one to amount) (for_one from (neg_ℤ amount))) (lumens_move from to amount ∷ [])
+lumens_described from to amount = move_describes asset.Native (OfAccount from) (OfAccount to) amount
+    (account_location asset.Native from) (account_location asset.Native to)
 
 -- the same account gives itself
-pub itself_told : (from to : AccountId) (amount : ℤ) → to ≡ from
-    → Tells none_more (lumens_move from to amount ∷ [])
+pub itself_described : (from to : AccountId) (amount : ℤ) → to ≡ from
+    → Describes none_more (lumens_move from to amount ∷ [])
 unfolding gained
-itself_told from to amount same x holder other =
+itself_described from to amount same x holder other =
     let of = is_eq (asset_cmp x asset.Native) in
-    none_at x (place_of x holder)
+    none_at x (location_of x holder)
     ∙ back (of && is_holder holder (OfAccount to)) (of && is_holder holder (OfAccount from)) amount
     (ap (λ id. of && is_holder holder (OfAccount id)) same)
   where

@@ -1,56 +1,23 @@
 -- MANAGE_DATA is lawful.
-use Rattle.std.proofs.Common.{◌≡◌, refl, sym, ap, subst, ◌∙◌, ℕ, ◌≤◌, Bool, true, false, not, ◌||◌, List, [], ◌∷◌}
-use Rattle.std.proofs.Common.{is_some, length, nat_eq, Option, Some, None, Ok, arith}
-use Rattle.std.proofs.lemmas.Int.{ints}
-use Rattle.std.specs.Prelude.{ℤ, pos, neg_ℤ, ◌+ℤ◌, ◌≤ℤ◌}
-use Rattle.std.specs.FinMap.{get}
-use Rattle.op_flags.specs.ledger_types.declared.ids.AccountId.{AccountId}
-use Rattle.op_flags.specs.ledger_types.declared.asset.Asset.{Asset}
+use Rattle.op_laws.proofs.Prelude as prelude
+use prelude.{◌≡◌, refl, sym, ap, subst, ◌∙◌, ℕ, ◌≤◌, false, not, ◌||◌, List, [], ◌∷◌, is_some, length, nat_eq, Option}
+use prelude.{Some, None, Ok, arith, ℤ, pos, get, AccountId, Asset, AccountEntry, LedgerEntry, LedgerEntryBody}
+use prelude.{LedgerKey, key_of, key_of_body, is_valid_text, EntryMap, put, erase, account_at, HasAccount, sponsor_of}
+use prelude.{part, Ctx, map_after_adding, without_subentry, map_after_discounting, map_after_removing}
+use prelude.{map_after_removing_entry, Kind, Subentries, View, view, weight, nothing_owed, IsEntryLegal, IsLegalOwing}
+use prelude.{IsDataInRange, held, held_in, sponsors_ready, subentry_added_so, nothing_settled, subentry_removed, owns}
+use prelude.{legal_as, replace_legal, subentry_of, Done, success, name_tests, new_data, with_value, removed, added}
+use prelude.{valued, managed, manage_data, IsLawful, AreLawful, IsUnderway, subentry_kept, discharged_kept, erased_kept}
+use prelude.{put_beside, IsKeyed, none_more, put_same, Leaves, keeps_both, accounts_kept, keyed_put, went_on}
+use prelude.{went_after_charge, first_passed, add_neg_zero, add_sub_self, add_zero, add_zero_at_most}
+use prelude.{natural_positive_from_unequal, zero_sub_zero, zeros_add_to_zero, data_settled, not-false, or_parts}
 use Rattle.op_flags.specs.ledger_types.declared.data_entry.DataEntry.{DataEntry}
-use Rattle.op_flags.specs.ledger_types.declared.account.AccountEntry.{AccountEntry}
-use Rattle.op_flags.specs.ledger_types.declared.entry.LedgerEntry.{LedgerEntry}
-use Rattle.op_flags.specs.ledger_types.declared.entry.LedgerEntryBody.{LedgerEntryBody}
 use Rattle.op_flags.specs.ledger_types.declared.entry.LedgerEntryBody.TheVariants as body
-use Rattle.op_flags.specs.ledger_types.declared.key.LedgerKey.{LedgerKey}
 use Rattle.op_flags.specs.ledger_types.declared.key.LedgerKey.TheVariants as key
-use Rattle.op_flags.specs.ledger_types.Keys.{key_of, key_of_body}
-use Rattle.op_flags.specs.valid_values.Texts.{is_valid_text}
-use Rattle.op_flags.specs.entry_map.EntryMap.{EntryMap, put, erase}
-use Rattle.op_flags.specs.entry_slots.Accounts.{account_at, HasAccount}
 use Rattle.op_flags.specs.entry_slots.DataEntries.{data_in, data_of, data_at, with_data, with_data_in, with_data_of}
-use Rattle.op_flags.specs.entry_slots.EntrySponsor.{sponsor_of}
-use Rattle.op_flags.specs.entry_sums.Sums.{part}
-use Rattle.op_flags.specs.sponsor_rules.declared.context.Ctx.{Ctx}
-use Rattle.op_flags.specs.sponsor_rules.Adding.{map_after_adding}
-use Rattle.op_flags.specs.sponsor_rules.Paying.{without_subentry}
-use Rattle.op_flags.specs.sponsor_rules.Removing.{map_after_discounting, map_after_removing, map_after_removing_entry}
-use Rattle.op_flags.specs.legal_rules.EntryKeys.{is_key}
-use Rattle.op_flags.specs.legal_rules.Books.{Kind, Subentries, Sponsoring, Sponsored, View}
-use Rattle.op_flags.specs.legal_rules.Legal.{view}
-use Rattle.op_flags.specs.legal_rules.Owing.{weight, weighed, nothing_owed, beside_reserves, IsEntryLegal, IsLegalOwing}
-use Rattle.op_flags.specs.legal_rules.Ranges.{IsDataInRange}
-use Rattle.op_flags.specs.legal_rules.Supply.{held, held_in}
-use Rattle.op_flags.proofs.legal_rules_proofs.Given.{sponsors_ready}
-use Rattle.op_flags.proofs.legal_rules_proofs.Kept.{subentry_added_so}
-use Rattle.op_flags.proofs.legal_rules_proofs.Numbers.{plus_nothing, nothing_less, kept_sum}
-use Rattle.op_flags.proofs.legal_rules_proofs.PaidFor.{nothing_settled}
-use Rattle.op_flags.proofs.legal_rules_proofs.Removing.{subentry_removed, owns}
-use Rattle.op_flags.proofs.legal_rules_proofs.Steps.{legal_as, replace_legal}
-use Rattle.op_flags.proofs.legal_rules_proofs.Subentries.{subentry_of}
 use Rattle.op_flags.specs.op_types.declared.account_results.ManageDataResult.TheVariants as manage
-use Rattle.op_flags.specs.op_form.Done.{Done}
-use Rattle.op_flags.specs.op_form.Steps.{success}
-use Rattle.op_options.specs.ManageData.{answer, name_tests, new_data, with_value, removed, added, valued, managed}
-use Rattle.op_options.specs.ManageData.{manage_data}
-use Rattle.op_laws.specs.Laws.{IsLawful, AreLawful}
-use Rattle.op_laws.specs.Underway.{IsUnderway}
-use Rattle.op_flags.proofs.legal_rules_proofs.ChargesLeft.{subentry_kept, discharged_kept, erased_kept, put_beside}
+use Rattle.op_options.specs.ManageData.{answer}
 use Rattle.op_laws.proofs.Lawful.{KeepsLegal, lawful_still}
-use Rattle.op_flags.specs.legal_rules.Holdings.{IsKeyed, none_more}
-use Rattle.op_flags.proofs.legal_rules_proofs.Holdings.{put_same}
-use Rattle.op_flags.proofs.legal_rules_proofs.Leaving.{Leaves, keeps_both, accounts_kept, keyed_put}
-use Rattle.op_flags.proofs.Went.{went_on, went_after_charge}
-use Rattle.op_flags.proofs.legal_rules_proofs.Passed.{first_passed, neither}
 
 -- ---- the entry of data
 
@@ -73,7 +40,7 @@ unfolding data_at
 data_entry m id name d h = let found = data_entry_of (get m (key.Data id name)) d h in
     (found.0, record { there = found.1; is = found.2 })
 
--- where no data stands under its key, nothing does
+-- where no data is under its key, nothing is
 no_data_body : (b : LedgerEntryBody) (id : AccountId) (name : List ℕ) → key_of_body b ≡ key.Data id name
     → data_in b ≡ None → ⊥
 no_data_body (body.Data d) id name own none = absurd (cc)
@@ -105,23 +72,9 @@ nothing_held : (m : EntryMap) (id : AccountId) (name : List ℕ) → IsKeyed m �
 nothing_held m id name keyed x =
     nothing_held_of x (get m (key.Data id name)) id name (keyed (key.Data id name))
 
--- data counts in no book beside its reserve
-data_settled : (v : View) (e : LedgerEntry) (d : DataEntry) (kind : Kind) (k : LedgerKey)
-    → beside_reserves (weighed v (record e { body = body.Data d })) kind k ≡ pos 0
-data_settled v e d Subentries k = refl
-data_settled v e d Sponsoring k = refl
-data_settled v e d Sponsored k = refl
-data_settled v e d kind k = nothing_less (is_key (key_of_body (body.Data d)) k)
-
 -- ---- adding
 
-as_nothing : (t : ℤ) → t ≡ pos 0 → (pos 0 +ℤ t) ≡ pos 0
-as_nothing t none = omega (arith, ints)
-
-plus_none : (x : ℤ) → x ≤ℤ pos 1 → (x +ℤ pos 0) ≤ℤ pos 1
-plus_none x le = omega (arith, ints)
-
-module _ (ctx : Ctx) (m : EntryMap) (under : IsUnderway ctx m) (stands : HasAccount m ctx.op_source) (name : List ℕ)
+module _ (ctx : Ctx) (m : EntryMap) (under : IsUnderway ctx m) (exists : HasAccount m ctx.op_source) (name : List ℕ)
     (range : (value : List ℕ)
     → IsDataInRange (record { account_id = ctx.op_source; data_name = name; data_value = value })) where
   abbrev src : AccountId
@@ -135,16 +88,16 @@ module _ (ctx : Ctx) (m : EntryMap) (under : IsUnderway ctx m) (stands : HasAcco
       (subentry_added_so v ctx.id_pool ctx.id_pool nothing_owed sum ctx src 1 entry m new legal refl (record {
         free = no_data m src name legal.keyed none;
         unsponsored = refl;
-        id_free = λ id. plus_none _ (legal.offers id);
+        id_free = λ id. add_zero_at_most _ (pos 1) (legal.offers id);
       }) (omega arith) (record {
         range = record { body = range value; paid = λ some. absurd (some refl) };
         bound = tt;
         few = tt;
         fits = tt;
         filled = tt;
-      }) stands (sponsors_ready ctx m src under.sponsorships) done)
-      (λ kind k. as_nothing _ (data_settled v entry (record { account_id = src; data_name = name; data_value = value })
-      kind k)) (plus_nothing sum)
+      }) exists (sponsors_ready ctx m src under.sponsorships) done)
+      (λ kind k. zeros_add_to_zero (pos 0) _ refl (data_settled v entry (record { account_id = src; data_name = name; data_value = value })
+      kind k)) (add_zero sum)
 
   added_lawful : (value : List ℕ) (done : Done) → data_at m src name ≡ None → added ctx name value m ≡ Ok done
       → IsLawful ctx m done
@@ -187,7 +140,7 @@ module _ (ctx : Ctx) (m : EntryMap) (under : IsUnderway ctx m) (stands : HasAcco
         own = refl;
         params = refl;
         offers = λ id. refl;
-        books = λ kind k. value_unmoved value d v kind k e ∙ sym (plus_nothing _);
+        aggregates = λ kind k. value_unmoved value d v kind k e ∙ sym (add_zero _);
       }) (record {
         range = record {
           body = record { some = was.range.body.some; name = was.range.body.name };
@@ -197,7 +150,7 @@ module _ (ctx : Ctx) (m : EntryMap) (under : IsUnderway ctx m) (stands : HasAcco
         few = tt;
         fits = tt;
         filled = tt;
-      })) (λ kind k. refl) (kept_sum sum (pos 0))
+      })) (λ kind k. refl) (add_sub_self sum (pos 0))
 
   valued_lawful : (value : List ℕ) (d : DataEntry) (done : Done) → data_at m src name ≡ Some d
       → valued ctx name value m (Some d) ≡ Ok done → IsLawful ctx m done
@@ -216,12 +169,6 @@ module _ (ctx : Ctx) (m : EntryMap) (under : IsUnderway ctx m) (stands : HasAcco
 
 -- ---- removing
 
-none_taken : (x : ℤ) → x ≡ pos 0 → (pos 0 +ℤ neg_ℤ x) ≡ pos 0
-none_taken x none = omega (arith, ints)
-
-minus_zero : (x : ℤ) → (x +ℤ neg_ℤ (pos 0)) ≡ x
-minus_zero x = omega (arith, ints)
-
 module _ (id_pool base : ℕ) (m : EntryMap) (id : AccountId) (name : List ℕ) where
   abbrev its_key : LedgerKey
   its_key = key.Data id name
@@ -234,14 +181,14 @@ module _ (id_pool base : ℕ) (m : EntryMap) (id : AccountId) (name : List ℕ) 
     removed_legal v sum legal = legal_as v (IsEntryLegal id_pool) _ nothing_owed _ sum _
         (subentry_removed v id_pool nothing_owed sum m legal nothing_settled d.account_id 1 its_key e1 there
         (subentry_of (body.Data d) d.account_id 1 refl))
-        (λ kind k. none_taken _ (data_settled v e d kind k)) (minus_zero sum)
+        (λ kind k. zero_sub_zero _ (data_settled v e d kind k)) (add_neg_zero sum)
 
     had_one : (v : View) (sum : ℤ) → IsLegalOwing v id_pool nothing_owed sum m → (a : AccountEntry)
         → account_at m d.account_id ≡ Some a → 1 ≤ a.num_sub_entries
-    had_one v sum legal a stands =
+    had_one v sum legal a exists =
         let own = owns v id_pool nothing_owed sum m legal nothing_settled d.account_id 1 its_key e1 there
         (subentry_of (body.Data d) d.account_id 1 refl) in
-        let also = own.stands in
+        let also = own.exists in
         let same : own.account ≡ a = cc in
         subst (λ (b : AccountEntry). 1 ≤ b.num_sub_entries) same own.enough
 
@@ -267,7 +214,7 @@ removed_lawful ctx m under name done is =
     let also = went.1 in
     let made : Done = record { result = answer manage.Success; entries = new; ctx = ctx; moves = [] } in
     let same : made ≡ done = cc in
-    let there = stands_then (data_at m src name) test.0 in
+    let there = exists_then (data_at m src name) test.0 in
     let found = data_entry m src name there.0 there.1 in
     let is_so : found.0 ≡ record found.0 { body = body.Data there.0 } = λ i. record found.0 { body = found.1.is i } in
     let at = found.1.there ∙ ap Some is_so in
@@ -279,38 +226,31 @@ removed_lawful ctx m under name done is =
     (subst (Leaves ctx.base_reserve none_more m) removed_so
     (removed_left ctx.id_pool ctx.base_reserve m src name found.0 there.0 at (view m) _ under.settled.legal)))
   where
-    stands_then : (o : Option DataEntry) → not (is_some o) ≡ false → (d : DataEntry) × (o ≡ Some d)
-    stands_then None test = absurd (cc)
-    stands_then (Some d) test = (d, refl)
+    exists_then : (o : Option DataEntry) → not (is_some o) ≡ false → (d : DataEntry) × (o ≡ Some d)
+    exists_then None test = absurd (cc)
+    exists_then (Some d) test = (d, refl)
 
 -- ---- the operation
 
-pub not_empty : (n : ℕ) → nat_eq n 0 ≡ false → 1 ≤ n
-not_empty n h = grind arith
-
-not_false : (b : Bool) → not b ≡ false → b ≡ true
-not_false true h = refl
-not_false false h = absurd (cc)
-
-module _ (ctx : Ctx) (m : EntryMap) (under : IsUnderway ctx m) (stands : HasAccount m ctx.op_source) (name : List ℕ)
+module _ (ctx : Ctx) (m : EntryMap) (under : IsUnderway ctx m) (exists : HasAccount m ctx.op_source) (name : List ℕ)
     (range : (value : List ℕ)
     → IsDataInRange (record { account_id = ctx.op_source; data_name = name; data_value = value })) (done : Done) where
   by_data : (value : List ℕ) (o : Option DataEntry) → data_at m ctx.op_source name ≡ o
       → valued ctx name value m o ≡ Ok done → IsLawful ctx m done
-  by_data value None at is = added_lawful ctx m under stands name range value done at is
-  by_data value (Some d) at is = valued_lawful ctx m under stands name range value d done at is
+  by_data value None at is = added_lawful ctx m under exists name range value done at is
+  by_data value (Some d) at is = valued_lawful ctx m under exists name range value d done at is
 
   by_value : (o : Option (List ℕ)) → managed ctx name m o ≡ Ok done → IsLawful ctx m done
   by_value None is = removed_lawful ctx m under name done is
   by_value (Some value) is = by_data value (data_at m ctx.op_source name) refl is
 
 pub manage_data_is_lawful : AreLawful manage_data
-manage_data_is_lawful ctx op m done under stands is =
+manage_data_is_lawful ctx op m done under exists is =
     let went = went_on (name_tests op.data_name) (managed ctx op.data_name m op.data_value) done is in
     let test = first_passed (nat_eq (length op.data_name) 0 || not (is_valid_text op.data_name))
     (answer manage.InvalidName) [] went.0 in
-    let both = neither (nat_eq (length op.data_name) 0) (not (is_valid_text op.data_name)) test.0 in
-    by_value ctx m under stands op.data_name (λ value. record {
-      some = not_empty (length op.data_name) both.0;
-      name = not_false (is_valid_text op.data_name) both.1;
+    let both = or_parts (nat_eq (length op.data_name) 0) (not (is_valid_text op.data_name)) test.0 in
+    by_value ctx m under exists op.data_name (λ value. record {
+      some = natural_positive_from_unequal (length op.data_name) both.0;
+      name = not-false (is_valid_text op.data_name) both.1;
     }) done op.data_value went.1

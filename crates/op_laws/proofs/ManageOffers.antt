@@ -1,58 +1,36 @@
 -- MANAGE_SELL_OFFER, CREATE_PASSIVE_SELL_OFFER and MANAGE_BUY_OFFER are lawful.
-use Rattle.std.proofs.Common.{◌≡◌, refl, sym, ap, subst, ◌∙◌, ℕ, ◌≤◌, Bool, true, false, [], Option, Some, None, Result}
-use Rattle.std.proofs.Common.{Ok, Err, arith}
-use Rattle.std.specs.Prelude.{ℤ, pos, if◌then◌else◌, ◌+◌}
-use Rattle.std.specs.FinMap.{get}
-use Rattle.std.specs.Ordering.{int_eq}
-use Rattle.op_flags.specs.ledger_types.declared.ids.AccountId.{AccountId}
+use Rattle.op_laws.proofs.Prelude as prelude
+use prelude.{◌≡◌, refl, sym, ap, subst, ◌∙◌, ℕ, ◌≤◌, Bool, true, false, [], Option, Some, None, Result, Ok, Err, arith}
+use prelude.{ℤ, pos, if◌then◌else◌, get, int_eq, AccountId, OfferEntry, LedgerEntry, LedgerEntryBody, key_of_body}
+use prelude.{EntryMap, HasAccount, total, Ctx, map_after_counting_subentry, view, IsSponsorReady, held, holder}
+use prelude.{sponsors_ready, map_after_cancelling, offer_key, Done, OfAccount, Effect, Made, Changed, Managed, Removed}
+use prelude.{drawn, of_sold, unless_some, unless_lines, sell_fault, buy_fault, with_reserve, new_asked, made, old_asked}
+use prelude.{changed, managed_old, managed_at, moves_of, Answer, answer_of, success_answer, effect_of}
+use prelude.{attempt_of_managed, attempt_of, Asked, Sold, sold, map_without_offer, IsLawful, AreLawful, IsUnderway}
+use Rattle.std.specs.Prelude.{◌+◌}
 use Rattle.op_flags.specs.ledger_types.declared.asset.Asset.TheVariants as asset
-use Rattle.op_flags.specs.ledger_types.declared.offer.OfferEntry.{OfferEntry}
-use Rattle.op_flags.specs.ledger_types.declared.entry.LedgerEntry.{LedgerEntry}
-use Rattle.op_flags.specs.ledger_types.declared.entry.LedgerEntryBody.{LedgerEntryBody}
 use Rattle.op_flags.specs.ledger_types.declared.entry.LedgerEntryBody.TheVariants as body
 use Rattle.op_flags.specs.ledger_types.declared.key.LedgerKey.TheVariants as key
-use Rattle.op_flags.specs.ledger_types.Keys.{key_of_body}
 use Rattle.op_flags.specs.op_types.declared.offer_ops.ManageSellOfferOp.{ManageSellOfferOp}
 use Rattle.op_flags.specs.op_types.declared.offer_ops.CreatePassiveSellOfferOp.{CreatePassiveSellOfferOp}
 use Rattle.op_flags.specs.op_types.declared.offer_ops.ManageBuyOfferOp.{ManageBuyOfferOp}
 use Rattle.op_flags.specs.op_types.declared.offer_results.ManageOfferEffect.TheVariants as effect
 use Rattle.op_flags.specs.op_types.declared.operation.OperationBody.TheVariants as operation
-use Rattle.op_flags.specs.entry_map.EntryMap.{EntryMap}
-use Rattle.op_flags.specs.entry_slots.Accounts.{HasAccount}
-use Rattle.op_flags.specs.entry_sums.Sums.{total}
-use Rattle.op_flags.specs.sponsor_rules.declared.context.Ctx.{Ctx}
 use Rattle.op_flags.specs.sponsor_rules.declared.fault.AddFault.{AddFault}
-use Rattle.op_flags.specs.sponsor_rules.Adding.{map_after_counting_subentry}
-use Rattle.op_flags.specs.legal_rules.Legal.{view}
-use Rattle.op_flags.specs.legal_rules.Sponsorships.{IsSponsorReady}
-use Rattle.op_flags.specs.legal_rules.Supply.{held}
-use Rattle.op_flags.specs.legal_rules.Trades.{holder}
-use Rattle.op_flags.proofs.legal_rules_proofs.Given.{sponsors_ready}
-use Rattle.op_flags.specs.trade_cross.Cancelling.{map_after_cancelling}
-use Rattle.op_flags.specs.trade_cross.Crossing.{offer_key}
-use Rattle.op_flags.specs.op_form.Done.{Done, OfAccount}
 use Rattle.op_offers.specs.declared.answers.Kind.TheVariants as kind
 use Rattle.op_offers.specs.declared.ask.Ask.{Ask}
 use Rattle.op_offers.specs.declared.fault.OfferFault.{OfferFault}
 use Rattle.op_offers.specs.declared.fault.OfferFault.TheVariants as fault
 use Rattle.op_offers.specs.Asked.{ask_to_sell, ask_passively, ask_to_buy, is_malformed}
-use Rattle.op_offers.specs.Managing.{Effect, Made, Changed, Managed, Removed, drawn, of_sold, unless_some, unless_lines}
-use Rattle.op_offers.specs.Managing.{sell_fault, buy_fault, with_reserve, new_asked, made, old_asked, changed}
-use Rattle.op_offers.specs.Managing.{managed_old, managed_at, managed}
-use Rattle.op_flags.specs.op_form.AtomMoves.{moves_of}
-use Rattle.op_offers.specs.Operations.{Answer, answer_of, success_answer, effect_of, attempt_of_managed}
-use Rattle.op_offers.specs.Operations.{attempt_of}
-use Rattle.op_offers.specs.Selling.{Asked, Sold, sold, map_without_offer}
+use Rattle.op_offers.specs.Managing.{managed}
 use Rattle.op_offers.proofs.NewOffers.{new_counted, new_left, new_rightly}
 use Rattle.op_offers.proofs.OldOffers.{old_counted, old_rightly}
 use Rattle.op_offers.proofs.OutLeft.{out_left, cancelled_legal, cancelled_left}
 use Rattle.op_offers.proofs.Tested.{IsValidAsk, valid_ask}
-use Rattle.op_laws.specs.Laws.{IsLawful, AreLawful}
-use Rattle.op_laws.specs.Underway.{IsUnderway}
 use Rattle.op_laws.proofs.Lawful.{lawful_still}
 use Rattle.op_laws.proofs.Sales.{IsReady, sale_is_lawful}
 
-module _ (ctx : Ctx) (ask : Ask) (m : EntryMap) (under : IsUnderway ctx m) (stands : HasAccount m ctx.op_source)
+module _ (ctx : Ctx) (ask : Ask) (m : EntryMap) (under : IsUnderway ctx m) (exists : HasAccount m ctx.op_source)
     (flags : ask.flags ≤ 1) (answer : Answer) (done : Done) where
   abbrev lumens : ℤ
   lumens = total (held asset.Native) m
@@ -109,9 +87,9 @@ module _ (ctx : Ctx) (ask : Ask) (m : EntryMap) (under : IsUnderway ctx m) (stan
     reserve_lawful gives takes (Err other) counted is = absurd (cc)
     reserve_lawful gives takes (Ok now) counted is =
         sale_lawful Made (ctx.id_pool + 1) (new_asked ctx ask) refl now (record {
-          counted = λ v sum legal. new_counted ctx ask m v sum legal stands paid_for now counted;
-          left = new_left ctx ask m (view m) lumens under.settled.legal stands paid_for now counted;
-          right = new_rightly ctx ask m (view m) lumens under.settled.legal stands paid_for now counted valid flags
+          counted = λ v sum legal. new_counted ctx ask m v sum legal exists paid_for now counted;
+          left = new_left ctx ask m (view m) lumens under.settled.legal exists paid_for now counted;
+          right = new_rightly ctx ask m (view m) lumens under.settled.legal exists paid_for now counted valid flags
               gives takes;
           low = omega arith;
           high = omega arith;
@@ -132,7 +110,7 @@ module _ (ctx : Ctx) (ask : Ask) (m : EntryMap) (under : IsUnderway ctx m) (stan
           (record {
             counted = λ v sum legal. old_counted ctx ask m v sum legal old e there is_so own;
             left = out_left (view m) ctx.id_pool lumens old e m under.settled.legal there is_so ctx.base_reserve;
-            right = old_rightly ctx ask m (view m) lumens under.settled.legal old e there is_so own stands valid gives
+            right = old_rightly ctx ask m (view m) lumens under.settled.legal old e there is_so own exists valid gives
                 takes;
             low = omega arith;
             high = omega arith;
@@ -191,15 +169,15 @@ module _ (ctx : Ctx) (ask : Ask) (m : EntryMap) (under : IsUnderway ctx m) (stan
 
 pub manage_sell_offer_is_lawful : AreLawful (λ ctx (op : ManageSellOfferOp) m. attempt_of ctx
     (operation.ManageSellOffer op) m)
-manage_sell_offer_is_lawful ctx op m done under stands is =
-    managed_lawful ctx (ask_to_sell op) m under stands (omega arith) (answer_of kind.Sell) done is
+manage_sell_offer_is_lawful ctx op m done under exists is =
+    managed_lawful ctx (ask_to_sell op) m under exists (omega arith) (answer_of kind.Sell) done is
 
 pub create_passive_sell_offer_is_lawful : AreLawful (λ ctx (op : CreatePassiveSellOfferOp) m. attempt_of ctx
     (operation.CreatePassiveSellOffer op) m)
-create_passive_sell_offer_is_lawful ctx op m done under stands is =
-    managed_lawful ctx (ask_passively op) m under stands (omega arith) (answer_of kind.Passive) done is
+create_passive_sell_offer_is_lawful ctx op m done under exists is =
+    managed_lawful ctx (ask_passively op) m under exists (omega arith) (answer_of kind.Passive) done is
 
 pub manage_buy_offer_is_lawful : AreLawful (λ ctx (op : ManageBuyOfferOp) m. attempt_of ctx
     (operation.ManageBuyOffer op) m)
-manage_buy_offer_is_lawful ctx op m done under stands is =
-    managed_lawful ctx (ask_to_buy op) m under stands (omega arith) (answer_of kind.Buy) done is
+manage_buy_offer_is_lawful ctx op m done under exists is =
+    managed_lawful ctx (ask_to_buy op) m under exists (omega arith) (answer_of kind.Buy) done is

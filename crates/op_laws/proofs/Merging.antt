@@ -1,87 +1,42 @@
 -- ACCOUNT_MERGE is lawful.
-use Rattle.std.proofs.Common.{◌≡◌, ◌≢◌, refl, sym, ap, subst, ◌∙◌, ℕ, suc, ◌-◌, ◌<◌, Bool, true, false, not}
-use Rattle.std.proofs.Common.{◌||◌, nat_eq, nat_lt, cond, is_some, bit_and, List, [], ◌∷◌, length, remove, get_or, All}
-use Rattle.std.proofs.Common.{Option, Some, None}
-use Rattle.std.proofs.Common.{Ok, arith}
-use Rattle.std.proofs.lemmas.Int.{ints}
-use Rattle.std.proofs.lemmas.Bool.{eqb-true}
-use Rattle.std.proofs.lemmas.List.Elements.{All-nil, All-cons}
-use Rattle.std.proofs.lemmas.List.Sums.{position_or_len_is}
-use Rattle.std.specs.Prelude.{ℤ, pos, neg_ℤ, int_le, ◌+ℤ◌, ◌≤ℤ◌, if◌then◌else◌}
-use Rattle.std.specs.List.{list_any}
-use Rattle.std.specs.Ordering.{is_eq}
-use Rattle.op_flags.specs.ledger_types.declared.ids.AccountId.{AccountId}
-use Rattle.op_flags.specs.ledger_types.declared.asset.Asset.{Asset}
+use Rattle.op_laws.proofs.Prelude as prelude
+use prelude.{◌≡◌, ◌≢◌, refl, sym, ap, subst, ◌∙◌, ℕ, ◌-◌, ◌<◌, Bool, true, false, not, ◌||◌, nat_eq, nat_lt, cond}
+use prelude.{is_some, bit_and, List, [], ◌∷◌, length, get_or, All, Option, Some, None, Ok, arith, ints, eqb-true}
+use prelude.{All-nil, All-cons, position_or_len_is, ℤ, pos, neg_ℤ, int_le, ◌+ℤ◌, ◌≤ℤ◌, if◌then◌else◌, list_any, is_eq}
+use prelude.{AccountId, Asset, AccountEntry, Signer, account_of, asset_cmp, signer_key_cmp, EntryMap, erase}
+use prelude.{account_in_entry, account_at, with_account, num_sponsoring, signer_sponsor, sponsor_of, Tests, part, Ctx}
+use prelude.{Sponsorship, charge_of, count_in, with_less, map_after_releasing, without_subentry, is_same_account}
+use prelude.{map_without_charge, map_after_removing, map_after_removing_entry, index_of, found_at, found_signer}
+use prelude.{without_counted_signer, map_without_signer, map_after_removing_signer, same_account, apart_accounts}
+use prelude.{with_count_is, with_count_keeps, counts_edited, View, view, nothing_owed, IsLegalOwing}
+use prelude.{AreSponsorshipsSound, held, held_in, lumens_of, account_legal, nothing_settled, account_after}
+use prelude.{account_elsewhere, counts_sponsoring, paid_by_other, signer_removed, account_entry, legal_as}
+use prelude.{OperationResult, NoAccount, map_without_signers, map_without_account, taken_and_removed, merge_of}
+use prelude.{account_merge, Done, with_more_lumens, map_after_lumens_credit, is_open_sponsor, unless_refused, IsLawful}
+use prelude.{AreLawful, IsUnderway, releasing_kept, erase_beside, IsTaken, taken_legal, taken_left, pays_less, IsKeyed}
+use prelude.{none_more, both_more, for_one, HoldsMore, holds_both, holds_as, still_holds, erase_holds, cancelled}
+use prelude.{IsAfter, Leaves, leaves_itself, leaves_both, keeps_both, went_on, went_after_some, first_passed}
+use prelude.{erase_there, suc_minus_one, zero_add, not-false, or_parts, credit_is_taken}
+use Rattle.std.proofs.Common.{remove}
 use Rattle.op_flags.specs.ledger_types.declared.asset.Asset.TheVariants as asset
-use Rattle.op_flags.specs.ledger_types.declared.account.AccountEntry.{AccountEntry}
 use Rattle.op_flags.specs.ledger_types.declared.key.LedgerKey.TheVariants as key
-use Rattle.op_flags.specs.ledger_types.declared.signer.Signer.{Signer}
-use Rattle.op_flags.specs.ledger_types.Ids.{account_of}
-use Rattle.op_flags.specs.ledger_types.KeyOrder.{asset_cmp, signer_key_cmp}
-use Rattle.op_flags.specs.entry_map.EntryMap.{EntryMap, erase}
-use Rattle.op_flags.specs.entry_slots.Accounts.{account_of as account_in_entry, account_at, with_account}
-use Rattle.op_flags.specs.entry_slots.AccountExtensions.{num_sponsoring, signer_sponsor}
-use Rattle.op_flags.specs.entry_slots.EntrySponsor.{sponsor_of}
-use Rattle.op_flags.specs.entry_slots.Tests.{Tests}
-use Rattle.op_flags.specs.entry_sums.Sums.{part}
-use Rattle.op_flags.proofs.entry_sums_proofs.Lookups.{erase_there}
-use Rattle.op_flags.specs.sponsor_rules.declared.context.Ctx.{Ctx}
-use Rattle.op_flags.specs.sponsor_rules.declared.context.Sponsorship.{Sponsorship}
 use Rattle.op_flags.specs.sponsor_rules.declared.count.Count.TheVariants as count
-use Rattle.op_flags.specs.sponsor_rules.Charge.{charge_of}
-use Rattle.op_flags.specs.sponsor_rules.Counting.{count_in, with_less}
-use Rattle.op_flags.specs.sponsor_rules.Paying.{map_after_releasing, without_subentry}
-use Rattle.op_flags.specs.sponsor_rules.Payers.{is_same_account}
-use Rattle.op_flags.specs.sponsor_rules.Removing.{map_without_charge, map_after_removing, map_after_removing_entry}
-use Rattle.op_flags.specs.sponsor_rules.SignerPlace.{place_of, found_at, found_signer}
-use Rattle.op_flags.specs.sponsor_rules.Signers.{without_counted_signer, map_without_signer, map_after_removing_signer}
-use Rattle.op_flags.proofs.sponsor_rules_proofs.Ids.{same_account, apart_accounts}
-use Rattle.op_flags.proofs.sponsor_rules_proofs.Keeping.{with_count_is, with_count_keeps, counts_edited}
 use Rattle.op_flags.proofs.sponsor_laws_proofs.Accounts.{with_count-keeps}
-use Rattle.op_flags.specs.legal_rules.Books.{View}
-use Rattle.op_flags.specs.legal_rules.Legal.{view}
-use Rattle.op_flags.specs.legal_rules.Owing.{nothing_owed, IsLegalOwing}
-use Rattle.op_flags.specs.legal_rules.Sponsorships.{AreSponsorshipsSound}
-use Rattle.op_flags.specs.legal_rules.Supply.{held, held_in, lumens_of}
-use Rattle.op_flags.proofs.legal_rules_proofs.Bounded.{account_legal}
 use Rattle.op_flags.proofs.legal_rules_proofs.Merging.{removed_account}
-use Rattle.op_flags.proofs.legal_rules_proofs.PaidFor.{nothing_settled}
-use Rattle.op_flags.proofs.legal_rules_proofs.Places.{account_after, account_elsewhere}
-use Rattle.op_flags.proofs.legal_rules_proofs.SignersKept.{counts_sponsoring, paid_by_other, signer_removed}
-use Rattle.op_flags.proofs.legal_rules_proofs.Steps.{account_entry, legal_as}
 use Rattle.op_flags.specs.op_types.declared.account_ops.AccountMergeOp.{AccountMergeOp}
 use Rattle.op_flags.specs.op_types.declared.account_results.AccountMergeResult.TheVariants as merge
-use Rattle.op_flags.specs.op_types.declared.operation_result.OperationResult.{OperationResult}
-use Rattle.op_flags.specs.op_types.declared.operation_result.OperationResult.TheVariants.{NoAccount}
-use Rattle.op_account.specs.AccountMerge.{answer, destination_tests, source_tests, map_without_signers}
-use Rattle.op_account.specs.AccountMerge.{map_without_account, taken_and_removed, merge_of, account_merge}
-use Rattle.op_flags.specs.op_form.Done.{Done}
-use Rattle.op_flags.specs.op_form.Lumens.{with_more_lumens, map_after_lumens_credit}
+use Rattle.op_account.specs.AccountMerge.{answer, destination_tests, source_tests}
 use Rattle.op_flags.specs.op_form.Sequences.{first_seq}
-use Rattle.op_flags.specs.op_form.Sponsorships.{is_open_sponsor}
-use Rattle.op_flags.specs.op_form.Steps.{unless_refused}
-use Rattle.op_laws.specs.Laws.{IsLawful, AreLawful}
-use Rattle.op_laws.specs.Underway.{IsUnderway}
-use Rattle.op_flags.proofs.legal_rules_proofs.ChargesLeft.{releasing_kept, erase_beside}
 use Rattle.op_laws.proofs.Lawful.{KeepsLegal, AreEachAfter, terms_kept, lawful_by}
-use Rattle.op_laws.proofs.Lumens.{lumens_move, lumens_told, none_issued}
-use Rattle.op_payment.proofs.Paying.{IsTaken, taken, taken_legal, taken_left}
-use Rattle.op_flags.proofs.legal_rules_proofs.ReservesLeft.{pays_less}
-use Rattle.op_laws.proofs.Signers.{signer_kept, without_means}
+use Rattle.op_laws.proofs.Lumens.{lumens_move, lumens_described, none_issued}
+use Rattle.op_laws.proofs.Signers.{signer_kept, without_core}
 use Rattle.op_laws.proofs.SetOptions.{is_its_key}
-use Rattle.op_flags.specs.legal_rules.Holdings.{IsKeyed, none_more, both_more, for_one, HoldsMore}
-use Rattle.op_flags.proofs.legal_rules_proofs.Holdings.{none_before, holds_both}
-use Rattle.op_flags.proofs.legal_rules_proofs.Holdings.{holds_as, still_holds, erase_holds, cancelled}
-use Rattle.op_flags.specs.legal_rules.Holdings.{IsAfter}
-use Rattle.op_flags.proofs.legal_rules_proofs.Leaving.{Leaves, leaves_itself, leaves_both, keeps_both}
-use Rattle.op_flags.proofs.Went.{went_on, went_after_some}
-use Rattle.op_flags.proofs.legal_rules_proofs.Passed.{first_passed, neither}
 
 -- ---- an account without its first signer
 
--- it stands at the front
-at_first : (x : Signer) (xs : List Signer) → place_of x.key (x ∷ xs) ≡ Some 0
-unfolding place_of
+-- it is the first
+at_first : (x : Signer) (xs : List Signer) → index_of x.key (x ∷ xs) ≡ Some 0
+unfolding index_of
 at_first x xs =
     let p = λ (y : Signer). is_eq (signer_key_cmp y.key x.key) in
     let at = position_or_len_is p (x ∷ xs) 0 x (omega arith) (λ k lt. absurd (omega arith)) (λ lt. is_its_key x.key) in
@@ -114,7 +69,7 @@ less_subentry (Some x) b =
       (with_count-keeps count.Sponsored n c).signers ∙ first.2,
     )
 
--- what stands without its first signer
+-- what remains without its first signer
 record IsUnsigned (xs : List Signer) (b c : AccountEntry) : Type 0 where
   signers : c.signers ≡ xs
   subentries : c.num_sub_entries ≡ b.num_sub_entries - 1
@@ -122,7 +77,7 @@ record IsUnsigned (xs : List Signer) (b c : AccountEntry) : Type 0 where
   balance : c.balance ≡ b.balance
 
 first_unsigned : (x : Signer) (xs : List Signer) (s : Option AccountId) (b : AccountEntry) → b.signers ≡ x ∷ xs
-    → IsUnsigned xs b (without_counted_signer (record { place = 0; sponsor = s }) b)
+    → IsUnsigned xs b (without_counted_signer (record { index = 0; sponsor = s }) b)
 first_unsigned x xs s b is =
     let c = without_subentry 1 s b in
     let less = less_subentry s b in
@@ -131,14 +86,14 @@ first_unsigned x xs s b is =
       signers = ap (λ (ys : List Signer). remove ys 0) (less.2 ∙ is);
       subentries = counts_edited change count.SubEntries c (remove c.signers 0) ∙ less.0;
       pays = counts_edited change count.Sponsoring c (remove c.signers 0) ∙ less.1;
-      balance = (without_means 0 s b).balance;
+      balance = (without_core 0 s b).balance;
     }
 
 -- ---- the map without it
 
 module _ (v : View) (id_pool base : ℕ) (sum : ℤ) (src : AccountId) where
   module _ (m : EntryMap) (legal : IsLegalOwing v id_pool nothing_owed sum m) (x : Signer) (xs : List Signer)
-      (b : AccountEntry) (stands : account_at m src ≡ Some b) (is : b.signers ≡ x ∷ xs) where
+      (b : AccountEntry) (existing : account_at m src ≡ Some b) (is : b.signers ≡ x ∷ xs) where
     abbrev s : Option AccountId
     s = signer_sponsor b 0
 
@@ -154,65 +109,62 @@ module _ (v : View) (id_pool base : ℕ) (sum : ℤ) (src : AccountId) where
     still_by : (o : Option AccountId) → s ≡ o → account_at (map_after_releasing 1 o m) src ≡ account_at m src
     still_by None to = refl
     still_by (Some y) to =
-        let payer = counts_sponsoring v id_pool nothing_owed sum m legal nothing_settled src b stands 0 within y to in
-        account_elsewhere m y (with_less count.Sponsoring 1) payer.account legal.keyed payer.stands
-        (pays_less 1 payer.account).means.id src
+        let payer = counts_sponsoring v id_pool nothing_owed sum m legal nothing_settled src b existing 0 within y to in
+        account_elsewhere m y (with_less count.Sponsoring 1) payer.account legal.keyed payer.exists
+        (pays_less 1 payer.account).core.id src
         (λ same. paid_by_other v id_pool nothing_owed sum m legal nothing_settled
-        src b stands 0 within y to (ap key.Account same))
+        src b existing 0 within y to (ap key.Account same))
 
     abbrev f : AccountEntry → AccountEntry
-    f = without_counted_signer (record { place = 0; sponsor = s })
+    f = without_counted_signer (record { index = 0; sponsor = s })
 
     removed_is : map_after_removing_signer src x.key m ≡ with_account now src f
     removed_is =
-        ap (λ o. map_without_signer src m (found_signer x.key o)) stands
-        ∙ ap (λ o. map_without_signer src m (found_at b o)) (ap (place_of x.key) is ∙ at_first x xs)
+        ap (λ o. map_without_signer src m (found_signer x.key o)) existing
+        ∙ ap (λ o. map_without_signer src m (found_at b o)) (ap (index_of x.key) is ∙ at_first x xs)
 
     pub first_removed : account_at (map_after_removing_signer src x.key m) src ≡ Some (f b)
     first_removed =
         ap (λ n. account_at n src) removed_is
-        ∙ account_after now src f b keyed_now (still_by s refl ∙ stands) (without_means 0 s b).id
+        ∙ account_after now src f b keyed_now (still_by s refl ∙ existing) (without_core 0 s b).id
 
 -- ---- all signers
 
 -- an account without signers and subentries, that pays for nobody
 record IsBare (id_pool base : ℕ) (src : AccountId) (balance : ℤ) (m new : EntryMap) : Type 0 where
   account : AccountEntry
-  stands : account_at new src ≡ Some account
+  existing : account_at new src ≡ Some account
   subentries : account.num_sub_entries ≡ 0
   pays : num_sponsoring account ≡ 0
   same : account.balance ≡ balance
   legal : KeepsLegal id_pool m new
   leaves : Leaves base none_more m new
 
-one_less : (n l : ℕ) → n ≡ suc l → n - 1 ≡ l
-one_less n l is = omega arith
-
 module _ (v : View) (id_pool base : ℕ) (sum : ℤ) (src : AccountId) where
   bare : (xs : List Signer) (m : EntryMap) → IsLegalOwing v id_pool nothing_owed sum m → (b : AccountEntry)
       → account_at m src ≡ Some b → b.signers ≡ xs → b.num_sub_entries ≡ length xs → num_sponsoring b ≡ 0
       → IsBare id_pool base src b.balance m (map_without_signers src xs m)
   unfolding map_without_signers
-  bare [] m legal b stands is subs pays = record {
+  bare [] m legal b existing is subs pays = record {
     account = b;
-    stands = stands;
+    existing = existing;
     subentries = subs;
     pays = pays;
     same = refl;
     legal = λ w n had. had;
     leaves = leaves_itself base m legal.keyed;
   }
-  bare (x ∷ xs) m legal b stands is subs pays =
+  bare (x ∷ xs) m legal b existing is subs pays =
       let now = map_after_removing_signer src x.key m in
-      let c = without_counted_signer (record { place = 0; sponsor = signer_sponsor b 0 }) b in
+      let c = without_counted_signer (record { index = 0; sponsor = signer_sponsor b 0 }) b in
       let less = first_unsigned x xs (signer_sponsor b 0) b is in
       let rest = bare xs now
       (signer_removed v id_pool nothing_owed sum src x.key m legal nothing_settled) c
-      (first_removed v id_pool base sum src m legal x xs b stands is) less.signers
-      (less.subentries ∙ one_less b.num_sub_entries (length xs) subs) (less.pays ∙ pays) in
+      (first_removed v id_pool base sum src m legal x xs b existing is) less.signers
+      (less.subentries ∙ suc_minus_one b.num_sub_entries (length xs) subs) (less.pays ∙ pays) in
       record {
         account = rest.account;
-        stands = rest.stands;
+        existing = rest.existing;
         subentries = rest.subentries;
         pays = rest.pays;
         same = rest.same ∙ less.balance;
@@ -237,8 +189,8 @@ nobody m id = ap account_in_entry (erase_there m (key.Account id))
 
 removed_gone : (base : ℕ) (src : AccountId) (m : EntryMap) → IsKeyed m → (a : AccountEntry) → account_at m src ≡ Some a
     → IsGone base src a.balance m (map_after_removing (key.Account src) m)
-removed_gone base src m keyed a stands =
-    let found = account_entry m src a stands in
+removed_gone base src m keyed a existing =
+    let found = account_entry m src a existing in
     let s = sponsor_of found.0 in
     let now = map_after_releasing 2 s m in
     let kept = releasing_kept base 2 s m keyed in
@@ -257,7 +209,7 @@ removed_gone base src m keyed a stands =
           (erase_holds now (key.Account src) less (λ x. ap (λ n. n +ℤ less x)
           (still_holds m now kept.holds (key.Account src) x ∙ ap (part (held x)) found.1.there
           ∙ ap (held_in x) found.1.is) ∙ cancelled (is_eq (asset_cmp x asset.Native)) a.balance)))
-          (λ k x. none_before (for_one src (neg_ℤ a.balance) k x));
+          (λ k x. zero_add (for_one src (neg_ℤ a.balance) k x));
     })
 
 -- ---- the operation
@@ -270,7 +222,7 @@ given_up false sum n k same = omega (arith, ints)
 none_passes : (p : Sponsorship → Bool) (xs : List Sponsorship) → list_any p xs ≡ false → All (λ x. p x ≡ false) xs
 none_passes p [] is = All-nil (λ x. p x ≡ false)
 none_passes p (x ∷ xs) is =
-    let both = neither (p x) (list_any p xs) is in
+    let both = or_parts (p x) (list_any p xs) is in
     All-cons (λ y. p y ≡ false) x xs both.0 (none_passes p xs both.1)
 
 no_sponsor : (ctx : Ctx) (id : AccountId) → is_open_sponsor ctx id ≡ false
@@ -282,7 +234,7 @@ none_between : (d e : ℤ) → ((d +ℤ pos 0) +ℤ e) ≡ (d +ℤ e)
 none_between d e = omega (arith, ints)
 
 module _ (ctx : Ctx) (op : AccountMergeOp) (m : EntryMap) (done : Done) (under : IsUnderway ctx m) (a : AccountEntry)
-    (stands : account_at m ctx.op_source ≡ Some a) (apart : account_of op.destination ≢ ctx.op_source)
+    (existing : account_at m ctx.op_source ≡ Some a) (apart : account_of op.destination ≢ ctx.op_source)
     (signed : a.num_sub_entries ≡ length a.signers) (pays : num_sponsoring a ≡ 0)
     (opens : is_open_sponsor ctx ctx.op_source ≡ false) where
   abbrev src : AccountId
@@ -295,7 +247,7 @@ module _ (ctx : Ctx) (op : AccountMergeOp) (m : EntryMap) (done : Done) (under :
   base = ctx.base_reserve
 
   low : pos 0 ≤ℤ a.balance
-  low = (account_legal (view m) ctx.id_pool nothing_owed _ m src a under.settled.legal stands).range.range.balance
+  low = (account_legal (view m) ctx.id_pool nothing_owed _ m src a under.settled.legal existing).range.range.balance
 
   module _ (paid : EntryMap) (h : IsTaken dest a.balance m paid) where
     first : Leaves base (for_one dest a.balance) m paid
@@ -304,8 +256,8 @@ module _ (ctx : Ctx) (op : AccountMergeOp) (m : EntryMap) (done : Done) (under :
     still : account_at paid src ≡ Some a
     still =
         ap (λ n. account_at n src) (sym h.is)
-        ∙ account_elsewhere m dest (with_more_lumens a.balance) h.account under.settled.legal.keyed h.stands refl src
-        (λ same. apart (sym same)) ∙ stands
+        ∙ account_elsewhere m dest (with_more_lumens a.balance) h.account under.settled.legal.keyed h.exists refl src
+        (λ same. apart (sym same)) ∙ existing
 
     abbrev unsigned : EntryMap
     unsigned = map_without_signers src a.signers paid
@@ -318,7 +270,7 @@ module _ (ctx : Ctx) (op : AccountMergeOp) (m : EntryMap) (done : Done) (under :
     new = map_without_account src a paid
 
     gone : IsGone base src bared.account.balance unsigned new
-    gone = removed_gone base src unsigned bared.leaves.keyed bared.account bared.stands
+    gone = removed_gone base src unsigned bared.leaves.keyed bared.account bared.existing
 
     merged_legal : KeepsLegal ctx.id_pool m new
     merged_legal v sum legal =
@@ -326,10 +278,10 @@ module _ (ctx : Ctx) (op : AccountMergeOp) (m : EntryMap) (done : Done) (under :
         (removed_account v ctx.id_pool (sum +ℤ lumens_of v.asset a.balance) unsigned src bared.account
         (bared.legal v (sum +ℤ lumens_of v.asset a.balance)
         (taken_legal v ctx.id_pool sum dest a.balance m paid h low legal))
-        bared.stands bared.subentries bared.pays) (λ kind k. refl)
+        bared.existing bared.subentries bared.pays) (λ kind k. refl)
         (given_up (is_eq (asset_cmp v.asset asset.Native)) sum bared.account.balance a.balance bared.same)
 
-    -- what stands before the account goes
+    -- what holds before the account goes
     before : Leaves base (both_more (both_more (for_one dest a.balance) none_more) none_more) m gone.now
     before = leaves_both base (both_more (for_one dest a.balance) none_more) none_more m unsigned gone.now
         (leaves_both base (for_one dest a.balance) none_more m paid unsigned first bared.leaves) gone.leaves
@@ -359,9 +311,9 @@ module _ (ctx : Ctx) (op : AccountMergeOp) (m : EntryMap) (done : Done) (under :
     merged_sound = record {
       once = under.sponsorships.once;
       other = under.sponsorships.other;
-      stand = λ k d lt.
+      exist = λ k d lt.
           let sponsor = (get_or ctx.sponsorships k d).sponsor in
-          let had = before.stand sponsor (under.sponsorships.stand k d lt) in
+          let had = before.exist sponsor (under.sponsorships.exist k d lt) in
           (had.0, gone.others sponsor (apart_accounts sponsor src (no_sponsor ctx src opens k d lt)) ∙ had.1);
     }
 
@@ -370,7 +322,7 @@ module _ (ctx : Ctx) (op : AccountMergeOp) (m : EntryMap) (done : Done) (under :
       let went = went_after_some (map_after_lumens_credit dest a.balance m) (answer merge.DestFull) _ done is in
       let paid = went.0 in
       let also = went.2 in
-      let h = taken dest a.balance m paid went.1 in
+      let h = credit_is_taken dest a.balance m paid went.1 in
       let made : Done = record {
         result = answer (merge.Success a.balance);
         entries = map_without_account src a paid;
@@ -380,17 +332,13 @@ module _ (ctx : Ctx) (op : AccountMergeOp) (m : EntryMap) (done : Done) (under :
       let same : made ≡ done = cc in
       subst (IsLawful ctx m) same (lawful_by ctx m under
       (both_more (for_one dest a.balance) (for_one src (neg_ℤ a.balance))) made (merged_legal paid h)
-      (merged_each paid h) (merged_holds paid h) (lumens_told src dest a.balance) (none_issued src dest a.balance)
+      (merged_each paid h) (merged_holds paid h) (lumens_described src dest a.balance) (none_issued src dest a.balance)
       (terms_kept ctx) refl (merged_sound paid h))
-
-not_not : (b : Bool) → not b ≡ false → b ≡ true
-not_not true h = refl
-not_not false h = absurd (cc)
 
 with_source : (ctx : Ctx) (op : AccountMergeOp) (m : EntryMap) (done : Done) → IsUnderway ctx m → (a : AccountEntry)
     → account_at m ctx.op_source ≡ Some a → account_of op.destination ≢ ctx.op_source
     → unless_refused (source_tests ctx a) (taken_and_removed ctx op a m) ≡ Ok done → IsLawful ctx m done
-with_source ctx op m done under a stands apart is =
+with_source ctx op m done under a existing apart is =
     let last = not (nat_eq (num_sponsoring a) 0) || is_open_sponsor ctx ctx.op_source in
     let fourth : Tests OperationResult = (last, answer merge.IsSponsor) ∷ [] in
     let third : Tests OperationResult = (int_le (first_seq ctx) a.seq_num, answer merge.SeqnumTooFar) ∷ fourth in
@@ -401,12 +349,12 @@ with_source ctx op m done under a stands apart is =
     let two = first_passed subs (answer merge.HasSubEntries) third one.1 in
     let three = first_passed (int_le (first_seq ctx) a.seq_num) (answer merge.SeqnumTooFar) fourth two.1 in
     let four = first_passed last (answer merge.IsSponsor) [] three.1 in
-    let both = neither (not (nat_eq (num_sponsoring a) 0)) (is_open_sponsor ctx ctx.op_source) four.0 in
-    merged ctx op m done under a stands apart (eqb-true a.num_sub_entries (length a.signers) (not_not _ two.0))
-    (eqb-true (num_sponsoring a) 0 (not_not _ both.0)) both.1 went.1
+    let both = or_parts (not (nat_eq (num_sponsoring a) 0)) (is_open_sponsor ctx ctx.op_source) four.0 in
+    merged ctx op m done under a existing apart (eqb-true a.num_sub_entries (length a.signers) (not-false _ two.0))
+    (eqb-true (num_sponsoring a) 0 (not-false _ both.0)) both.1 went.1
 
 pub account_merge_is_lawful : AreLawful account_merge
-account_merge_is_lawful ctx op m done under stands is =
+account_merge_is_lawful ctx op m done under existing is =
     let src = ctx.op_source in
     let dest = account_of op.destination in
     let exists : Tests OperationResult = (not (is_some (account_at m dest)), answer merge.NoAccount) ∷ [] in

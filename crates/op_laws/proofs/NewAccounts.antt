@@ -1,73 +1,35 @@
 -- CREATE_ACCOUNT is lawful.
-use Rattle.std.proofs.Common.{◌≡◌, ◌≢◌, refl, sym, ap, subst, ◌∙◌, ℕ, ◌+◌, ◌*◌, ◌^◌, ◌<◌, true, false, ◌||◌}
-use Rattle.std.proofs.Common.{is_some, [], ◌∷◌, Option, Some, None, Ok, inl, arith}
-use Rattle.std.proofs.lemmas.Int.{ints}
-use Rattle.std.specs.Prelude.{ℤ, pos, neg_ℤ, int_lt, ◌+ℤ◌, ◌-ℤ◌, ◌*ℤ◌, ◌≤ℤ◌}
-use Rattle.std.specs.FinMap.{get}
-use Rattle.std.specs.Ordering.{is_eq, is_lt, int_cmp}
-use Rattle.op_flags.specs.ledger_types.declared.ids.AccountId.{AccountId}
-use Rattle.op_flags.specs.ledger_types.declared.asset.Asset.{Asset}
+use Rattle.op_laws.proofs.Prelude as prelude
+use prelude.{◌≡◌, ◌≢◌, refl, sym, ap, subst, ◌∙◌, ℕ, ◌+◌, ◌*◌, ◌^◌, ◌<◌, true, false, ◌||◌, is_some, [], ◌∷◌, Option}
+use prelude.{Some, None, Ok, inl, arith, ints, ℤ, pos, neg_ℤ, int_lt, ◌+ℤ◌, ◌-ℤ◌, ◌*ℤ◌, ◌≤ℤ◌, get, is_eq, is_lt}
+use prelude.{int_cmp, AccountId, Asset, AccountEntry, is_valid_text, total, part, has_flag, LedgerEntry}
+use prelude.{LedgerEntryBody, key_of, key_of_body, asset_cmp, EntryMap, put, account_in, account_at, HasAccount}
+use prelude.{account_liabilities, available, greatest_i64, Ctx, own_tests, sponsored_account_entry}
+use prelude.{map_after_adding_account, map_after_adding, with_more, map_after_charging, is_same_account, open_sponsor}
+use prelude.{payer_tests_at, same_account, apart_accounts, view, nothing_owed, IsEntryLegal, IsSponsorReady, held}
+use prelude.{held_in, lumens_of, account_legal, not_above_balance, sponsors_ready, account_added_so, absent_after}
+use prelude.{legal_as, OperationResult, new_account, new_entry, start_tests, added_and_paid, create_account, Done}
+use prelude.{map_after_lumens_debit, Tests, IsLawful, AreLawful, IsUnderway, payers_had, charging_kept, IsChargedFrom}
+use prelude.{charged_at, IsGiven, given_legal, given_left, given_back, reserves_of, pays_more, paid_more, IsKeyed}
+use prelude.{none_more, both_more, under_key, for_one, HoldsMore, put_holds, IsAfter, Leaves, is_itself_after}
+use prelude.{leaves_both, leaves_as, keyed_put, first_passed, went_on, went_after_some, went_after_charge}
+use prelude.{put_elsewhere, put_there, add_zero_at_most, int_cmp_not_less, int_lt_false, natural_nonnegative, zero_add}
+use prelude.{or_parts, unless_first_ok, debit_is_given}
 use Rattle.op_flags.specs.ledger_types.declared.asset.Asset.TheVariants as asset
-use Rattle.op_flags.specs.ledger_types.declared.account.AccountEntry.{AccountEntry}
 use Rattle.op_flags.specs.ledger_types.declared.price.Liabilities.{Liabilities}
-use Rattle.op_flags.specs.valid_values.Texts.{is_valid_text}
-use Rattle.op_flags.specs.entry_sums.Sums.{total, part}
-use Rattle.op_flags.specs.legal_rules.Ranges.{has_flag}
-use Rattle.op_flags.specs.ledger_types.declared.entry.LedgerEntry.{LedgerEntry}
-use Rattle.op_flags.specs.ledger_types.declared.entry.LedgerEntryBody.{LedgerEntryBody}
 use Rattle.op_flags.specs.ledger_types.declared.entry.LedgerEntryBody.TheVariants as body
 use Rattle.op_flags.specs.ledger_types.declared.key.LedgerKey.TheVariants as key
-use Rattle.op_flags.specs.ledger_types.Keys.{key_of, key_of_body}
-use Rattle.op_flags.specs.ledger_types.KeyOrder.{asset_cmp}
-use Rattle.op_flags.specs.entry_map.EntryMap.{EntryMap, put}
-use Rattle.op_flags.specs.entry_slots.Accounts.{account_in, account_of, account_at, HasAccount}
-use Rattle.op_flags.specs.entry_slots.AccountExtensions.{account_liabilities}
-use Rattle.op_flags.proofs.entry_sums_proofs.Lookups.{put_there, put_elsewhere}
-use Rattle.op_pool.specs.reserve_rules.Reserve.{available, greatest_i64}
-use Rattle.op_flags.specs.sponsor_rules.declared.context.Ctx.{Ctx}
+use Rattle.op_flags.specs.entry_slots.Accounts.{account_of}
 use Rattle.op_flags.specs.sponsor_rules.declared.count.Count.TheVariants as count
 use Rattle.op_flags.specs.sponsor_rules.declared.fault.AddFault.TheVariants.{LowReserve}
-use Rattle.op_flags.specs.sponsor_rules.Adding.{own_tests, sponsored_account_entry, map_after_adding_account}
-use Rattle.op_flags.specs.sponsor_rules.Adding.{map_after_adding}
-use Rattle.op_flags.specs.sponsor_rules.Counting.{with_more}
-use Rattle.op_flags.specs.sponsor_rules.Paying.{map_after_charging}
-use Rattle.op_flags.specs.sponsor_rules.Payers.{is_same_account, open_sponsor, payer_tests_at}
-use Rattle.op_flags.proofs.sponsor_rules_proofs.Ids.{same_account, apart_accounts}
-use Rattle.op_flags.specs.legal_rules.Legal.{view}
-use Rattle.op_flags.specs.legal_rules.Owing.{nothing_owed, IsEntryLegal}
-use Rattle.op_flags.specs.legal_rules.Sponsorships.{IsSponsorReady}
-use Rattle.op_flags.specs.legal_rules.Supply.{held, held_in, lumens_of}
-use Rattle.op_flags.proofs.legal_rules_proofs.Bounded.{account_legal}
-use Rattle.op_flags.proofs.legal_rules_proofs.Covered.{not_above_balance}
-use Rattle.op_flags.proofs.legal_rules_proofs.Given.{sponsors_ready}
-use Rattle.op_flags.proofs.legal_rules_proofs.Kept.{account_added_so}
-use Rattle.op_flags.proofs.legal_rules_proofs.Places.{absent_after}
-use Rattle.op_flags.proofs.legal_rules_proofs.Steps.{legal_as}
 use Rattle.op_flags.specs.op_types.declared.account_ops.CreateAccountOp.{CreateAccountOp}
-use Rattle.op_flags.specs.op_types.declared.operation_result.OperationResult.{OperationResult}
 use Rattle.op_flags.specs.op_types.declared.payment_results.CreateAccountResult.TheVariants as create
-use Rattle.op_account.specs.CreateAccount.{answer, new_account, new_entry, start_tests, added_and_paid}
-use Rattle.op_account.specs.CreateAccount.{create_account}
-use Rattle.op_flags.specs.op_form.Done.{Done}
-use Rattle.op_flags.specs.op_form.Lumens.{map_after_lumens_debit}
-use Rattle.op_flags.specs.entry_slots.Tests.{Tests}
-use Rattle.op_laws.specs.Laws.{IsLawful, AreLawful}
-use Rattle.op_laws.specs.Underway.{IsUnderway}
-use Rattle.op_flags.proofs.legal_rules_proofs.ChargesLeft.{payers_had, charging_kept, IsChargedFrom, charged_at}
+use Rattle.op_account.specs.CreateAccount.{answer}
 use Rattle.op_laws.proofs.Lawful.{KeepsLegal, lawful_here}
-use Rattle.op_laws.proofs.Lumens.{lumens_move, lumens_told, none_issued}
+use Rattle.op_laws.proofs.Lumens.{lumens_move, lumens_described, none_issued}
 use Rattle.op_flags.proofs.legal_rules_proofs.Multiples.{still_available}
-use Rattle.op_payment.proofs.Paying.{IsGiven, not_less, given, given_legal, given_left, given_back}
-use Rattle.op_flags.proofs.legal_rules_proofs.ReservesLeft.{reserves_of, pays_more, paid_more}
-use Rattle.op_flags.specs.legal_rules.Holdings.{IsKeyed, none_more, both_more, under_key, for_one, HoldsMore}
-use Rattle.op_flags.proofs.legal_rules_proofs.Holdings.{none_before}
-use Rattle.op_flags.proofs.legal_rules_proofs.Holdings.{put_holds}
-use Rattle.op_flags.specs.legal_rules.Holdings.{IsAfter}
-use Rattle.op_flags.proofs.legal_rules_proofs.Leaving.{Leaves, is_itself_after, leaves_both, leaves_as, keyed_put}
-use Rattle.op_flags.proofs.legal_rules_proofs.Passed.{passed, first_passed, neither}
-use Rattle.op_flags.proofs.Went.{went_on, went_after_some, went_after_charge}
 
--- ---- where no account stands
+-- ---- where no account exists
 
 no_account_body : (b : LedgerEntryBody) (id : AccountId) → key_of_body b ≡ key.Account id → account_in b ≡ None → ⊥
 no_account_body (body.Account a) id own none = absurd (cc)
@@ -78,7 +40,7 @@ absent_of : (o : Option LedgerEntry) (id : AccountId)
 absent_of None id own none = refl
 absent_of (Some e) id own none = absurd (no_account_body e.body id (own e refl) none)
 
--- nothing stands under its key
+-- nothing is under its key
 pub absent_at : (m : EntryMap) (id : AccountId) → IsKeyed m → account_at m id ≡ None → get m (key.Account id) ≡ None
 unfolding account_at
 absent_at m id keyed none = absent_of (get m (key.Account id)) id (keyed (key.Account id)) none
@@ -119,7 +81,7 @@ module _ (base : ℕ) (m : EntryMap) (keyed : IsKeyed m) (e : LedgerEntry) (a : 
   new_holds : HoldsMore (for_one a.account_id a.balance) m now
   new_holds = subst (λ q. HoldsMore (under_key q (λ x. lumens_of x a.balance)) m now) its_key
       (put_holds m e (λ x. lumens_of x a.balance) (λ x. ap (held_in x) is
-      ∙ sym (ap (λ n. n +ℤ lumens_of x a.balance) (new_held x) ∙ none_before (lumens_of x a.balance))))
+      ∙ sym (ap (λ n. n +ℤ lumens_of x a.balance) (new_held x) ∙ zero_add (lumens_of x a.balance))))
 
   pub new_account_left : Leaves base (for_one a.account_id a.balance) m now
   new_account_left = record {
@@ -133,10 +95,10 @@ module _ (base : ℕ) (m : EntryMap) (keyed : IsKeyed m) (e : LedgerEntry) (a : 
               (sym (beside id (apart_accounts a.account_id id apart))) (is_itself_after base (account_at m id))
         ] refl;
     holds = new_holds;
-    stand = λ id stands. elim (is_same_account a.account_id id) as (λ b. is_same_account a.account_id id ≡ b
+    exist = λ id existing. elim (is_same_account a.account_id id) as (λ b. is_same_account a.account_id id ≡ b
         → HasAccount now id) [
           | true ↦ λ tied. (a, ap (account_at now) (sym (same_account a.account_id id tied)) ∙ here)
-          | false ↦ λ apart. (stands.0, beside id (apart_accounts a.account_id id apart) ∙ stands.1)
+          | false ↦ λ apart. (existing.0, beside id (apart_accounts a.account_id id apart) ∙ existing.1)
         ] refl;
     keyed = keyed_put m e keyed;
   }
@@ -172,9 +134,9 @@ module _ (ctx : Ctx) (op : CreateAccountOp) where
       (account_liabilities sponsored).selling base (itself op.starting_balance)
       (no_reserve (reserves_of sponsored) h.reserves) in
       let selling : (account_liabilities sponsored).selling ≡ pos 0 =
-      ap (λ (l : Liabilities). l.selling) h.means.liabilities in
+      ap (λ (l : Liabilities). l.selling) h.core.liabilities in
       low_left op.starting_balance (pos 0 *ℤ pos base) (reserves_of sponsored *ℤ pos base)
-      (account_liabilities sponsored).selling sponsored.balance low none selling less h.means.balance
+      (account_liabilities sponsored).selling sponsored.balance low none selling less h.core.balance
     where
       zero_times : (n : ℕ) → (pos 0 *ℤ pos n) ≡ pos 0
       zero_times n = ap pos (let is : 0 * n ≡ 0 = omega arith in is)
@@ -202,9 +164,9 @@ module _ (ctx : Ctx) (op : CreateAccountOp) (m : EntryMap) (keyed : IsKeyed m) (
   added_alone : (new : EntryMap) → map_after_adding_account ctx entry (its ctx op) None m ≡ Ok new → IsAdded ctx op m
       new
   added_alone new done =
-      let test = passed (own_tests ctx (its ctx op)) (put m entry) new done in
+      let test = unless_first_ok (own_tests ctx (its ctx op)) (put m entry) new done in
       let two = first_passed (is_lt (int_cmp op.starting_balance (pos (2 * ctx.base_reserve)))) LowReserve [] test.0 in
-      let covered = own_covered ctx op (not_less op.starting_balance (pos (2 * ctx.base_reserve)) two.0) in
+      let covered = own_covered ctx op (int_cmp_not_less op.starting_balance (pos (2 * ctx.base_reserve)) two.0) in
       subst (IsAdded ctx op m) test.1 (record {
         leaves = new_account_left ctx.base_reserve m keyed entry (its ctx op) refl none covered;
         others = λ id b apart there. charged_at ctx.base_reserve 2 None m keyed id b
@@ -213,42 +175,39 @@ module _ (ctx : Ctx) (op : CreateAccountOp) (m : EntryMap) (keyed : IsKeyed m) (
 
   added_sponsored : (x : AccountId) → HasAccount m x → (new : EntryMap)
       → map_after_adding_account ctx entry (its ctx op) (Some x) m ≡ Ok new → IsAdded ctx op m new
-  added_sponsored x stands new done =
+  added_sponsored x existing new done =
       let b = sponsored ctx op in
       let h = paid_more 2 (its ctx op) in
       let e = sponsored_account_entry x entry (its ctx op) in
       let now = map_after_charging 2 (Some x) m in
-      let test = passed (payer_tests_at ctx m x 2) (put now e) new done in
+      let test = unless_first_ok (payer_tests_at ctx m x 2) (put now e) new done in
       let had = payers_had ctx m x 2 None (Some x) test.0 in
       let first = charging_kept ctx.base_reserve 2 (Some x) m keyed had.0 in
       let covered = sponsored_covered ctx op low in
-      let still = nobody_at now op.destination (absent_after m x (with_more count.Sponsoring 2) stands.0 keyed stands.1
-      (pays_more 2 stands.0).means.id (key.Account op.destination) (absent_at m op.destination keyed none)) in
-      let gone : account_at now b.account_id ≡ None = ap (account_at now) h.means.id ∙ still in
+      let still = nobody_at now op.destination (absent_after m x (with_more count.Sponsoring 2) existing.0 keyed existing.1
+      (pays_more 2 existing.0).core.id (key.Account op.destination) (absent_at m op.destination keyed none)) in
+      let gone : account_at now b.account_id ≡ None = ap (account_at now) h.core.id ∙ still in
       subst (IsAdded ctx op m) test.1 (record {
         leaves = leaves_as ctx.base_reserve (both_more none_more (for_one b.account_id b.balance))
             (for_one op.destination op.starting_balance) m (put now e)
             (leaves_both ctx.base_reserve none_more (for_one b.account_id b.balance) m now (put now e) first
             (new_account_left ctx.base_reserve now first.keyed e b refl gone covered))
-            (λ k x. none_before (for_one b.account_id b.balance k x)
-            ∙ (λ i. for_one (h.means.id i) (h.means.balance i) k x));
+            (λ k x. zero_add (for_one b.account_id b.balance k x)
+            ∙ (λ i. for_one (h.core.id i) (h.core.balance i) k x));
         others = λ id c apart there. charged_at ctx.base_reserve 2 (Some x) m keyed id c
             (sym (beside ctx.base_reserve now first.keyed e b refl gone covered id
-            (λ same. apart (sym h.means.id ∙ same))) ∙ there);
+            (λ same. apart (sym h.core.id ∙ same))) ∙ there);
       })
 
   added_by : (o : Option AccountId) → ((x : AccountId) → o ≡ Some x → HasAccount m x) → (new : EntryMap)
       → map_after_adding_account ctx entry (its ctx op) o m ≡ Ok new → IsAdded ctx op m new
-  added_by None stand new done = added_alone new done
-  added_by (Some x) stand new done = added_sponsored x (stand x refl) new done
+  added_by None exist new done = added_alone new done
+  added_by (Some x) exist new done = added_sponsored x (exist x refl) new done
 
 -- ---- the new account is legal
 
 first_fits : (n : ℕ) → n < 2147483647 → pos ((n + 1) * 2 ^ 32) ≤ℤ greatest_i64
 first_fits n lt = omega (arith, ints)
-
-natural_low : (n : ℕ) → pos 0 ≤ℤ pos n
-natural_low n = omega (arith, ints)
 
 no_text : is_valid_text [] ≡ true
 unfolding is_valid_text
@@ -257,9 +216,6 @@ no_text = refl
 no_flag : has_flag 0 8 ≡ true → has_flag 0 2 ≡ true
 no_flag is = absurd (cc)
 
-plus_nothing_fits : (n g : ℤ) → n ≤ℤ g → (n +ℤ pos 0) ≤ℤ g
-plus_nothing_fits n g le = omega (arith, ints)
-
 new_legal : (ctx : Ctx) (op : CreateAccountOp) (id_pool : ℕ) → ctx.seq < 2147483647 → pos 0 ≤ℤ op.starting_balance
     → op.starting_balance ≤ℤ greatest_i64 → IsEntryLegal id_pool (new_entry ctx op)
 new_legal ctx op id_pool early low high = record {
@@ -267,11 +223,11 @@ new_legal ctx op id_pool early low high = record {
     body = record {
       range = record {
         balance = low;
-        buying = natural_low 0;
-        selling = natural_low 0;
-        fits = plus_nothing_fits op.starting_balance greatest_i64 high;
+        buying = natural_nonnegative 0;
+        selling = natural_nonnegative 0;
+        fits = add_zero_at_most op.starting_balance greatest_i64 high;
       };
-      seq_num = natural_low ((ctx.seq + 1) * 2 ^ 32);
+      seq_num = natural_nonnegative ((ctx.seq + 1) * 2 ^ 32);
       greatest_seq_num = first_fits ctx.seq early;
       flags = record { known = omega arith; clawback = no_flag };
       home_domain = no_text;
@@ -294,9 +250,6 @@ new_legal ctx op id_pool early low high = record {
 
 -- ---- the operation
 
-not_below : (n : ℤ) → int_lt n (pos 0) ≡ false → pos 0 ≤ℤ n
-not_below n h = grind (arith, ints)
-
 none_of : (o : Option AccountEntry) → is_some o ≡ false → o ≡ None
 none_of None h = refl
 none_of (Some a) h = absurd (cc)
@@ -311,9 +264,6 @@ under_all n s w b buying g one two most low fits =
 
     last : (n b buying g : ℤ) → n ≤ℤ b → pos 0 ≤ℤ buying → (b +ℤ buying) ≤ℤ g → n ≤ℤ g
     last n b buying g le low fits = omega (arith, ints)
-
-plus_none : (x : ℤ) → x ≤ℤ pos 1 → (x +ℤ pos 0) ≤ℤ pos 1
-plus_none x le = omega (arith, ints)
 
 module _ (ctx : Ctx) (op : CreateAccountOp) (m : EntryMap) (done : Done) (under : IsUnderway ctx m)
     (low : pos 0 ≤ℤ op.starting_balance) (apart : op.destination ≢ ctx.op_source)
@@ -336,13 +286,13 @@ module _ (ctx : Ctx) (op : CreateAccountOp) (m : EntryMap) (done : Done) (under 
   amount_fits added new left h =
       let v = view m in
       let sum = total (held asset.Native) m in
-      let from = left.others src h.account apart h.stands in
+      let from = left.others src h.account apart h.exists in
       let was = from.was in
-      let range = (account_legal v ctx.id_pool nothing_owed sum m src was under.settled.legal from.stood).range.range in
+      let range = (account_legal v ctx.id_pool nothing_owed sum m src was under.settled.legal from.existed).range.range in
       under_all amount (available h.account ctx.base_reserve) (available was ctx.base_reserve) was.balance
       (account_liabilities was).buying greatest_i64 h.enough from.less
       (not_above_balance v ctx.id_pool nothing_owed sum m src was ctx.base_reserve amount under.settled.legal
-      (omega (arith, ints)) from.stood) range.buying range.fits
+      (omega (arith, ints)) from.existed) range.buying range.fits
 
   created_legal : (added new : EntryMap) → map_after_adding ctx dest (new_entry ctx op) m ≡ Ok added
       → IsGiven ctx.base_reserve src amount added new → amount ≤ℤ greatest_i64 → KeepsLegal ctx.id_pool m new
@@ -353,7 +303,7 @@ module _ (ctx : Ctx) (op : CreateAccountOp) (m : EntryMap) (done : Done) (under 
       (record { subentries = refl; signers = refl; ext = refl }) (record {
         free = absent_at m dest legal.keyed none;
         unsponsored = refl;
-        id_free = λ id. plus_none _ (legal.offers id);
+        id_free = λ id. add_zero_at_most _ (pos 1) (legal.offers id);
       }) (new_legal ctx op ctx.id_pool under.seq low high) ready is)) (λ kind k. refl)
       (given_back (is_eq (asset_cmp v.asset asset.Native)) sum amount)
 
@@ -367,8 +317,8 @@ module _ (ctx : Ctx) (op : CreateAccountOp) (m : EntryMap) (done : Done) (under 
       (answer create.Underfunded) _ done first.2 in
       let new = second.0 in
       let also = second.2 in
-      let h = given ctx src amount added new second.1 in
-      let left = added_by ctx op m under.settled.legal.keyed low none (open_sponsor ctx dest) ready.stands added first.1
+      let h = debit_is_given ctx src amount added new second.1 in
+      let left = added_by ctx op m under.settled.legal.keyed low none (open_sponsor ctx dest) ready.exists added first.1
       in
       let made : Done = record {
         result = answer create.Success;
@@ -383,15 +333,15 @@ module _ (ctx : Ctx) (op : CreateAccountOp) (m : EntryMap) (done : Done) (under 
       (created_legal added new first.1 h (amount_fits added new left h))
       (leaves_both ctx.base_reserve (for_one dest amount) (for_one src (neg_ℤ amount)) m added new left.leaves
       (given_left ctx.base_reserve src amount added new h left.leaves.keyed))
-      (lumens_told src dest amount) (none_issued src dest amount))
+      (lumens_described src dest amount) (none_issued src dest amount))
 
 pub create_account_is_lawful : AreLawful create_account
-create_account_is_lawful ctx op m done under stands is =
+create_account_is_lawful ctx op m done under existing is =
     let exists : Tests OperationResult = (is_some (account_at m op.destination), answer create.AlreadyExist) ∷ [] in
     let went = went_on (start_tests ctx op m) (added_and_paid ctx op m) done is in
     let first = first_passed (int_lt op.starting_balance (pos 0) || is_same_account op.destination ctx.op_source)
     (answer create.Malformed) exists went.0 in
-    let both = neither (int_lt op.starting_balance (pos 0)) (is_same_account op.destination ctx.op_source) first.0 in
+    let both = or_parts (int_lt op.starting_balance (pos 0)) (is_same_account op.destination ctx.op_source) first.0 in
     let second = first_passed (is_some (account_at m op.destination)) (answer create.AlreadyExist) [] first.1 in
-    created ctx op m done under (not_below op.starting_balance both.0)
+    created ctx op m done under (int_lt_false op.starting_balance (pos 0) both.0)
     (apart_accounts op.destination ctx.op_source both.1) (none_of (account_at m op.destination) second.0) went.1

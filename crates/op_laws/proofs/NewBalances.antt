@@ -1,36 +1,23 @@
--- What a new claimable balance is: in its ranges, under a key where nothing stands.
-use Rattle.std.proofs.Common.{◌≡◌, ◌≢◌, refl, sym, ap, subst, ◌∙◌, ℕ, zero, suc, ◌≤◌, Bool, true, false, not}
-use Rattle.std.proofs.Common.{◌&&◌, ◌||◌, List, [], ◌∷◌, map, length, Option, Some, None, arith}
-use Rattle.std.proofs.lemmas.Int.{ints}
-use Rattle.std.proofs.lemmas.List.{length-map}
-use Rattle.std.proofs.lemmas.List.Elements.{All-nil, All-cons}
+-- What a new claimable balance is: in its ranges, under a key where nothing exists.
+use Rattle.op_laws.proofs.Prelude as prelude
+use prelude.{◌≡◌, ◌≢◌, refl, sym, ap, subst, ◌∙◌, ℕ, zero, suc, ◌≤◌, Bool, true, false, not, ◌&&◌, ◌||◌, List, [], ◌∷◌}
+use prelude.{map, length, Option, Some, None, arith, ints, length-map, All-nil, All-cons, ℤ, pos, int_lt, int_le, ◌+ℤ◌}
+use prelude.{◌≤ℤ◌, if◌then◌else◌, get, AllPairs, ClaimableBalanceId, ClaimableBalanceEntry, LedgerEntry, EntryMap}
+use prelude.{balance_of, balance_at, greatest_i64, is_same_account, is_itself, AreClaimantsInRange, fixed_level}
+use prelude.{fixed_below, fixed_claimant, time_after, natural_add_nonnegative, not-false, or_parts}
 use Rattle.std.proofs.lemmas.List.Kept.{AllPairs-cons}
-use Rattle.std.specs.Prelude.{ℤ, pos, int_lt, int_le, ◌+ℤ◌, ◌≤ℤ◌, All, if◌then◌else◌}
-use Rattle.std.specs.FinMap.{get}
-use Rattle.std.specs.List.{AllPairs}
-use Rattle.op_flags.specs.ledger_types.declared.ids.ClaimableBalanceId.{ClaimableBalanceId}
+use Rattle.std.specs.Prelude.{All}
 use Rattle.op_flags.specs.ledger_types.declared.claimable_balance.Claimant.{Claimant}
-use Rattle.op_flags.specs.ledger_types.declared.claimable_balance.ClaimableBalanceEntry.{ClaimableBalanceEntry}
 use Rattle.op_flags.specs.ledger_types.declared.predicate.ClaimPredicate.{ClaimPredicate}
 use Rattle.op_flags.specs.ledger_types.declared.predicate.ClaimPredicate.TheViews.{out-ClaimPredicate}
 use Rattle.op_flags.specs.ledger_types.declared.predicate.ClaimPredicate.TheViews.{out-roll-ClaimPredicate}
 use Rattle.op_flags.specs.ledger_types.declared.predicate.ClaimPredicate.TheOpen.{ClaimPredicate-F}
-use Rattle.op_flags.specs.ledger_types.declared.entry.LedgerEntry.{LedgerEntry}
-use Rattle.op_flags.specs.ledger_types.declared.entry.LedgerEntryBody.{LedgerEntryBody}
 use Rattle.op_flags.specs.ledger_types.declared.entry.LedgerEntryBody.TheVariants as body
 use Rattle.op_flags.specs.ledger_types.declared.key.LedgerKey.TheVariants as key
 use Rattle.op_flags.specs.valid_values.Predicates.{is_valid_below, is_valid_level, is_valid_predicate}
 use Rattle.op_flags.specs.valid_values.Predicates.{is_valid_stored_predicate}
-use Rattle.op_flags.specs.entry_map.EntryMap.{EntryMap}
-use Rattle.op_flags.specs.entry_slots.Balances.{balance_in, balance_of, balance_at}
-use Rattle.op_pool.specs.reserve_rules.Reserve.{greatest_i64}
-use Rattle.op_flags.specs.sponsor_rules.Payers.{is_same_account}
-use Rattle.op_flags.proofs.sponsor_rules_proofs.Ids.{is_itself}
-use Rattle.op_flags.specs.legal_rules.Ranges.{AreClaimantsInRange}
-use Rattle.op_claim.specs.Predicates.{fixed_level, fixed_below, fixed_claimant, time_after}
 use Rattle.op_claim.specs.CreateClaimableBalance as spec
-use Rattle.op_flags.proofs.legal_rules_proofs.Passed.{neither}
-use Rattle.op_laws.proofs.TrustLines.{not_true}
+use Rattle.op_laws.proofs.Settled.{balance_body}
 
 -- ---- predicates
 
@@ -38,14 +25,11 @@ not_negative : (a b : ℤ) → pos 0 ≤ℤ a → pos 0 ≤ℤ b → (t : Bool) 
 not_negative a b low also true = low
 not_negative a b low also false = also
 
-sum_low : (t : ℕ) (s : ℤ) → pos 0 ≤ℤ s → pos 0 ≤ℤ (pos t +ℤ s)
-sum_low t s low = omega (arith, ints)
-
 time_low : (t : ℕ) (s : ℤ) → int_le (pos 0) s ≡ true → int_le (pos 0) (time_after t s) ≡ true
 time_low t s h =
     let low : pos 0 ≤ℤ s = grind (arith, ints) in
     let after : pos 0 ≤ℤ time_after t s =
-    not_negative (pos t +ℤ s) greatest_i64 (sum_low t s low) (omega (arith, ints)) (int_lt (pos t +ℤ s) greatest_i64) in
+    not_negative (pos t +ℤ s) greatest_i64 (natural_add_nonnegative t s low) (omega (arith, ints)) (int_lt (pos t +ℤ s) greatest_i64) in
     at_least (time_after t s) after
   where
     at_least : (n : ℤ) → pos 0 ≤ℤ n → int_le (pos 0) n ≡ true
@@ -108,7 +92,7 @@ apart_from : (t : ℕ) (c : Claimant) (cs : List Claimant) → spec.has_destinat
     → All (λ (other : Claimant). c.destination ≢ other.destination) (map (fixed_claimant t) cs)
 apart_from t c [] h = All-nil (λ (other : Claimant). c.destination ≢ other.destination)
 apart_from t c (d ∷ ds) h =
-    let both = neither (is_same_account c.destination d.destination) (spec.has_destination ds c) h in
+    let both = or_parts (is_same_account c.destination d.destination) (spec.has_destination ds c) h in
     All-cons (λ (other : Claimant). c.destination ≢ other.destination) (fixed_claimant t d) (map (fixed_claimant t) ds)
     (λ same. let own = ap (is_same_account c.destination) (sym same) ∙ is_itself c.destination in
     let first = both.0 in absurd (cc)) (apart_from t c ds both.1)
@@ -120,7 +104,7 @@ all_apart : (t : ℕ) (cs : List Claimant) → spec.has_twice cs ≡ false → A
 unfolding spec.has_twice
 all_apart t [] h = λ i j d lt le. absurd (omega arith)
 all_apart t (c ∷ cs) h =
-    let both = neither (spec.has_destination cs c) (spec.has_twice cs) h in
+    let both = or_parts (spec.has_destination cs c) (spec.has_twice cs) h in
     AllPairs-cons AreApart (fixed_claimant t c) (map (fixed_claimant t) cs) (apart_from t c cs both.0)
     (all_apart t cs both.1)
 
@@ -145,27 +129,23 @@ pub claimants_in_range : (t : ℕ) (cs : List Claimant) → spec.are_claimants_b
     → AreClaimantsInRange (map (fixed_claimant t) cs)
 claimants_in_range t cs h few =
     let valid = not (spec.are_predicates_valid cs) in
-    let last = neither (spec.is_empty cs || spec.has_twice cs) valid h in
-    let first = neither (spec.is_empty cs) (spec.has_twice cs) last.0 in
+    let last = or_parts (spec.is_empty cs || spec.has_twice cs) valid h in
+    let first = or_parts (spec.is_empty cs) (spec.has_twice cs) last.0 in
     let some = some_of cs first.0 in
     let same = length-map cs (fixed_claimant t) in
     record {
       some = subst (λ n. 1 ≤ n) (sym same) some;
       few = subst (λ n. n ≤ 10) (sym same) few;
       apart = all_apart t cs first.1;
-      predicates = all_valid t cs (not_true (spec.are_predicates_valid cs) last.1);
+      predicates = all_valid t cs (not-false (spec.are_predicates_valid cs) last.1);
     }
 
--- ---- a balance that stands
+-- ---- a balance that exists
 
 pub record IsBalanceEntry (m : EntryMap) (id : ClaimableBalanceId) (b : ClaimableBalanceEntry) (e : LedgerEntry)
     : Type 0 where
   pub there : get m (key.ClaimableBalance id) ≡ Some e
   pub is : e.body ≡ body.ClaimableBalance b
-
-balance_body : (b : LedgerEntryBody) (x : ClaimableBalanceEntry) → balance_in b ≡ Some x → b ≡ body.ClaimableBalance x
-balance_body (body.ClaimableBalance y) x h = let same : y ≡ x = cc in ap body.ClaimableBalance same
-balance_body other x h = absurd (cc)
 
 balance_entry_of : (o : Option LedgerEntry) (x : ClaimableBalanceEntry) → balance_of o ≡ Some x
     → (e : LedgerEntry) × (o ≡ Some e) × (e.body ≡ body.ClaimableBalance x)

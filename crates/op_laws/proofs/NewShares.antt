@@ -1,53 +1,21 @@
--- A new line of a pool's shares is lawful, with the pool that is made for it where none stands.
-use Rattle.std.proofs.Common.{◌≡◌, ◌≢◌, refl, sym, ap, subst, ◌∙◌, ℕ, ◌+◌, Bool, true, false, All, []}
-use Rattle.std.proofs.Common.{Some, None, Ok, if◌then◌else◌, arith}
-use Rattle.std.proofs.lemmas.Int.{ints}
-use Rattle.std.proofs.lemmas.List.Elements.{All-nil, All-cons, All-append}
-use Rattle.std.specs.Prelude.{ℤ, pos, ◌≤ℤ◌}
-use Rattle.std.specs.FinMap.{get}
-use Rattle.op_flags.specs.ledger_types.declared.ids.AccountId.{AccountId}
-use Rattle.op_flags.specs.ledger_types.declared.ids.Hash.{Hash}
-use Rattle.op_flags.specs.ledger_types.declared.asset.Asset.{Asset}
+-- A new line of a pool's shares is lawful, with the pool that is made for it where none exists.
+use Rattle.op_laws.proofs.Prelude.{◌≡◌, ◌≢◌, refl, sym, ap, subst, ◌∙◌, ℕ, ◌+◌, Bool, true, false, All, [], Some, None}
+use Rattle.op_laws.proofs.Prelude.{Ok, arith, ints, All-nil, All-cons, All-append, ℤ, pos, ◌≤ℤ◌, get, AccountId, Hash}
+use Rattle.op_laws.proofs.Prelude.{Asset, PoolParams, TrustLineAsset, LedgerEntry, LedgerKey, EntryMap, HasAccount}
+use Rattle.op_laws.proofs.Prelude.{line_of, line_at, pool_at, first_fault, part, greatest_i64, Ctx, map_after_adding}
+use Rattle.op_laws.proofs.Prelude.{is_same_account, View, none_more, pools_in, nothing_owed, IsEntryLegal, IsLegalOwing}
+use Rattle.op_laws.proofs.Prelude.{needed_line, IsSponsorReady, held, subentry_kept, sponsors_ready, Leaves, keeps_both}
+use Rattle.op_laws.proofs.Prelude.{map_with_pool, counts_left, IsLegalNow, when_nothing_owed, Done, answer}
+use Rattle.op_laws.proofs.Prelude.{went_after_charge, IsLawful, IsUnderway, nonnegative_from_positive}
+use Rattle.std.proofs.Common.{if◌then◌else◌}
 use Rattle.op_flags.specs.ledger_types.declared.asset.Asset.TheVariants as asset
-use Rattle.op_flags.specs.ledger_types.declared.asset.PoolParams.{PoolParams}
-use Rattle.op_flags.specs.ledger_types.declared.asset.TrustLineAsset.{TrustLineAsset}
 use Rattle.op_flags.specs.ledger_types.declared.asset.TrustLineAsset.TheVariants as line
-use Rattle.op_flags.specs.ledger_types.declared.entry.LedgerEntry.{LedgerEntry}
-use Rattle.op_flags.specs.ledger_types.declared.key.LedgerKey.{LedgerKey}
 use Rattle.op_flags.specs.ledger_types.declared.key.LedgerKey.TheVariants as key
 use Rattle.op_flags.specs.op_types.declared.trust_results.ChangeTrustResult.TheVariants as trust
-use Rattle.op_flags.specs.entry_map.EntryMap.{EntryMap}
-use Rattle.op_flags.specs.entry_slots.Accounts.{HasAccount}
-use Rattle.op_flags.specs.entry_slots.Lines.{line_of, line_at}
-use Rattle.op_flags.specs.entry_slots.Pools.{pool_at}
-use Rattle.op_flags.specs.entry_slots.Tests.{first_fault}
-use Rattle.op_flags.specs.entry_sums.Sums.{part}
-use Rattle.op_pool.specs.reserve_rules.Reserve.{greatest_i64}
-use Rattle.op_flags.specs.sponsor_rules.declared.context.Ctx.{Ctx}
-use Rattle.op_flags.specs.sponsor_rules.Adding.{map_after_adding}
-use Rattle.op_flags.specs.sponsor_rules.Payers.{is_same_account}
-use Rattle.op_flags.specs.legal_rules.Books.{View}
-use Rattle.op_flags.specs.legal_rules.Holdings.{none_more}
-use Rattle.op_flags.specs.legal_rules.Legal.{pools_in}
 use Rattle.op_flags.specs.legal_rules.Needs.{keys_in}
-use Rattle.op_flags.specs.legal_rules.Owing.{nothing_owed, IsEntryLegal, IsLegalOwing}
-use Rattle.op_flags.specs.legal_rules.PoolShares.{needed_line}
 use Rattle.op_flags.specs.legal_rules.ShareLaws.{share_line, map_with_share_lines, HasNeededLines}
-use Rattle.op_flags.specs.legal_rules.Sponsorships.{IsSponsorReady}
-use Rattle.op_flags.specs.legal_rules.Supply.{held}
-use Rattle.op_flags.proofs.legal_rules_proofs.ChargesLeft.{subentry_kept}
-use Rattle.op_flags.proofs.legal_rules_proofs.Given.{sponsors_ready}
-use Rattle.op_flags.proofs.legal_rules_proofs.Leaving.{Leaves, keeps_both}
 use Rattle.op_flags.proofs.legal_rules_proofs.ShareLinesKept.{share_line_counted}
-use Rattle.op_flags.specs.pool_shares.ShareLines.{map_with_pool}
-use Rattle.op_flags.proofs.pool_shares_proofs.Counted.{counts_left}
-use Rattle.op_flags.proofs.pool_shares_proofs.Gone.{IsLegalNow, as_it_stands}
-use Rattle.op_flags.specs.op_form.Done.{Done}
-use Rattle.op_trust.specs.ChangeTrust.{answer}
 use Rattle.op_trust.specs.ShareTrust as spec
-use Rattle.op_flags.proofs.Went.{went_after_charge}
-use Rattle.op_laws.specs.Laws.{IsLawful}
-use Rattle.op_laws.specs.Underway.{IsUnderway}
 use Rattle.op_laws.proofs.Lawful.{sound_after}
 use Rattle.op_laws.proofs.Parts.{lawful_now}
 use Rattle.op_laws.proofs.SharePools.{IsPooled, pooled}
@@ -55,45 +23,42 @@ use Rattle.op_laws.proofs.TrustLines.{no_line}
 
 -- ---- the lines that the account needs
 
--- they passed their tests, and stand in a map with the same lines
+-- they passed their tests, and exist in a map with the same lines
 module _ (m now : EntryMap) (id : AccountId)
     (same : (other : AccountId) (a : TrustLineAsset)
     → get now (key.TrustLine other a) ≡ get m (key.TrustLine other a)) where
-  abbrev Stands : LedgerKey → Type 0
-  Stands k = get now k ≢ None
+  abbrev Exists : LedgerKey → Type 0
+  Exists k = get now k ≢ None
 
-  line_stands : (a : TrustLineAsset) → first_fault (spec.needed_tests (line_at m id a)) ≡ None
-      → Stands (key.TrustLine id a)
+  line_exists : (a : TrustLineAsset) → first_fault (spec.needed_tests (line_at m id a)) ≡ None
+      → Exists (key.TrustLine id a)
   unfolding line_at
-  line_stands a passed missing =
+  line_exists a passed missing =
       let none = sym (same id a) ∙ missing in
       let is = ap (λ o. first_fault (spec.needed_tests (line_of o))) (sym none) ∙ passed in
       absurd (cc)
 
-  key_stands : (b : Bool) (a : TrustLineAsset)
+  key_exists : (b : Bool) (a : TrustLineAsset)
       → first_fault (spec.needed_tests_at m (if b then None else Some (key.TrustLine id a))) ≡ None
-      → All Stands (keys_in (if b then None else Some (key.TrustLine id a)))
-  key_stands true a passed = All-nil Stands
-  key_stands false a passed = All-cons Stands (key.TrustLine id a) [] (line_stands a passed) (All-nil Stands)
+      → All Exists (keys_in (if b then None else Some (key.TrustLine id a)))
+  key_exists true a passed = All-nil Exists
+  key_exists false a passed = All-cons Exists (key.TrustLine id a) [] (line_exists a passed) (All-nil Exists)
 
-  needed_stands : (x : Asset) → first_fault (spec.needed_tests_at m (needed_line id x)) ≡ None
-      → All Stands (keys_in (needed_line id x))
-  needed_stands asset.Native passed = All-nil Stands
-  needed_stands (asset.Alphanum4 code issuer) passed =
-      key_stands (is_same_account issuer id) (line.Alphanum4 code issuer) passed
-  needed_stands (asset.Alphanum12 code issuer) passed =
-      key_stands (is_same_account issuer id) (line.Alphanum12 code issuer) passed
+  needed_exists : (x : Asset) → first_fault (spec.needed_tests_at m (needed_line id x)) ≡ None
+      → All Exists (keys_in (needed_line id x))
+  needed_exists asset.Native passed = All-nil Exists
+  needed_exists (asset.Alphanum4 code issuer) passed =
+      key_exists (is_same_account issuer id) (line.Alphanum4 code issuer) passed
+  needed_exists (asset.Alphanum12 code issuer) passed =
+      key_exists (is_same_account issuer id) (line.Alphanum12 code issuer) passed
 
-  both_stand : (params : PoolParams) → first_fault (spec.needed_tests_at m (needed_line id params.asset_a)) ≡ None
+  both_exist : (params : PoolParams) → first_fault (spec.needed_tests_at m (needed_line id params.asset_a)) ≡ None
       → first_fault (spec.needed_tests_at m (needed_line id params.asset_b)) ≡ None → HasNeededLines now id params
-  both_stand params first second =
-      All-append Stands (keys_in (needed_line id params.asset_a)) (keys_in (needed_line id params.asset_b))
-      (needed_stands params.asset_a first) (needed_stands params.asset_b second)
+  both_exist params first second =
+      All-append Exists (keys_in (needed_line id params.asset_a)) (keys_in (needed_line id params.asset_b))
+      (needed_exists params.asset_a first) (needed_exists params.asset_b second)
 
 -- ---- the new line
-
-room_for_none : (limit : ℤ) → pos 1 ≤ℤ limit → pos 0 ≤ℤ limit
-room_for_none limit low = omega (arith, ints)
 
 line_legal : (id_pool seq : ℕ) (id : AccountId) (pool : Hash) (limit : ℤ) → pos 1 ≤ℤ limit → limit ≤ℤ greatest_i64
     → IsEntryLegal id_pool (share_line seq None id pool (pos 0) limit)
@@ -105,7 +70,7 @@ line_legal id_pool seq id pool limit low high = record {
         buying = omega (arith, ints);
         selling = omega (arith, ints);
         covered = omega (arith, ints);
-        fits = room_for_none limit low;
+        fits = nonnegative_from_positive limit low;
       };
       limit = low;
       greatest = high;
@@ -144,7 +109,7 @@ module _ (ctx : Ctx) (m : EntryMap) (under : IsUnderway ctx m) (owner : HasAccou
       free = its.lines id (line.PoolShare pool) ∙ no_line m id (line.PoolShare pool) under.settled.legal.keyed none
 
       ready : IsSponsorReady ctx id now
-      ready = sponsors_ready ctx now id (sound_after ctx m under none_more now its.left.stand)
+      ready = sponsors_ready ctx now id (sound_after ctx m under none_more now its.left.exist)
 
       counted_legal : (v : View) (sum : ℤ) → IsLegalOwing v ctx.id_pool nothing_owed sum m
           → IsLegalOwing (record v { pools = pools_in now }) ctx.id_pool nothing_owed sum (new added)
@@ -152,14 +117,14 @@ module _ (ctx : Ctx) (m : EntryMap) (under : IsUnderway ctx m) (owner : HasAccou
           subst (λ (p : PoolParams). IsLegalOwing (record v { pools = pools_in now }) ctx.id_pool nothing_owed sum
           (map_with_share_lines (pos 1) id pool p added)) its.same
           (share_line_counted (record v { pools = pools_in now }) ctx.id_pool sum ctx (ctx.seq + 1) id pool its.its
-          limit now added (its.legal v sum legal) its.stands free
-          (line_legal ctx.id_pool (ctx.seq + 1) id pool limit low high) (its.left.stand id owner) ready done
-          (subst (HasNeededLines now id) (sym its.same) (both_stand m now id its.lines params needs_a needs_b)))
+          limit now added (its.legal v sum legal) its.exists free
+          (line_legal ctx.id_pool (ctx.seq + 1) id pool limit low high) (its.left.exist id owner) ready done
+          (subst (HasNeededLines now id) (sym its.same) (both_exist m now id its.lines params needs_a needs_b)))
 
       added_legal : (v : View) (sum : ℤ) → IsLegalOwing v ctx.id_pool nothing_owed sum m
           → IsLegalNow v ctx.id_pool sum (new added)
       added_legal v sum legal =
-          as_it_stands (record v { pools = pools_in now }) ctx.id_pool sum (new added) (counted_legal v sum legal)
+          when_nothing_owed (record v { pools = pools_in now }) ctx.id_pool sum (new added) (counted_legal v sum legal)
 
       line_left : Leaves ctx.base_reserve none_more now added
       line_left = subentry_kept ctx now id 2 new_line added its.left.keyed (λ other same. absurd (cc)) (λ x. refl)

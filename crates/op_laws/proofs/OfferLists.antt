@@ -1,28 +1,16 @@
 -- The offers of a map from which one entry of an offer went.
-use Rattle.std.proofs.Common.{◌≡◌, refl, sym, ap, ◌∙◌, ℤ, Bool, true, false, cond, not, ◌&&◌, All, List, [], ◌∷◌}
-use Rattle.std.proofs.Common.{Option, Some, None, map}
-use Rattle.std.proofs.lemmas.List.Elements.{All-head, All-tail}
-use Rattle.std.specs.List.{filter, cons_option}
-use Rattle.std.specs.declared.cmp.Ordering.TheVariants.{Equal}
-use Rattle.std.specs.Ordering.{eq_by_cmp}
-use Rattle.std.specs.FinMap.{get, entries, entries_sorted, get-entries}
+use Rattle.op_laws.proofs.Prelude.{◌≡◌, refl, sym, ap, ◌∙◌, Bool, true, false, cond, not, ◌&&◌, All, List, [], ◌∷◌}
+use Rattle.op_laws.proofs.Prelude.{Option, Some, None, map, All-head, All-tail, filter, cons_option, Equal, eq_by_cmp}
+use Rattle.op_laws.proofs.Prelude.{get, entries, entries_sorted, get-entries, AccountId, OfferEntry, LedgerEntry}
+use Rattle.op_laws.proofs.Prelude.{LedgerEntryBody, LedgerKey, key_of_body, key_cmp, keys_total, keys_exact, EntryMap}
+use Rattle.op_laws.proofs.Prelude.{erase, offer_in, offers_in, offers_of, offer_key, erase_get}
+use Rattle.std.proofs.Common.{ℤ}
 use Rattle.std.specs.FinMap.Entries.{find, where_key, find-where_key, is_sorted-where_key, same_entries}
-use Rattle.op_flags.specs.ledger_types.declared.ids.AccountId.{AccountId}
-use Rattle.op_flags.specs.ledger_types.declared.offer.OfferEntry.{OfferEntry}
-use Rattle.op_flags.specs.ledger_types.declared.entry.LedgerEntry.{LedgerEntry}
-use Rattle.op_flags.specs.ledger_types.declared.entry.LedgerEntryBody.{LedgerEntryBody}
 use Rattle.op_flags.specs.ledger_types.declared.entry.LedgerEntryBody.TheVariants as body
-use Rattle.op_flags.specs.ledger_types.declared.key.LedgerKey.{LedgerKey}
 use Rattle.op_flags.specs.ledger_types.declared.key.LedgerKey.TheVariants as key
-use Rattle.op_flags.specs.ledger_types.Keys.{key_of_body}
-use Rattle.op_flags.specs.ledger_types.KeyOrder.{key_cmp}
-use Rattle.op_flags.proofs.ledger_types_proofs.KeyOrdering.{keys_total, keys_exact}
-use Rattle.op_flags.specs.entry_map.EntryMap.{EntryMap, IsKeyed, erase}
-use Rattle.op_flags.specs.entry_map.Book.{offer_in, offers_in, offers_of}
+use Rattle.op_flags.specs.entry_map.EntryMap.{IsKeyed}
 use Rattle.op_flags.specs.entry_map.Indexes.{is_of_offer}
-use Rattle.op_flags.proofs.entry_sums_proofs.Lookups.{erase_get}
 use Rattle.op_flags.proofs.offer_book_proofs.Selling.{IsOwn, all_own}
-use Rattle.op_flags.specs.trade_cross.Crossing.{offer_key}
 
 abbrev Pairs : Type 0
 Pairs = List (LedgerKey × LedgerEntry)
@@ -73,15 +61,15 @@ all_pass : (os : List OfferEntry) → filter (λ o. true) os ≡ os
 all_pass [] = refl
 all_pass (o ∷ os) = ap (λ l. o ∷ l) (all_pass os)
 
-turned : (t : Bool) (x : Option LedgerEntry) → cond t None x ≡ cond (not t) x None
-turned true x = refl
-turned false x = refl
+cond_turned : (t : Bool) (x : Option LedgerEntry) → cond t None x ≡ cond (not t) x None
+cond_turned true x = refl
+cond_turned false x = refl
 
 -- an offer under another key
 abbrev pub is_elsewhere : LedgerKey → OfferEntry → Bool
 is_elsewhere k o = not (eq_by_cmp key_cmp (offer_key o) k)
 
--- what stands under the keys of offers is as before, but for one of them, which is gone
+-- what is under the keys of offers is as before, but for one of them, which is gone
 abbrev pub IsGone : LedgerKey → (old new : EntryMap) → Type 0
 IsGone k old new = (s : AccountId) (i : ℤ)
     → get new (key.Offer s i) ≡ cond (eq_by_cmp key_cmp (key.Offer s i) k) None (get old (key.Offer s i))
@@ -99,7 +87,7 @@ module _ (k : LedgerKey) (old new : EntryMap) (keyed : IsKeyed old) (also : IsKe
       → cond (is_of_offer q) (find key_cmp q (entries new)) None ≡ cond (still q) (find key_cmp q (entries old)) None
   same_at (key.Offer s i) =
       let q = key.Offer s i in
-      sym (get-entries new q) ∙ gone s i ∙ turned (eq_by_cmp key_cmp q k) (get old q)
+      sym (get-entries new q) ∙ gone s i ∙ cond_turned (eq_by_cmp key_cmp q k) (get old q)
       ∙ ap (λ x. cond (still q) x None) (get-entries old q)
   same_at (key.Account a) = refl
   same_at (key.TrustLine a x) = refl
@@ -120,7 +108,7 @@ module _ (k : LedgerKey) (old new : EntryMap) (keyed : IsKeyed old) (also : IsKe
       sym (all_pass (offers_of new)) ∙ sym (listed_where is_of_offer (entries new) (all_own new also))
       ∙ ap listed same_pairs ∙ listed_where still (entries old) (all_own old keyed)
 
--- ---- without what stands under the key
+-- ---- without what is under the key
 
 pub erased_gone : (k : LedgerKey) (m : EntryMap) → IsGone k m (erase m k)
 erased_gone k m s i = erase_get m k (key.Offer s i)

@@ -1,43 +1,17 @@
--- What a crossed offer leaves of the other offers: they stand as they did.
-use Rattle.std.proofs.Common.{◌≡◌, ◌≢◌, refl, sym, ap, subst, ◌∙◌, ℕ, zero, suc, ◌-◌, ℤ, pos, Bool, true, false}
-use Rattle.std.proofs.Common.{cond, Option, Some, None}
-use Rattle.std.specs.FinMap.{get}
-use Rattle.std.specs.Ordering.{eq_by_cmp}
-use Rattle.std.specs.Prelude.{unsigned_abs}
-use Rattle.op_flags.specs.ledger_types.declared.ids.AccountId.{AccountId}
-use Rattle.op_flags.specs.ledger_types.declared.asset.Asset.{Asset}
-use Rattle.op_flags.specs.ledger_types.declared.account.AccountEntry.{AccountEntry}
-use Rattle.op_flags.specs.ledger_types.declared.offer.OfferEntry.{OfferEntry}
-use Rattle.op_flags.specs.ledger_types.declared.entry.LedgerEntry.{LedgerEntry}
+-- What a crossed offer leaves of the other offers: they stay as they were.
+use Rattle.op_laws.proofs.Prelude as prelude
+use prelude.{◌≡◌, ◌≢◌, refl, sym, ap, subst, ◌∙◌, ℕ, zero, suc, ◌-◌, Bool, true, false, cond, Option, Some, None, get}
+use prelude.{eq_by_cmp, unsigned_abs, AccountId, Asset, AccountEntry, OfferEntry, LedgerEntry, key_cmp, EntryMap, put}
+use prelude.{account_at, with_account, sponsor_of, offer_of, offer_at, with_offer, Rounding, Amounts, Bounds, exchanged}
+use prelude.{wheat_stays, with_less, map_after_releasing, without_subentry, map_after_removing}
+use prelude.{map_after_removing_entry, acquiring, releasing, binding, View, IsKeyed, bound_of, IsOwedRightly, Owed}
+use prelude.{IsLegalOwing, holder, releasing_kept, no_account_changed, keyed_put, offer_entry, with_offer_body}
+use prelude.{with_offer_is, IsOfferEntry, kept_elsewhere, pays_less, no_subentry_core, Left, seller_gives_at}
+use prelude.{seller_takes_at, map_after_trade, offer_key, meeting, amount_at, with_amount, map_after_rest, step_by}
+use prelude.{step, giving_change, taking_change, erase_get, put_get}
+use Rattle.std.proofs.Common.{ℤ, pos}
 use Rattle.op_flags.specs.ledger_types.declared.key.LedgerKey.TheVariants as key
-use Rattle.op_flags.specs.ledger_types.KeyOrder.{key_cmp}
-use Rattle.op_flags.specs.entry_map.EntryMap.{EntryMap, put}
-use Rattle.op_flags.specs.entry_slots.Accounts.{account_at, with_account}
-use Rattle.op_flags.specs.entry_slots.EntrySponsor.{sponsor_of}
-use Rattle.op_flags.specs.entry_slots.Offers.{offer_of, offer_at, with_offer}
-use Rattle.op_flags.proofs.entry_sums_proofs.Lookups.{erase_get, put_get}
-use Rattle.op_offers.specs.offer_exchange.declared.rounding.Rounding.{Rounding}
-use Rattle.op_offers.specs.offer_exchange.Exchange.{Amounts, Bounds, exchanged, wheat_stays}
 use Rattle.op_flags.specs.sponsor_rules.declared.count.Count.TheVariants as count
-use Rattle.op_flags.specs.sponsor_rules.Counting.{with_less}
-use Rattle.op_flags.specs.sponsor_rules.Paying.{map_after_releasing, without_subentry}
-use Rattle.op_flags.specs.sponsor_rules.Removing.{map_after_removing, map_after_removing_entry}
-use Rattle.op_flags.specs.legal_rules.Binding.{acquiring, releasing, binding}
-use Rattle.op_flags.specs.legal_rules.Books.{View}
-use Rattle.op_flags.specs.legal_rules.Holdings.{IsKeyed}
-use Rattle.op_flags.specs.legal_rules.OfferLiabilities.{bound_of}
-use Rattle.op_flags.specs.legal_rules.OneMore.{IsOwedRightly}
-use Rattle.op_flags.specs.legal_rules.Owing.{Owed, IsLegalOwing}
-use Rattle.op_flags.specs.legal_rules.Trades.{holder}
-use Rattle.op_flags.proofs.legal_rules_proofs.ChargesLeft.{releasing_kept}
-use Rattle.op_flags.proofs.legal_rules_proofs.Leaving.{no_account_changed, keyed_put}
-use Rattle.op_flags.proofs.legal_rules_proofs.OffersKept.{offer_entry, with_offer_body, with_offer_is, IsOfferEntry}
-use Rattle.op_flags.proofs.legal_rules_proofs.Places.{kept_elsewhere}
-use Rattle.op_flags.proofs.legal_rules_proofs.ReservesLeft.{pays_less, no_subentry_means}
-use Rattle.op_flags.specs.trade_cross.Crossing.{Left, seller_gives_at, seller_takes_at, map_after_trade, offer_key}
-use Rattle.op_flags.specs.trade_cross.Crossing.{meeting}
-use Rattle.op_flags.specs.trade_cross.Crossing.{amount_at, with_amount, map_after_rest, step_by, step}
-use Rattle.op_flags.specs.trade_cross.Plans.{giving_change, taking_change}
 use Rattle.op_flags.proofs.trade_cross_proofs.Altering.{AreApart, altered_opt, opt_keyed, opt_elsewhere}
 use Rattle.op_flags.proofs.trade_cross_proofs.Changing.{changed_entry, changed_keeps, bound_entry, bound_keeps}
 use Rattle.op_flags.proofs.trade_cross_proofs.Changing.{bound_altered}
@@ -46,7 +20,7 @@ use Rattle.op_flags.proofs.trade_cross_proofs.Passing.{IsOwnKey, holder_own}
 use Rattle.op_flags.proofs.trade_cross_proofs.StepIs.{apart}
 use Rattle.op_laws.proofs.OfferLists.{IsGone, IsReplaced}
 
--- what stands under the keys of offers is as before
+-- what is under the keys of offers is as before
 abbrev KeepsOffers : (old new : EntryMap) → Type 0
 KeepsOffers old new = (s : AccountId) (i : ℤ) → get new (key.Offer s i) ≡ get old (key.Offer s i)
 
@@ -57,14 +31,14 @@ account_changed : (m : EntryMap) → IsKeyed m → (id : AccountId) (f : Account
     → KeepsOffers m (with_account m id f)
 account_changed m keyed id f named None none s i =
     ap (λ n. get n (key.Offer s i)) (no_account_changed m id f none)
-account_changed m keyed id f named (Some a) stands s i =
-    kept_elsewhere m id f a keyed stands (named a) (key.Offer s i) (λ same. absurd (cc))
+account_changed m keyed id f named (Some a) exists s i =
+    kept_elsewhere m id f a keyed exists (named a) (key.Offer s i) (λ same. absurd (cc))
 
 payer_released : (m : EntryMap) → IsKeyed m → (sponsor : Option AccountId)
     → KeepsOffers m (map_after_releasing 1 sponsor m)
 payer_released m keyed None s i = refl
 payer_released m keyed (Some id) s i =
-    account_changed m keyed id (with_less count.Sponsoring 1) (λ a. (pays_less 1 a).means.id) (account_at m id) refl s i
+    account_changed m keyed id (with_less count.Sponsoring 1) (λ a. (pays_less 1 a).core.id) (account_at m id) refl s i
 
 holder_beside : (id : AccountId) (held : Asset) (s : AccountId) (i : ℤ) → holder id held ≢ Some (key.Offer s i)
 holder_beside id held s i same = subst (IsOwnKey id) same (holder_own id held)
@@ -81,7 +55,7 @@ removed_gone m keyed o e there s i =
     ∙ erase_get last (offer_key o) (key.Offer s i)
     ∙ ap (λ x. cond (eq_by_cmp key_cmp (key.Offer s i) (offer_key o)) None x)
     (account_changed now (releasing_kept 0 1 payer m keyed).keyed o.seller_id (without_subentry 1 payer)
-    (λ a. (no_subentry_means 1 payer a).id) (account_at now o.seller_id) refl s i
+    (λ a. (no_subentry_core 1 payer a).id) (account_at now o.seller_id) refl s i
     ∙ payer_released m keyed payer s i)
 
 -- ---- an offer of which something rests
@@ -135,10 +109,10 @@ IsRested o (suc n) old new =
 -- ---- the step
 
 module _ (v : View) (id_pool base : ℕ) (owed : Owed) (right : IsOwedRightly owed) (o : OfferEntry) (sum : ℤ)
-    (m : EntryMap) (legal : IsLegalOwing v id_pool owed sum m) (stands : offer_at m o.seller_id o.offer_id ≡ Some o)
+    (m : EntryMap) (legal : IsLegalOwing v id_pool owed sum m) (exists : offer_at m o.seller_id o.offer_id ≡ Some o)
   where
     holders : AreApart (seller_gives_at o) (seller_takes_at o)
-    holders = apart v id_pool base owed right o sum m legal stands
+    holders = apart v id_pool base owed right o sum m legal exists
 
     module _ (a : Amounts) where
       abbrev giver : EntryMap
@@ -170,15 +144,15 @@ module _ (v : View) (id_pool base : ℕ) (owed : Owed) (right : IsOwedRightly ow
           (changed_keeps (giving_change o a 0)) (key.Offer s i) (holder_beside o.seller_id o.selling s i)
 
       found : (e : LedgerEntry) × IsOfferEntry m o.seller_id o.offer_id o e
-      found = offer_entry m o.seller_id o.offer_id o stands
+      found = offer_entry m o.seller_id o.offer_id o exists
 
       still_there : get traded (offer_key o) ≡ Some (with_offer_body found.0 o)
       still_there = traded_keeps o.seller_id o.offer_id ∙ found.1.there
           ∙ ap Some (λ i. record found.0 { body = found.1.is i })
 
-      still_stands : offer_at traded o.seller_id o.offer_id ≡ Some o
+      still_exists : offer_at traded o.seller_id o.offer_id ≡ Some o
       unfolding offer_at
-      still_stands = ap offer_of (traded_keeps o.seller_id o.offer_id) ∙ stands
+      still_exists = ap offer_of (traded_keeps o.seller_id o.offer_id) ∙ exists
 
       traded_gone : IsGone (offer_key o) m (map_after_removing (offer_key o) traded)
       traded_gone s i = removed_gone traded traded_keyed o found.0 still_there s i
@@ -188,7 +162,7 @@ module _ (v : View) (id_pool base : ℕ) (owed : Owed) (right : IsOwedRightly ow
           → (e : LedgerEntry) × IsReplaced (offer_key o) (with_offer_body e (with_amount (suc n) o)) m
           (map_after_rest o (suc n) traded)
       traded_replaced n =
-          let at = offer_entry traded o.seller_id o.offer_id o still_stands in
+          let at = offer_entry traded o.seller_id o.offer_id o still_exists in
           let e = with_offer_body at.0 (with_amount (suc n) o) in (
             at.0,
             λ s i. acquired_replaced traded traded_keyed o at.0 at.1 (suc n) s i

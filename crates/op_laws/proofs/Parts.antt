@@ -1,37 +1,20 @@
--- Parts of an operation: what one leaves and moves, one behind another, and that all together are lawful.
-use Rattle.std.proofs.Common.{◌≡◌, refl, ◌∙◌, ℕ, List, [], ◌++◌, arith}
-use Rattle.std.proofs.lemmas.Int.{ints}
-use Rattle.std.specs.Prelude.{ℤ, ◌+ℤ◌}
-use Rattle.op_flags.specs.ledger_types.declared.asset.Asset.{Asset}
+-- Parts of an operation: what one leaves and moves, one after another, and that all together are lawful.
+use Rattle.op_laws.proofs.Prelude.{◌≡◌, refl, ◌∙◌, ℕ, List, [], ◌++◌, arith, ints, ℤ, ◌+ℤ◌, Asset, OperationResult}
+use Rattle.op_laws.proofs.Prelude.{EntryMap, total, Ctx, View, Increase, none_more, both_more, view, nothing_owed}
+use Rattle.op_laws.proofs.Prelude.{IsLegalOwing, AreEntriesLegal, held, Leaves, leaves_itself, leaves_both, view_of}
+use Rattle.op_laws.proofs.Prelude.{entries_legal, owing_of, same_id_at, IsLegalNow, Move, IsLawful, issued, IsUnderway}
+use Rattle.op_laws.proofs.Prelude.{add_zero, sym}
 use Rattle.op_flags.specs.ledger_types.declared.asset.Asset.TheVariants as asset
-use Rattle.op_flags.specs.op_types.declared.operation_result.OperationResult.{OperationResult}
-use Rattle.op_flags.specs.entry_map.EntryMap.{EntryMap}
-use Rattle.op_flags.specs.entry_sums.Sums.{total}
-use Rattle.op_flags.specs.sponsor_rules.declared.context.Ctx.{Ctx}
-use Rattle.op_flags.specs.legal_rules.Books.{View}
-use Rattle.op_flags.specs.legal_rules.Holdings.{Increase, none_more, both_more}
-use Rattle.op_flags.specs.legal_rules.Legal.{view}
-use Rattle.op_flags.specs.legal_rules.Owing.{nothing_owed, IsLegalOwing, AreEntriesLegal}
-use Rattle.op_flags.specs.legal_rules.Supply.{held}
-use Rattle.op_flags.proofs.legal_rules_proofs.Holdings.{nothing_more}
-use Rattle.op_flags.proofs.legal_rules_proofs.Leaving.{Leaves, leaves_itself, leaves_both}
-use Rattle.op_flags.proofs.legal_rules_proofs.Legality.{view_of, entries_legal, owing_of}
-use Rattle.op_flags.proofs.legal_rules_proofs.Steps.{same_id_at}
-use Rattle.op_flags.proofs.pool_shares_proofs.Gone.{IsLegalNow}
-use Rattle.op_flags.specs.op_form.Done.{Move}
-use Rattle.op_laws.specs.Laws.{IsLawful}
-use Rattle.op_laws.specs.Moves.{issued}
-use Rattle.op_laws.specs.Underway.{IsUnderway}
-use Rattle.op_laws.proofs.Issued.{issued_behind}
-use Rattle.op_laws.proofs.Lawful.{terms_kept, none_drawn, covered_as, lumens_told_by, sound_after}
-use Rattle.op_laws.proofs.Told.{Tells, told_by, tells_nothing, tells_both}
+use Rattle.op_laws.proofs.Issued.{issued_after}
+use Rattle.op_laws.proofs.Lawful.{terms_kept, none_drawn, covered_as, lumens_described_by, sound_after}
+use Rattle.op_laws.proofs.Described.{Describes, described_by, describes_nothing, describes_both}
 
 -- settled entries, whose amounts these moves changed: each holder's, and all together
 pub record IsPart (id_pool base : ℕ) (old new : EntryMap) (moves : List Move) : Type 0 where
   pub more : Increase
   pub legal : AreEntriesLegal id_pool new
   pub left : Leaves base more old new
-  pub tells : Tells more moves
+  pub describes : Describes more moves
   pub supply : (x : Asset) → total (held x) new ≡ (total (held x) old +ℤ issued x moves)
 
 pub still_part : (id_pool base : ℕ) (old new : EntryMap) → AreEntriesLegal id_pool new → Leaves base none_more old new
@@ -41,8 +24,8 @@ still_part id_pool base old new legal left same = record {
   more = none_more;
   legal = legal;
   left = left;
-  tells = tells_nothing;
-  supply = λ x. same x ∙ nothing_more (total (held x) old);
+  describes = describes_nothing;
+  supply = λ x. same x ∙ sym (add_zero (total (held x) old));
 }
 
 pub no_part : (id_pool base : ℕ) (m : EntryMap) → AreEntriesLegal id_pool m → IsPart id_pool base m m []
@@ -57,32 +40,32 @@ both_parts id_pool base a b c moves more first second = record {
   more = both_more first.more second.more;
   legal = second.legal;
   left = leaves_both base first.more second.more a b c first.left second.left;
-  tells = tells_both first.more second.more moves more first.tells second.tells;
+  describes = describes_both first.more second.more moves more first.describes second.describes;
   supply = λ x. in_a_row (total (held x) a) (total (held x) b) (total (held x) c) (issued x moves) (issued x more)
-      (issued x (moves ++ more)) (first.supply x) (second.supply x) (issued_behind x moves more);
+      (issued x (moves ++ more)) (first.supply x) (second.supply x) (issued_after x moves more);
 }
 
 pub lawful_part : (ctx : Ctx) (m : EntryMap) → IsUnderway ctx m → (result : OperationResult) (new : EntryMap)
     (moves : List Move) → IsPart ctx.id_pool ctx.base_reserve m new moves
     → IsLawful ctx m (record { result = result; entries = new; ctx = ctx; moves = moves })
 lawful_part ctx m under result new moves part =
-    let told = told_by part.more m new moves part.left.holds part.tells in
+    let described = described_by part.more m new moves part.left.holds part.describes in
     record {
       legal = record {
         settled = record { legal = part.legal };
-        sponsorships = sound_after ctx m under part.more new part.left.stand;
+        sponsorships = sound_after ctx m under part.more new part.left.exist;
         seq = under.seq;
       };
       terms = terms_kept ctx;
       ids = none_drawn 1 ctx.id_pool ctx.id_pool refl;
-      lumens = lumens_told_by m new moves under.settled.legal.keyed part.legal.keyed told;
-      told = told;
+      lumens = lumens_described_by m new moves under.settled.legal.keyed part.legal.keyed described;
+      described = described;
       supply = part.supply;
-      reserves = λ id a stands. covered_as ctx m id a (same_id_at new id a part.legal.keyed stands)
-          ((part.left.each id).covered a stands);
+      reserves = λ id a exists. covered_as ctx m id a (same_id_at new id a part.legal.keyed exists)
+          ((part.left.each id).covered a exists);
     }
 
--- nothing moves, and the entries stay legal with the pools that stand then
+-- nothing moves, and the entries stay legal with the pools that exist then
 pub lawful_now : (ctx : Ctx) (m : EntryMap) → IsUnderway ctx m → (result : OperationResult) (new : EntryMap)
     → ((v : View) (sum : ℤ) → IsLegalOwing v ctx.id_pool nothing_owed sum m → IsLegalNow v ctx.id_pool sum new)
     → Leaves ctx.base_reserve none_more m new

@@ -1,37 +1,21 @@
 -- Payments along paths are lawful.
-use Rattle.std.proofs.Common.{◌≡◌, refl, sym, ap, subst, ◌∙◌, ℕ, ◌≤◌, ◌||◌, List, [], ◌∷◌, ◌++◌, Ok, Err}
-use Rattle.std.proofs.Common.{Result, arith}
-use Rattle.std.proofs.lemmas.Int.{ints}
-use Rattle.std.specs.Prelude.{ℤ, pos, neg_ℤ, ◌≤ℤ◌, int_le, unsigned_abs}
-use Rattle.op_flags.specs.ledger_types.declared.ids.AccountId.{AccountId}
-use Rattle.op_flags.specs.ledger_types.declared.claim_atom.ClaimAtom.{ClaimAtom}
-use Rattle.op_flags.specs.ledger_types.Ids.{account_of}
-use Rattle.op_flags.specs.entry_map.EntryMap.{EntryMap}
+use Rattle.op_laws.proofs.Prelude.{◌≡◌, refl, sym, ap, subst, ◌∙◌, ℕ, ◌≤◌, ◌||◌, List, [], ◌∷◌, ◌++◌, Ok, Err, Result}
+use Rattle.op_laws.proofs.Prelude.{ℤ, pos, neg_ℤ, ◌≤ℤ◌, int_le, unsigned_abs, AccountId, ClaimAtom, account_of}
+use Rattle.op_laws.proofs.Prelude.{EntryMap, Ctx, none_more, first_passed, map_after_credit, map_after_debit, Done}
+use Rattle.op_laws.proofs.Prelude.{Attempt, PathFault, arrived, path_moves, Carried, set_out, received, sent}
+use Rattle.op_laws.proofs.Prelude.{path_payment_strict_receive, path_payment_strict_send, unless_issuer, went_on}
+use Rattle.op_laws.proofs.Prelude.{went_after_step, IsLawful, AreLawful, IsUnderway, natural_nonnegative}
+use Rattle.op_laws.proofs.Prelude.{nonnegative_from_int_le, unsigned_abs_nonnegative, or_parts}
 use Rattle.op_flags.specs.op_types.declared.payment_ops.PathPaymentStrictReceiveOp.{PathPaymentStrictReceiveOp}
 use Rattle.op_flags.specs.op_types.declared.payment_ops.PathPaymentStrictSendOp.{PathPaymentStrictSendOp}
-use Rattle.op_flags.specs.sponsor_rules.declared.context.Ctx.{Ctx}
-use Rattle.op_flags.specs.legal_rules.Holdings.{none_more}
-use Rattle.op_flags.proofs.legal_rules_proofs.Passed.{first_passed, neither}
-use Rattle.op_flags.specs.op_form.Amounts.{map_after_credit, map_after_debit}
-use Rattle.op_flags.specs.op_form.Done.{Done, Attempt}
-use Rattle.op_payment.specs.declared.path_fault.PathFault.{PathFault}
 use Rattle.op_flags.specs.op_types.declared.payment_results.PathPaymentStrictReceiveResult.TheVariants as path
 use Rattle.op_flags.specs.op_types.declared.payment_results.PathPaymentStrictSendResult.TheVariants as path_sent
-use Rattle.op_payment.specs.PathPayment.{arrived, path_moves}
-use Rattle.op_payment.specs.Paths.{Carried, set_out, received, sent}
 use Rattle.op_payment.specs.PathReceive as receive
-use Rattle.op_payment.specs.PathReceive.{path_payment_strict_receive}
 use Rattle.op_payment.specs.PathSend as send
-use Rattle.op_payment.specs.PathSend.{path_payment_strict_send}
-use Rattle.op_payment.proofs.Shifts.{unless_issuer}
-use Rattle.op_flags.proofs.Went.{went_on, went_after_step}
-use Rattle.op_laws.specs.Laws.{IsLawful, AreLawful}
-use Rattle.op_laws.specs.Underway.{IsUnderway}
 use Rattle.op_laws.proofs.Amounts.{amount_taken, amount_given}
 use Rattle.op_laws.proofs.Carrying.{IsCarried}
 use Rattle.op_laws.proofs.Hopping.{path_back, path_on}
 use Rattle.op_laws.proofs.Lawful.{shifted_after}
-use Rattle.op_laws.proofs.Payment.{above}
 use Rattle.op_laws.proofs.PathPayments.{received_lawful, sent_lawful}
 
 went_along_back : (step : Result Carried PathFault) (next : Carried → Attempt) (done : Done)
@@ -44,17 +28,9 @@ went_along_on : (step : Result Carried PathFault) (next : Carried → Attempt) (
 went_along_on (Err fault) next done is = absurd (cc)
 went_along_on (Ok carried) next done is = (carried, refl, is)
 
--- an amount as a whole number
-whole : (n : ℤ) → pos 0 ≤ℤ n → pos (unsigned_abs n) ≡ n
-whole (pos n) low = refl
-whole n low = absurd (omega (arith, ints))
-
-low : (n : ℕ) → pos 0 ≤ℤ pos n
-low n = omega (arith, ints)
-
-nothing_behind : (l : List ClaimAtom) → l ++ [] ≡ l
-nothing_behind [] = refl
-nothing_behind (first ∷ l) = ap (λ (k : List ClaimAtom). first ∷ k) (nothing_behind l)
+nothing_after : (l : List ClaimAtom) → l ++ [] ≡ l
+nothing_after [] = refl
+nothing_after (first ∷ l) = ap (λ (k : List ClaimAtom). first ∷ k) (nothing_after l)
 
 module _ (ctx : Ctx) (op : PathPaymentStrictReceiveOp) (m : EntryMap) (done : Done) (under : IsUnderway ctx m)
     (amount : pos 0 ≤ℤ op.dest_amount) where
@@ -81,16 +57,16 @@ module _ (ctx : Ctx) (op : PathPaymentStrictReceiveOp) (m : EntryMap) (done : Do
       → map_after_debit ctx ctx.op_source op.send_asset (pos carried.amount) carried.entries ≡ Ok new
       → receive.done ctx op carried new ≡ Ok done → IsLawful ctx m done
   received_done taken took carried along new gave is =
-      let all = whole op.dest_amount amount in
-      let one = amount_taken ctx ctx.id_pool m under.settled.legal got_by (pos needed) (low needed) taken op.dest_asset
+      let all = unsigned_abs_nonnegative op.dest_amount amount in
+      let one = amount_taken ctx ctx.id_pool m under.settled.legal got_by (pos needed) (natural_nonnegative needed) taken op.dest_asset
       (subst (λ n. map_after_credit got_by op.dest_asset n m ≡ Ok taken) (sym all) took) in
       let legal = shifted_after ctx m under none_more (λ x. unless_issuer x op.dest_asset got_by (pos needed)) taken
       one.shifts in
       let back = path_back ctx ctx.id_pool op.send_asset op.path op.dest_asset (set_out op.dest_amount taken) carried
       legal along in
       let two = amount_given ctx ctx.id_pool carried.entries back.went.legal ctx.op_source (pos carried.amount)
-      (low carried.amount) new op.send_asset gave in
-      let atoms : back.atoms ≡ carried.atoms = sym (back.listed ∙ nothing_behind back.atoms) in
+      (natural_nonnegative carried.amount) new op.send_asset gave in
+      let atoms : back.atoms ≡ carried.atoms = sym (back.listed ∙ nothing_after back.atoms) in
       let went = subst (λ (l : List ClaimAtom).
       IsCarried ctx.id_pool ctx.base_reserve op.send_asset carried.amount op.dest_asset needed taken carried.entries l)
       atoms back.went.carried in
@@ -113,12 +89,12 @@ module _ (ctx : Ctx) (op : PathPaymentStrictReceiveOp) (m : EntryMap) (done : Do
       received_done taken.0 taken.1 along.0 along.1 gave.0 gave.1 gave.2
 
 pub path_receive_is_lawful : AreLawful path_payment_strict_receive
-path_receive_is_lawful ctx op m done under stands is =
+path_receive_is_lawful ctx op m done under exists is =
     let asked = went_on (receive.asked_tests op) _ done is in
     let test = first_passed _ _ [] asked.0 in
-    let amounts = neither (int_le op.send_max (pos 0) || int_le op.dest_amount (pos 0)) _ test.0 in
-    let amount = above op.dest_amount
-    (neither (int_le op.send_max (pos 0)) (int_le op.dest_amount (pos 0)) amounts.0).1 in
+    let amounts = or_parts (int_le op.send_max (pos 0) || int_le op.dest_amount (pos 0)) _ test.0 in
+    let amount = nonnegative_from_int_le op.dest_amount
+    (or_parts (int_le op.send_max (pos 0)) (int_le op.dest_amount (pos 0)) amounts.0).1 in
     received_steps ctx op m done under amount (went_on (receive.destination_tests op m) _ done asked.1).1
 
 module _ (ctx : Ctx) (op : PathPaymentStrictSendOp) (m : EntryMap) (done : Done) (under : IsUnderway ctx m)
@@ -146,8 +122,8 @@ module _ (ctx : Ctx) (op : PathPaymentStrictSendOp) (m : EntryMap) (done : Done)
       → map_after_credit sent_to op.dest_asset (pos carried.amount) carried.entries ≡ Ok new
       → send.done ctx op carried new ≡ Ok done → IsLawful ctx m done
   sent_done given gave carried along new took is =
-      let all = whole op.send_amount amount in
-      let one = amount_given ctx ctx.id_pool m under.settled.legal ctx.op_source (pos all_sent) (low all_sent) given
+      let all = unsigned_abs_nonnegative op.send_amount amount in
+      let one = amount_given ctx ctx.id_pool m under.settled.legal ctx.op_source (pos all_sent) (natural_nonnegative all_sent) given
       op.send_asset
       (subst (λ n. map_after_debit ctx ctx.op_source op.send_asset n m ≡ Ok given) (sym all) gave) in
       let legal = shifted_after ctx m under none_more
@@ -155,7 +131,7 @@ module _ (ctx : Ctx) (op : PathPaymentStrictSendOp) (m : EntryMap) (done : Done)
       let on = path_on ctx ctx.id_pool op.send_asset op.path op.dest_asset (set_out op.send_amount given) carried legal
       along in
       let two = amount_taken ctx ctx.id_pool carried.entries on.went.legal sent_to (pos carried.amount)
-      (low carried.amount) new op.dest_asset took in
+      (natural_nonnegative carried.amount) new op.dest_asset took in
       let went = subst (λ (l : List ClaimAtom).
       IsCarried ctx.id_pool ctx.base_reserve op.send_asset all_sent op.dest_asset carried.amount given carried.entries
       l)
@@ -177,10 +153,10 @@ module _ (ctx : Ctx) (op : PathPaymentStrictSendOp) (m : EntryMap) (done : Done)
       sent_done given.0 given.1 along.0 along.1 took.0 took.1 took.2
 
 pub path_send_is_lawful : AreLawful path_payment_strict_send
-path_send_is_lawful ctx op m done under stands is =
+path_send_is_lawful ctx op m done under exists is =
     let asked = went_on (send.asked_tests op) _ done is in
     let test = first_passed _ _ [] asked.0 in
-    let amounts = neither (int_le op.send_amount (pos 0) || int_le op.dest_min (pos 0)) _ test.0 in
-    let amount = above op.send_amount
-    (neither (int_le op.send_amount (pos 0)) (int_le op.dest_min (pos 0)) amounts.0).0 in
+    let amounts = or_parts (int_le op.send_amount (pos 0) || int_le op.dest_min (pos 0)) _ test.0 in
+    let amount = nonnegative_from_int_le op.send_amount
+    (or_parts (int_le op.send_amount (pos 0)) (int_le op.dest_min (pos 0)) amounts.0).0 in
     sent_steps ctx op m done under amount (went_on (send.destination_tests op m) _ done asked.1).1

@@ -1,34 +1,17 @@
 -- What a payment along a path leaves and moves is lawful.
-use Rattle.std.proofs.Common.{◌≡◌, sym, ap, ◌∙◌, ℕ, All, List, [], ◌∷◌, ◌++◌, arith}
-use Rattle.std.proofs.lemmas.Int.{ints}
-use Rattle.std.proofs.lemmas.List.Elements.{All-cons, All-nil, All-append}
-use Rattle.std.specs.Prelude.{ℤ, pos, neg_ℤ, ◌+ℤ◌, ◌-ℤ◌}
-use Rattle.op_flags.specs.ledger_types.declared.ids.AccountId.{AccountId}
-use Rattle.op_flags.specs.ledger_types.declared.asset.Asset.{Asset}
-use Rattle.op_flags.specs.ledger_types.declared.claim_atom.ClaimAtom.{ClaimAtom}
+use Rattle.op_laws.proofs.Prelude.{◌≡◌, sym, ap, ◌∙◌, ℕ, All, List, [], ◌∷◌, ◌++◌, arith, ints, All-cons, All-nil}
+use Rattle.op_laws.proofs.Prelude.{All-append, ℤ, pos, neg_ℤ, ◌+ℤ◌, ◌-ℤ◌, AccountId, Asset, ClaimAtom, LedgerKey}
+use Rattle.op_laws.proofs.Prelude.{EntryMap, OperationResult, Ctx, both_more, of_asset, Leaves, leaves_as, leaves_both}
+use Rattle.op_laws.proofs.Prelude.{kept_in, more_in, trade_moves, moves_of, Holder, OfAccount, OfPool, Transit, Move}
+use Rattle.op_laws.proofs.Prelude.{path_moves, IsMoved, ShiftsLegal, unless_issuer, shifts_as, shifts_both, IsLawful}
+use Rattle.op_laws.proofs.Prelude.{gained, issued, IsUnderway}
 use Rattle.op_flags.specs.ledger_types.declared.claim_atom.ClaimAtom.TheVariants as atom
-use Rattle.op_flags.specs.ledger_types.declared.key.LedgerKey.{LedgerKey}
-use Rattle.op_flags.specs.entry_map.EntryMap.{EntryMap}
-use Rattle.op_flags.specs.op_types.declared.operation_result.OperationResult.{OperationResult}
-use Rattle.op_flags.specs.sponsor_rules.declared.context.Ctx.{Ctx}
-use Rattle.op_flags.specs.legal_rules.Holdings.{both_more}
-use Rattle.op_flags.specs.legal_rules.Supply.{of_asset}
-use Rattle.op_flags.proofs.legal_rules_proofs.Leaving.{Leaves, leaves_as, leaves_both}
-use Rattle.op_flags.specs.trade_cross.CrossingLaws.{kept_in, more_in}
-use Rattle.op_flags.specs.op_form.AtomMoves.{trade_moves, moves_of}
-use Rattle.op_flags.specs.op_form.Done.{Holder, OfAccount, OfPool, Transit, Move}
-use Rattle.op_payment.specs.PathPayment.{path_moves}
-use Rattle.op_payment.proofs.Amounts.{IsMoved}
-use Rattle.op_payment.proofs.Shifts.{ShiftsLegal, unless_issuer, shifts_as, shifts_both}
-use Rattle.op_laws.specs.Laws.{IsLawful}
-use Rattle.op_laws.specs.Moves.{gained, issued}
-use Rattle.op_laws.specs.Underway.{IsUnderway}
 use Rattle.op_laws.proofs.Carrying.{IsCarried, way_by, gained_on_way, held_on_way, more_on_way, of_neg, turned}
 use Rattle.op_laws.proofs.Lawful.{lawful_with}
-use Rattle.op_laws.proofs.MoveSums.{summed, summed_behind, held_by, more_by, moved_more, sum_issued}
+use Rattle.op_laws.proofs.MoveSums.{summed, summed_after, held_by, more_by, moved_more, sum_issued}
 use Rattle.op_laws.proofs.MoveSums.{IsKept, AreEndsKept}
-use Rattle.op_laws.proofs.MoveSums.{moves_tell_others, tells_all}
-use Rattle.op_laws.proofs.Told.{more_for, account_place, pool_place}
+use Rattle.op_laws.proofs.MoveSums.{moves_describe_others, describes_all}
+use Rattle.op_laws.proofs.Described.{more_for, account_location, pool_location}
 use Rattle.op_laws.proofs.TradeMoves.{account_held}
 
 -- ---- the moves of a path
@@ -43,10 +26,10 @@ trade_kept other sold bought n k moves there forth rest =
 atoms_kept : (atoms : List ClaimAtom) → All AreEndsKept (moves_of Transit atoms)
 atoms_kept [] = All-nil AreEndsKept
 atoms_kept (atom.OrderBook seller id sold n bought k ∷ atoms) =
-    trade_kept (OfAccount seller) sold bought n k (moves_of Transit atoms) (account_place sold seller)
-    (account_place bought seller) (atoms_kept atoms)
+    trade_kept (OfAccount seller) sold bought n k (moves_of Transit atoms) (account_location sold seller)
+    (account_location bought seller) (atoms_kept atoms)
 atoms_kept (atom.LiquidityPool pool sold n bought k ∷ atoms) =
-    trade_kept (OfPool pool) sold bought n k (moves_of Transit atoms) (pool_place sold pool) (pool_place bought pool)
+    trade_kept (OfPool pool) sold bought n k (moves_of Transit atoms) (pool_location sold pool) (pool_location bought pool)
     (atoms_kept atoms)
 atoms_kept (atom.V0 seller id sold n bought k ∷ atoms) = atoms_kept atoms
 
@@ -66,9 +49,9 @@ module _ (ctx : Ctx) (destination : AccountId) (first : Asset) (a : ℕ) (atoms 
 
     ends_kept : All AreEndsKept moves
     ends_kept = All-cons AreEndsKept given_move (moves_of Transit atoms ++ taken_move ∷ [])
-        (tt, account_place first source)
+        (tt, account_location first source)
         (All-append AreEndsKept (moves_of Transit atoms) (taken_move ∷ []) (atoms_kept atoms)
-        (All-cons AreEndsKept taken_move [] (account_place last destination, tt) (All-nil AreEndsKept)))
+        (All-cons AreEndsKept taken_move [] (account_location last destination, tt) (All-nil AreEndsKept)))
 
     -- nothing stays on its way
     none_on_way : (f l : ℤ) → ((f +ℤ pos 0) +ℤ ((l -ℤ f) +ℤ ((pos 0 +ℤ neg_ℤ l) +ℤ pos 0))) ≡ pos 0
@@ -79,7 +62,7 @@ module _ (ctx : Ctx) (destination : AccountId) (first : Asset) (a : ℕ) (atoms 
     way_summed way x =
         gained_on_way x moves
         ∙ ap (λ n. (of_asset x first (pos a) +ℤ pos 0) +ℤ n)
-        (summed_behind (way_by x) (moves_of Transit atoms) (taken_move ∷ [])
+        (summed_after (way_by x) (moves_of Transit atoms) (taken_move ∷ [])
         ∙ (λ i. way x i +ℤ ((pos 0 +ℤ of_neg x last (pos b) i) +ℤ pos 0)))
         ∙ none_on_way (of_asset x first (pos a)) (of_asset x last (pos b))
 
@@ -100,7 +83,7 @@ module _ (ctx : Ctx) (destination : AccountId) (first : Asset) (a : ℕ) (atoms 
         (held_by x first (OfAccount source) (neg_ℤ (pos a))) (kept_in x atoms)
         (held_by x last (OfAccount destination) (pos b)))
         ∙ sym ((λ i. (held_on_way x first (pos a) i +ℤ held_by x first (OfAccount source) (neg_ℤ (pos a)))
-        +ℤ ((summed_behind (held_by x) (moves_of Transit atoms) (taken_move ∷ [])) i))
+        +ℤ ((summed_after (held_by x) (moves_of Transit atoms) (taken_move ∷ [])) i))
         ∙ (λ i. (of_asset x first (pos a) +ℤ held_by x first (OfAccount source) (neg_ℤ (pos a)))
         +ℤ (kept x i +ℤ ((held_by x last (OfAccount destination) (pos b)
         +ℤ (held_on_way x last (neg_ℤ (pos b)) ∙ of_neg x last (pos b)) i) +ℤ pos 0))))
@@ -119,7 +102,7 @@ module _ (ctx : Ctx) (destination : AccountId) (first : Asset) (a : ℕ) (atoms 
         sym (all_more (more_by k x first (OfAccount source) (neg_ℤ (pos a))) (more_in atoms k x)
         (more_by k x last (OfAccount destination) (pos b)))
         ∙ sym ((λ i. (more_on_way k x first (pos a) i +ℤ more_by k x first (OfAccount source) (neg_ℤ (pos a)))
-        +ℤ ((summed_behind (more_by k x) (moves_of Transit atoms) (taken_move ∷ [])) i))
+        +ℤ ((summed_after (more_by k x) (moves_of Transit atoms) (taken_move ∷ [])) i))
         ∙ (λ i. (pos 0 +ℤ more_by k x first (OfAccount source) (neg_ℤ (pos a)))
         +ℤ (more k x i +ℤ ((more_by k x last (OfAccount destination) (pos b)
         +ℤ more_on_way k x last (neg_ℤ (pos b)) i) +ℤ pos 0))))
@@ -142,7 +125,7 @@ module _ (ctx : Ctx) (destination : AccountId) (first : Asset) (a : ℕ) (atoms 
           → Leaves ctx.base_reserve (moved_more moves) old new
           → IsLawful ctx old (record { result = result; entries = new; ctx = ctx; moves = moves })
       path_lawful shifts left = lawful_with ctx old under (moved_more moves) result new moves shifts left
-          (tells_all (moved_more moves) moves (moves_tell_others moves ends_kept) (way_summed way))
+          (describes_all (moved_more moves) moves (moves_describe_others moves ends_kept) (way_summed way))
 
     -- the destination takes first, and the source gives last
     pub received_lawful : (old taken went new : EntryMap) → IsUnderway ctx old → (result : OperationResult)

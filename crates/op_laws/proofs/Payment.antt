@@ -1,46 +1,22 @@
 -- PAYMENT is lawful.
-use Rattle.std.proofs.Common.{◌≡◌, refl, sym, subst, ◌∙◌, Bool, true, false, not, ◌&&◌, ◌||◌, [], ◌∷◌, Ok}
-use Rattle.std.proofs.Common.{arith}
-use Rattle.std.proofs.lemmas.Int.{ints}
-use Rattle.std.specs.Prelude.{ℤ, pos, neg_ℤ, int_le, ◌+ℤ◌, ◌≤ℤ◌, if◌then◌else◌}
-use Rattle.std.specs.Ordering.{is_eq}
-use Rattle.op_flags.specs.ledger_types.declared.ids.AccountId.{AccountId}
-use Rattle.op_flags.specs.ledger_types.declared.asset.Asset.{Asset}
+use Rattle.op_laws.proofs.Prelude as prelude
+use prelude.{◌≡◌, refl, sym, subst, ◌∙◌, Bool, true, false, not, ◌||◌, [], ◌∷◌, Ok, ℤ, pos, neg_ℤ, int_le, ◌+ℤ◌, ◌≤ℤ◌}
+use prelude.{if◌then◌else◌, is_eq, AccountId, Asset, account_of, asset_cmp, is_valid_asset, EntryMap, Ctx}
+use prelude.{is_same_account, same_account, of_asset, map_after_credit, map_after_debit, is_native, is_issued_by, Done}
+use prelude.{Move, OfAccount, unless_refused, credit_result, debit_result, destination_tests, is_to_itself, paid}
+use prelude.{payment, payment_move, payment_tests, taken_and_given, IsLawful, AreLawful, issued, IsUnderway}
+use prelude.{unless_issuer, shifts_as, shifts_both, none_more, leaves_itself, leaves_both, went_on, went_after_step}
+use prelude.{first_passed, nonnegative_from_int_le, and_parts, or_parts}
 use Rattle.op_flags.specs.ledger_types.declared.asset.Asset.TheVariants as asset
-use Rattle.op_flags.specs.ledger_types.Ids.{account_of}
-use Rattle.op_flags.specs.ledger_types.KeyOrder.{asset_cmp}
-use Rattle.op_flags.specs.valid_values.Assets.{is_valid_asset}
-use Rattle.op_flags.specs.entry_map.EntryMap.{EntryMap}
-use Rattle.op_flags.specs.sponsor_rules.declared.context.Ctx.{Ctx}
-use Rattle.op_flags.specs.sponsor_rules.Payers.{is_same_account}
-use Rattle.op_flags.proofs.sponsor_rules_proofs.Ids.{same_account}
-use Rattle.op_flags.specs.legal_rules.Supply.{of_asset}
 use Rattle.op_flags.specs.op_types.declared.payment_ops.PaymentOp.{PaymentOp}
 use Rattle.op_flags.specs.op_types.declared.payment_results.PaymentResult.TheVariants as pay
-use Rattle.op_flags.specs.op_form.Amounts.{map_after_credit, map_after_debit}
-use Rattle.op_flags.specs.op_form.Assets.{is_native, is_issued_by}
-use Rattle.op_flags.specs.op_form.Done.{Done, Move}
-use Rattle.op_flags.specs.op_form.Done.{OfAccount}
-use Rattle.op_flags.specs.op_form.Steps.{unless_refused}
-use Rattle.op_payment.specs.Payment.{answer, credit_result, debit_result, destination_tests, is_to_itself, paid}
-use Rattle.op_payment.specs.Payment.{payment}
-use Rattle.op_payment.specs.Payment.{payment_move, payment_tests, taken_and_given}
-use Rattle.op_laws.specs.Laws.{IsLawful, AreLawful}
-use Rattle.op_laws.specs.Moves.{issued}
-use Rattle.op_laws.specs.Underway.{IsUnderway}
-use Rattle.op_payment.proofs.Shifts.{unless_issuer, shifts_as, shifts_both}
+use Rattle.op_payment.specs.Payment.{answer}
 use Rattle.op_laws.proofs.Amounts.{amount_taken, amount_given}
 use Rattle.op_laws.proofs.IssuedMoves.{same_issuer, issued_so, issued_by_move}
 use Rattle.op_laws.proofs.Lawful.{lawful_here, lawful_with, shifted_after}
-use Rattle.op_laws.proofs.Lumens.{lumens_move, itself_told, none_issued}
-use Rattle.op_flags.specs.legal_rules.Holdings.{none_more}
-use Rattle.op_flags.proofs.legal_rules_proofs.Leaving.{leaves_itself, leaves_both}
-use Rattle.op_laws.proofs.Told.{more_for, account_place, moved, move_tells}
-use Rattle.op_flags.proofs.Went.{went_on, went_after_step}
-use Rattle.op_flags.proofs.legal_rules_proofs.Passed.{first_passed, neither}
-
-pub above : (n : ℤ) → int_le n (pos 0) ≡ false → pos 0 ≤ℤ n
-above n h = grind (arith, ints)
+use Rattle.op_laws.proofs.Lumens.{lumens_move, itself_described, none_issued}
+use Rattle.op_laws.proofs.Described.{more_for, account_location, moved, move_describes}
+use Rattle.op_laws.proofs.MoveSums.{move_issues}
 
 -- ---- what a payment gives and issues
 
@@ -48,23 +24,11 @@ above n h = grind (arith, ints)
 abbrev pub asset_move : (from to : AccountId) → Asset → ℤ → Move
 asset_move from to held n = record { from = OfAccount from; to = OfAccount to; asset = held; amount = n }
 
-paid_of : (b f t : Bool) (n : ℤ)
-    → ((if t then pos 0 else (if b then n else pos 0)) +ℤ (if f then pos 0 else (if b then neg_ℤ n else pos 0)))
-    ≡ (if b then issued_so f t n else pos 0)
-paid_of true true true n = omega (arith, ints)
-paid_of true true false n = omega (arith, ints)
-paid_of true false true n = omega (arith, ints)
-paid_of true false false n = omega (arith, ints)
-paid_of false true true n = refl
-paid_of false true false n = refl
-paid_of false false true n = refl
-paid_of false false false n = refl
-
 -- what one takes and another gives is what the move issues, of whatever asset
 pub paid_issued : (x held : Asset) (from to : AccountId) (n : ℤ)
     → (unless_issuer x held to n +ℤ unless_issuer x held from (neg_ℤ n)) ≡ issued x (asset_move from to held n ∷ [])
 paid_issued x held from to n =
-    paid_of (is_eq (asset_cmp x held)) (is_issued_by held from) (is_issued_by held to) n
+    move_issues (is_eq (asset_cmp x held)) (is_issued_by held from) (is_issued_by held to) n
     ∙ (λ i. of_asset x held (issued_so (same_issuer held from i) (same_issuer held to i) n))
     ∙ issued_by_move x held (OfAccount from) (OfAccount to) n
 
@@ -74,11 +38,6 @@ native_is : (held : Asset) → is_native held ≡ true → held ≡ asset.Native
 native_is asset.Native is = refl
 native_is (asset.Alphanum4 code issuer) is = absurd (cc)
 native_is (asset.Alphanum12 code issuer) is = absurd (cc)
-
-both_hold : (a b : Bool) → (a && b) ≡ true → (a ≡ true) × (b ≡ true)
-both_hold true true is = (refl, refl)
-both_hold true false is = absurd (cc)
-both_hold false b is = absurd (cc)
 
 module _ (ctx : Ctx) (op : PaymentOp) (m : EntryMap) (done : Done) (under : IsUnderway ctx m)
     (low : pos 0 ≤ℤ op.amount) where
@@ -107,7 +66,7 @@ module _ (ctx : Ctx) (op : PaymentOp) (m : EntryMap) (done : Done) (under : IsUn
       (record { result = answer pay.Success; entries = m; ctx = ctx; moves = x ∷ [] })) (sym its_move)
       (lawful_here ctx m under none_more (answer pay.Success) m (lumens_move from to op.amount ∷ [])
       (λ v sum legal. legal) (leaves_itself ctx.base_reserve m under.settled.legal.keyed)
-      (itself_told from to op.amount same) (none_issued from to op.amount)))
+      (itself_described from to op.amount same) (none_issued from to op.amount)))
 
   taken_given : taken_and_given ctx op m ≡ Ok done → IsLawful ctx m done
   taken_given is =
@@ -127,21 +86,21 @@ module _ (ctx : Ctx) (op : PaymentOp) (m : EntryMap) (done : Done) (under : IsUn
       (λ x. unless_issuer x op.asset from (neg_ℤ op.amount)) m first.0 second.0 one.shifts two.shifts))
       (leaves_both ctx.base_reserve (more_for op.asset (OfAccount to) op.amount)
       (more_for op.asset (OfAccount from) (neg_ℤ op.amount)) m first.0 second.0 one.left two.left)
-      (move_tells op.asset (OfAccount from) (OfAccount to) op.amount (account_place op.asset from)
-      (account_place op.asset to)))
+      (move_describes op.asset (OfAccount from) (OfAccount to) op.amount (account_location op.asset from)
+      (account_location op.asset to)))
 
   by_destination : (b : Bool) → is_to_itself ctx op ≡ b
       → (if b then paid ctx op m else unless_refused (destination_tests op m) (taken_and_given ctx op m)) ≡ Ok done
       → IsLawful ctx m done
   by_destination true same is =
-      let both = both_hold (is_native op.asset) (is_same_account to from) same in
+      let both = and_parts (is_native op.asset) (is_same_account to from) same in
       to_itself (native_is op.asset both.0) (same_account to from both.1) is
   by_destination false apart is = taken_given (went_on (destination_tests op m) (taken_and_given ctx op m) done is).1
 
 pub payment_is_lawful : AreLawful payment
-payment_is_lawful ctx op m done under stands is =
+payment_is_lawful ctx op m done under exists is =
     let went = went_on (payment_tests op) _ done is in
     let test = first_passed (int_le op.amount (pos 0) || not (is_valid_asset op.asset)) (answer pay.Malformed) []
     went.0 in
-    let both = neither (int_le op.amount (pos 0)) (not (is_valid_asset op.asset)) test.0 in
-    by_destination ctx op m done under (above op.amount both.0) (is_to_itself ctx op) refl went.1
+    let both = or_parts (int_le op.amount (pos 0)) (not (is_valid_asset op.asset)) test.0 in
+    by_destination ctx op m done under (nonnegative_from_int_le op.amount both.0) (is_to_itself ctx op) refl went.1

@@ -1,67 +1,35 @@
 -- Amounts of a pool's two assets that an account gives for shares of it, or takes for them.
-use Rattle.std.proofs.Common.{◌≡◌, inl, inr, refl, sym, ap, subst, ◌∙◌, ℕ, ◌≤◌, Bool, true, false, Option, Some, None}
-use Rattle.std.proofs.Common.{arith}
-use Rattle.std.proofs.lemmas.Int.{ints}
+use Rattle.op_laws.proofs.Prelude as prelude
+use prelude.{◌≡◌, inl, inr, refl, sym, ap, subst, ◌∙◌, ℕ, ◌≤◌, Bool, true, false, Option, Some, None, arith, ints, ℤ}
+use prelude.{pos, neg_ℤ, ◌+ℤ◌, ◌≤ℤ◌, if◌then◌else◌, get, Less, AccountId, Hash, Asset, TrustLineAsset, TrustLineEntry}
+use prelude.{LiquidityPoolEntry, LedgerKey, asset_cmp, EntryMap, account_at, HasAccount, line_liabilities, line_of}
+use prelude.{line_at, pool_at, total, available, line_available, line_room, unlimited, is_same_account, Uses, View}
+use prelude.{stated_at, is_key, Increase, both_more, more_at, under_key, view, nothing_owed, IsLegalOwing}
+use prelude.{AreEntriesLegal, needed_line, of_asset, held_of, holder, Leaves, leaves_both, leaves_as, line_legal}
+use prelude.{kept_at, at_least_nothing, is_short_of, account_has, line_has, has_at, account_gives, line_gives}
+use prelude.{most_given, line_takes, most_taken, paying, CanPay, paying_legal, within, can_give, can_take}
+use prelude.{map_with_shares, CanShare, both_of, sharing_legal, sharing_left, line_exists_so, pool_legal, OfAccount}
+use prelude.{OfPool, IsMoved, unless_issuer, ShiftsLegal, at_most_add_natural, at_most_rest, fits_after_no_natural}
+use prelude.{fits_after_sub_natural, fits_within_room, if_add, int_lt_false, natural_nonnegative}
 use Rattle.std.proofs.lemmas.Bool.{ltb-false}
-use Rattle.std.specs.Prelude.{ℤ, pos, neg_ℤ, ◌+ℤ◌, ◌-ℤ◌, ◌≤ℤ◌, nat_lt, if◌then◌else◌}
-use Rattle.std.specs.FinMap.{get}
-use Rattle.std.specs.declared.cmp.Ordering.TheVariants.{Less}
-use Rattle.op_flags.specs.ledger_types.declared.ids.AccountId.{AccountId}
-use Rattle.op_flags.specs.ledger_types.declared.ids.Hash.{Hash}
-use Rattle.op_flags.specs.ledger_types.declared.asset.Asset.{Asset}
+use Rattle.std.specs.Prelude.{nat_lt}
 use Rattle.op_flags.specs.ledger_types.declared.asset.Asset.TheVariants as asset
-use Rattle.op_flags.specs.ledger_types.declared.asset.TrustLineAsset.{TrustLineAsset}
 use Rattle.op_flags.specs.ledger_types.declared.asset.TrustLineAsset.TheVariants as line
-use Rattle.op_flags.specs.ledger_types.declared.trust_line.TrustLineEntry.{TrustLineEntry}
-use Rattle.op_flags.specs.ledger_types.declared.liquidity_pool.LiquidityPoolEntry.{LiquidityPoolEntry}
-use Rattle.op_flags.specs.ledger_types.declared.key.LedgerKey.{LedgerKey}
 use Rattle.op_flags.specs.ledger_types.declared.key.LedgerKey.TheVariants as key
-use Rattle.op_flags.specs.ledger_types.KeyOrder.{asset_cmp}
-use Rattle.op_flags.specs.entry_map.EntryMap.{EntryMap}
-use Rattle.op_flags.specs.entry_slots.Accounts.{account_of, account_at, HasAccount}
-use Rattle.op_flags.specs.entry_slots.LineExtensions.{line_liabilities}
-use Rattle.op_flags.specs.entry_slots.Lines.{line_of, line_at}
-use Rattle.op_flags.specs.entry_slots.Pools.{pool_at}
-use Rattle.op_flags.specs.entry_sums.Sums.{total}
-use Rattle.op_pool.specs.reserve_rules.Reserve.{available, line_available, line_room}
-use Rattle.op_offers.specs.offer_exchange.Exchange.{unlimited}
-use Rattle.op_flags.specs.sponsor_rules.Payers.{is_same_account}
-use Rattle.op_flags.specs.legal_rules.Books.{Uses, View, stated_at}
-use Rattle.op_flags.specs.legal_rules.EntryKeys.{is_key}
-use Rattle.op_flags.specs.legal_rules.Holdings.{Increase, both_more, more_at, under_key}
-use Rattle.op_flags.specs.legal_rules.Legal.{view}
-use Rattle.op_flags.specs.legal_rules.Owing.{nothing_owed, IsLegalOwing, AreEntriesLegal}
-use Rattle.op_flags.specs.legal_rules.PoolShares.{needed_line}
-use Rattle.op_flags.specs.legal_rules.Supply.{of_asset, held as held_of}
-use Rattle.op_flags.specs.legal_rules.Trades.{holder}
-use Rattle.op_flags.proofs.legal_rules_proofs.Leaving.{Leaves, leaves_both, leaves_as}
-use Rattle.op_flags.proofs.legal_rules_proofs.LinesLeft.{line_legal}
-use Rattle.op_flags.proofs.legal_rules_proofs.Lows.{natural_low}
-use Rattle.op_flags.specs.trade_cross.CrossingLaws.{kept_at}
-use Rattle.op_flags.specs.trade_cross.Holdings.{at_least_nothing, is_short_of, account_has, line_has, has_at}
-use Rattle.op_flags.specs.trade_cross.Holdings.{account_gives}
-use Rattle.op_flags.specs.trade_cross.Holdings.{line_gives, most_given, line_takes, most_taken, paying}
+use Rattle.op_flags.specs.entry_slots.Accounts.{account_of}
 use Rattle.op_flags.proofs.trade_cross_proofs.Left.{giving_left, taking_left}
-use Rattle.op_flags.proofs.trade_cross_proofs.Paying.{CanPay, paying_legal, within, can_give, can_take}
-use Rattle.op_flags.specs.pool_shares.Withdrawing.{map_with_shares}
-use Rattle.op_flags.proofs.pool_shares_proofs.Sharing.{CanShare, both_of, sharing_legal, sharing_left}
-use Rattle.op_flags.proofs.pool_shares_proofs.Sound.{line_stands_so, pool_legal}
-use Rattle.op_flags.specs.op_form.Done.{OfAccount, OfPool}
-use Rattle.op_pool.proofs.Fitting.{not_less, beside, second_beside}
-use Rattle.op_payment.proofs.Amounts.{IsMoved}
-use Rattle.op_payment.proofs.Shifts.{unless_issuer}
-use Rattle.op_payment.proofs.Shifts.{ShiftsLegal}
-use Rattle.op_laws.proofs.Told.{more_for, pool_more}
-use Rattle.op_laws.proofs.TradeMoves.{sum_if, holder_kept, holder_more}
+use Rattle.op_pool.proofs.Fitting.{beside, second_beside}
+use Rattle.op_laws.proofs.Described.{more_for, pool_more}
+use Rattle.op_laws.proofs.TradeMoves.{holder_kept, holder_more}
 
 -- ---- what an account has of an asset
 
--- an account or a line stands under the key; none is needed where nothing is named
-abbrev pub Stands : EntryMap → Option LedgerKey → Type 0
-Stands m None = Unit {0}
-Stands m (Some (key.Account id)) = HasAccount m id
-Stands m (Some (key.TrustLine id x)) = (t : TrustLineEntry) × (line_at m id x ≡ Some t)
-Stands m (Some other) = ⊥
+-- an account or a line exists under the key; none is needed where nothing is named
+abbrev pub Exists : EntryMap → Option LedgerKey → Type 0
+Exists m None = Unit {0}
+Exists m (Some (key.Account id)) = HasAccount m id
+Exists m (Some (key.TrustLine id x)) = (t : TrustLineEntry) × (line_at m id x ≡ Some t)
+Exists m (Some other) = ⊥
 
 module _ (m : EntryMap) (id : AccountId) where
   -- the line under a key, where one is named, is used
@@ -69,16 +37,16 @@ module _ (m : EntryMap) (id : AccountId) where
   IsUsed o = (q : LedgerKey) → o ≡ Some q → pos 1 ≤ℤ stated_at Uses (get m q)
 
   line_or_none : (b : Bool) (x : TrustLineAsset) → IsUsed (if b then None else Some (key.TrustLine id x))
-      → Stands m (if b then None else Some (key.TrustLine id x))
+      → Exists m (if b then None else Some (key.TrustLine id x))
   line_or_none true x used = tt
-  line_or_none false x used = line_stands_so m id x (used (key.TrustLine id x) refl)
+  line_or_none false x used = line_exists_so m id x (used (key.TrustLine id x) refl)
 
-  -- an account has a pool's asset in what stands, if it has shares of the pool
-  pub holder_stands : HasAccount m id → (held : Asset) → IsUsed (needed_line id held) → Stands m (holder id held)
-  holder_stands stands asset.Native used = stands
-  holder_stands stands (asset.Alphanum4 code issuer) used =
+  -- an account has a pool's asset in what exists, if it has shares of the pool
+  pub holder_exists : HasAccount m id → (held : Asset) → IsUsed (needed_line id held) → Exists m (holder id held)
+  holder_exists exists asset.Native used = exists
+  holder_exists exists (asset.Alphanum4 code issuer) used =
       line_or_none (is_same_account issuer id) (line.Alphanum4 code issuer) used
-  holder_stands stands (asset.Alphanum12 code issuer) used =
+  holder_exists exists (asset.Alphanum12 code issuer) used =
       line_or_none (is_same_account issuer id) (line.Alphanum12 code issuer) used
 
 -- ---- what can be given and taken
@@ -87,51 +55,36 @@ reaches : (x : ℤ) (n : ℕ) → pos n ≤ℤ x → n ≤ at_least_nothing x
 reaches (pos k) n le = omega (arith, ints)
 reaches other n le = absurd (omega (arith, ints))
 
-gives_covered : (b s : ℤ) (n : ℕ) → pos n ≤ℤ (b -ℤ s) → s ≤ℤ (b +ℤ neg_ℤ (pos n))
-gives_covered b s n le = omega (arith, ints)
-
-gives_fits : (b buying limit : ℤ) (n : ℕ) → (b +ℤ buying) ≤ℤ limit → ((b +ℤ neg_ℤ (pos n)) +ℤ buying) ≤ℤ limit
-gives_fits b buying limit n fits = omega (arith, ints)
-
-takes_covered : (b s : ℤ) (n : ℕ) → s ≤ℤ b → s ≤ℤ (b +ℤ pos n)
-takes_covered b s n le = omega (arith, ints)
-
-takes_fits : (b buying limit : ℤ) (n : ℕ) → pos n ≤ℤ (limit -ℤ b -ℤ buying) → ((b +ℤ pos n) +ℤ buying) ≤ℤ limit
-takes_fits b buying limit n le = omega (arith, ints)
-
-takes_none : (b buying limit : ℤ) (n : ℕ) → (b +ℤ buying) ≤ℤ limit → n ≡ 0 → ((b +ℤ pos n) +ℤ buying) ≤ℤ limit
-takes_none b buying limit n fits none = omega (arith, ints)
-
 module _ (v : View) (id_pool base : ℕ) (sum : ℤ) (m : EntryMap) (legal : IsLegalOwing v id_pool nothing_owed sum m)
     (n : ℕ) where
   -- what isn't short can be given
-  pub gives_so : (k : Option LedgerKey) → Stands m k → n ≤ unlimited → is_short_of (pos n) (has_at base m k) ≡ false
+  pub gives_so : (k : Option LedgerKey) → Exists m k → n ≤ unlimited → is_short_of (pos n) (has_at base m k) ≡ false
       → (CanPay m k (neg_ℤ (pos n))) × (n ≤ most_given base m k)
   gives_so None there few enough = (tt, few)
   gives_so (Some (key.Account id)) there few enough =
-      let has = reaches (available there.0 base) n (not_less (available there.0 base) (pos n)
+      let has = reaches (available there.0 base) n (int_lt_false (available there.0 base) (pos n)
       (sym (ap (λ o. is_short_of (pos n) (account_has base o)) there.1) ∙ enough)) in
       let le = subst (λ o. n ≤ account_gives base o) (sym there.1) has in (
-        can_give v id_pool base nothing_owed sum m legal n (λ k. natural_low 0) (Some (key.Account id)) there le,
+        can_give v id_pool base nothing_owed sum m legal n (λ k. natural_nonnegative 0) (Some (key.Account id)) there le,
         le,
       )
   gives_so (Some (key.TrustLine id x)) there few enough =
       let t = there.0 in
       let range = (line_legal v id_pool nothing_owed sum m id x t legal there.1).range.range in
-      let has = not_less (line_available t) (pos n)
+      let has = int_lt_false (line_available t) (pos n)
       (sym (ap (λ o. is_short_of (pos n) (line_has o)) there.1) ∙ enough) in (
         (
           t,
           there.1,
-          gives_covered t.balance (line_liabilities t).selling n has,
-          gives_fits t.balance (line_liabilities t).buying t.limit n range.fits,
+          at_most_rest t.balance (line_liabilities t).selling n has,
+          fits_after_sub_natural t.balance (line_liabilities t).buying t.limit n range.fits,
         ),
         subst (λ o. n ≤ line_gives o) (sym there.1) (reaches (line_available t) n has),
       )
   gives_so (Some other) there few enough = absurd there
 
   -- what there is room for can be taken
-  pub takes_so : (k : Option LedgerKey) → Stands m k → nat_lt (most_taken m k) n ≡ false → CanPay m k (pos n)
+  pub takes_so : (k : Option LedgerKey) → Exists m k → nat_lt (most_taken m k) n ≡ false → CanPay m k (pos n)
   takes_so None there room = tt
   takes_so (Some (key.Account id)) there room =
       can_take v id_pool base nothing_owed sum m legal n (Some (key.Account id)) there
@@ -143,15 +96,15 @@ module _ (v : View) (id_pool base : ℕ) (sum : ℤ) (m : EntryMap) (legal : IsL
       (sym (ap (λ o. nat_lt (line_takes o) n) there.1) ∙ room) in (
         t,
         there.1,
-        takes_covered t.balance (line_liabilities t).selling n range.covered,
+        at_most_add_natural t.balance (line_liabilities t).selling n range.covered,
         elim (within (line_room t) n le) [
-          | inl none ↦ takes_none t.balance (line_liabilities t).buying t.limit n range.fits none
-          | inr fits ↦ takes_fits t.balance (line_liabilities t).buying t.limit n fits
+          | inl none ↦ fits_after_no_natural t.balance (line_liabilities t).buying t.limit n range.fits none
+          | inr fits ↦ fits_within_room t.balance (line_liabilities t).buying t.limit n fits
         ],
       )
   takes_so (Some other) there room = absurd there
 
--- ---- what stands as it did
+-- ---- what stays as it was
 
 can_pay_still : (m new : EntryMap) (k : Option LedgerKey) (n : ℤ)
     → ((q : LedgerKey) → k ≡ Some q → get new q ≡ get m q) → CanPay m k n → CanPay new k n
@@ -202,7 +155,7 @@ more_of p id pool x y g h k z =
 
 module _ (id_pool base : ℕ) (m : EntryMap) (legal : AreEntriesLegal id_pool m) (id : AccountId) (pool : Hash)
     (t : TrustLineEntry) (p : LiquidityPoolEntry) (has : line_at m id (line.PoolShare pool) ≡ Some t)
-    (stands : pool_at m pool ≡ Some p) (x y shares : ℤ) (can : CanShare t p x y shares) where
+    (exists : pool_at m pool ≡ Some p) (x y shares : ℤ) (can : CanShare t p x y shares) where
   abbrev a : Asset
   a = p.params.asset_a
 
@@ -216,10 +169,10 @@ module _ (id_pool base : ℕ) (m : EntryMap) (legal : AreEntriesLegal id_pool m)
   shared = map_with_shares id pool x y shares m
 
   left : Leaves base in_pool m shared
-  left = sharing_left base m legal.keyed id pool t p has stands x y shares
+  left = sharing_left base m legal.keyed id pool t p has exists x y shares
 
   below : asset_cmp a b ≡ Less
-  below = (pool_legal (view m) id_pool nothing_owed (total (held_of asset.Native) m) m pool p legal stands).range.assets
+  below = (pool_legal (view m) id_pool nothing_owed (total (held_of asset.Native) m) m pool p legal exists).range.assets
 
   module _ (g h : ℤ) (can_a : CanPay m (holder id a) g) (can_b : CanPay m (holder id b) h) where
     abbrev first_paid : EntryMap
@@ -243,7 +196,7 @@ module _ (id_pool base : ℕ) (m : EntryMap) (legal : AreEntriesLegal id_pool m)
     all_shift : ShiftsLegal id_pool (shift_of p id x y g h) m both_paid
     all_shift v sum was =
         let z = v.asset in
-        let one = sharing_legal v id_pool sum m id pool t p x y shares was has stands can in
+        let one = sharing_legal v id_pool sum m id pool t p x y shares was has exists can in
         let two = paying_legal v id_pool nothing_owed (sum +ℤ both_of p x y z) shared one id a g can_first in
         let three = paying_legal v id_pool nothing_owed
         ((sum +ℤ both_of p x y z) +ℤ kept_at z (holder id a) a g) first_paid two id b h can_second in
@@ -257,7 +210,7 @@ module _ (id_pool base : ℕ) (m : EntryMap) (legal : AreEntriesLegal id_pool m)
         ≡ more_of p id pool x y g h k z
     by_holder k z =
         ap (λ n. (n +ℤ more_at (holder id a) a g k z) +ℤ more_at (holder id b) b h k z)
-        (sum_if (is_key k (key.LiquidityPool pool)) (of_asset z a x) (of_asset z b y))
+        (if_add (is_key k (key.LiquidityPool pool)) (of_asset z a x) (of_asset z b y))
         ∙ (λ i. ((pool_more a pool x k z i +ℤ pool_more b pool y k z i) +ℤ holder_more a id g k z i)
         +ℤ holder_more b id h k z i)
 

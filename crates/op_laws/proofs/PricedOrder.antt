@@ -1,29 +1,14 @@
 -- A book's order of offers, whose prices have parts of at least 1.
-use Rattle.std.proofs.Common.{◌≡◌, ◌≢◌, refl, sym, ap, ◌∙◌, ℕ, ℤ, ◌*◌, ◌<◌, ◌≤◌, true, not}
-use Rattle.std.proofs.Math.Nat.{mul_right_comm, mul-lt-mul_of_pos_right}
+use Rattle.op_laws.proofs.Prelude.{◌≡◌, ◌≢◌, refl, sym, ap, ◌∙◌, ℕ, ◌*◌, ◌<◌, ◌≤◌, true, not, mul_right_comm}
+use Rattle.op_laws.proofs.Prelude.{mul-lt-mul_of_pos_right, IsTotalOrder, nat_cmp_is, int_cmp-IsAntisymmetric}
+use Rattle.op_laws.proofs.Prelude.{ordering_then, ordering_reverse, nat_cmp, int_cmp, is_lt, MatchOrdering, then_cmp}
+use Rattle.op_laws.proofs.Prelude.{unsigned_abs, Ordering, Less, Equal, Greater, OfferEntry, IsPriced, price_cmp}
+use Rattle.op_laws.proofs.Prelude.{goes_before, unsigned_abs_positive, is_lt_true_Less, then_not_Equal}
+use Rattle.std.proofs.Common.{ℤ}
 use Rattle.std.proofs.lemmas.Cmp.{nat_cmp_total, int_cmp_total, then_total}
-use Rattle.std.specs.Cmp.{IsTotalOrder, ranked, nat_cmp_is}
-use Rattle.std.specs.FinMap.{int_cmp-IsAntisymmetric}
-use Rattle.std.specs.Ordering.{ordering_then, ordering_reverse, nat_cmp, int_cmp, is_lt, MatchOrdering, then_cmp}
-use Rattle.std.specs.Prelude.{unsigned_abs}
-use Rattle.std.specs.declared.cmp.Ordering.{Ordering}
-use Rattle.std.specs.declared.cmp.Ordering.TheVariants.{Less, Equal, Greater}
-use Rattle.op_flags.specs.ledger_types.declared.offer.OfferEntry.{OfferEntry}
-use Rattle.op_flags.specs.ledger_types.Prices.{IsPriced}
-use Rattle.op_flags.specs.entry_map.Book.{price_cmp, goes_before}
-use Rattle.op_flags.proofs.trade_cross_proofs.StepLegal.{abs_some}
+use Rattle.std.specs.Cmp.{ranked}
 
 -- ---- orderings
-
-less : (r : Ordering) → is_lt r ≡ true → r ≡ Less
-less Less h = refl
-less Equal h = absurd (cc)
-less Greater h = absurd (cc)
-
-untied : (x y : Ordering) → y ≢ Equal → ordering_then x y ≢ Equal
-untied Less y h e = absurd (cc)
-untied Equal y h e = h e
-untied Greater y h e = absurd (cc)
 
 reversed : (x y : Ordering) → x ≢ Equal → y ≡ ordering_reverse x → is_lt y ≡ not (is_lt x)
 reversed Less y h is = ap is_lt is
@@ -81,7 +66,7 @@ order a b = ordering_then (price_cmp a.price b.price) (int_cmp a.offer_id b.offe
 -- of two offers with distinct ids one goes before the other
 pub one_before : (a b : OfferEntry) → a.offer_id ≢ b.offer_id → goes_before b a ≡ not (goes_before a b)
 one_before a b apart = reversed (order a b) (order b a)
-    (untied (price_cmp a.price b.price) (int_cmp a.offer_id b.offer_id)
+    (then_not_Equal (price_cmp a.price b.price) (int_cmp a.offer_id b.offer_id)
     (λ e. apart (int_cmp-IsAntisymmetric a.offer_id b.offer_id e)))
     (rank_total.antisymm (n_of b * d_of a, b.offer_id) (n_of a * d_of b, a.offer_id))
 
@@ -102,18 +87,18 @@ module _ (a b c : OfferEntry) (a_priced : IsPriced a.price) (b_priced : IsPriced
 
     a_b : rank_cmp rank_a rank_b ≡ order a b
     a_b = ap (λ r. ordering_then r (int_cmp a.offer_id b.offer_id))
-        (scaled (n_of a * d_of b) (n_of b * d_of a) (d_of c) (abs_some c.price.d c_priced.d))
+        (scaled (n_of a * d_of b) (n_of b * d_of a) (d_of c) (unsigned_abs_positive c.price.d c_priced.d))
 
     b_c : rank_cmp rank_b rank_c ≡ order b c
     b_c = ap (λ r. ordering_then r (int_cmp b.offer_id c.offer_id))
         ((λ i. nat_cmp (mul_right_comm (n_of b) (d_of a) (d_of c) i) (mul_right_comm (n_of c) (d_of a) (d_of b) i))
-        ∙ scaled (n_of b * d_of c) (n_of c * d_of b) (d_of a) (abs_some a.price.d a_priced.d))
+        ∙ scaled (n_of b * d_of c) (n_of c * d_of b) (d_of a) (unsigned_abs_positive a.price.d a_priced.d))
 
     a_c : rank_cmp rank_a rank_c ≡ order a c
     a_c = ap (λ r. ordering_then r (int_cmp a.offer_id c.offer_id))
         (ap (λ x. nat_cmp x (n_of c * d_of a * d_of b)) (mul_right_comm (n_of a) (d_of b) (d_of c))
-        ∙ scaled (n_of a * d_of c) (n_of c * d_of a) (d_of b) (abs_some b.price.d b_priced.d))
+        ∙ scaled (n_of a * d_of c) (n_of c * d_of a) (d_of b) (unsigned_abs_positive b.price.d b_priced.d))
 
     pub before_both : goes_before a b ≡ true → goes_before b c ≡ true → goes_before a c ≡ true
     before_both first second = ap is_lt (sym a_c
-        ∙ rank_total.trans rank_a rank_b rank_c (a_b ∙ less (order a b) first) (b_c ∙ less (order b c) second))
+        ∙ rank_total.trans rank_a rank_b rank_c (a_b ∙ is_lt_true_Less (order a b) first) (b_c ∙ is_lt_true_Less (order b c) second))

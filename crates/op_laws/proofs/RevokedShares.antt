@@ -1,67 +1,39 @@
 -- What a revocation of shares of pools moves, and that each holder has it.
-use Rattle.std.proofs.Common.{◌≡◌, inl, inr, refl, sym, subst, ◌∙◌, ℕ, Bool, true, false, List, [], ◌∷◌, ◌++◌}
-use Rattle.std.proofs.Common.{Option, Some, None, Result, Ok, if◌then◌else◌, arith}
-use Rattle.std.proofs.lemmas.Int.{ints}
-use Rattle.std.specs.Ordering.{is_eq}
-use Rattle.std.specs.Prelude.{ℤ, pos, neg_ℤ, ◌+ℤ◌}
-use Rattle.op_flags.specs.ledger_types.declared.ids.AccountId.{AccountId}
-use Rattle.op_flags.specs.ledger_types.declared.ids.Hash.{Hash}
-use Rattle.op_flags.specs.ledger_types.declared.asset.Asset.{Asset}
+use Rattle.op_laws.proofs.Prelude as prelude
+use prelude.{◌≡◌, inl, inr, refl, sym, subst, ◌∙◌, ℕ, Bool, true, false, List, [], ◌∷◌, ◌++◌, Option, Some, None}
+use prelude.{Result, Ok, arith, ints, is_eq, ℤ, pos, neg_ℤ, ◌+ℤ◌, AccountId, Hash, Asset, TrustLineEntry}
+use prelude.{LiquidityPoolEntry, LedgerKey, asset_cmp, OperationResult, is_valid_asset, EntryMap, HasAccount, line_at}
+use prelude.{pool_at, total, Ctx, is_key, Increase, none_more, both_more, under_key, view, AreEntriesLegal, of_asset}
+use prelude.{held, Leaves, leaves_itself, leaves_both, leaves_as, view_of, owing_of, part_of, with_change}
+use prelude.{map_after_withdrawing, gone_legal, both_of, sharing_legal, sharing_left, line_paid, is_issued_by, Holder}
+use prelude.{Move, OfAccount, OfBalance, OfPool, Revoked, Given, revoked_id, move_to, left, payer_of_share, given_of}
+use prelude.{map_without_shares, share_revoked_by, share_revoked_of, share_revoked, all_revoked, pools_revoked}
+use prelude.{shares_revoked, went_after, gained, issued, is_issuer, location_of, add_neg_self, add_zero, zero_add}
+use Rattle.std.proofs.Common.{if◌then◌else◌}
 use Rattle.op_flags.specs.ledger_types.declared.asset.TrustLineAsset.TheVariants as line
-use Rattle.op_flags.specs.ledger_types.declared.trust_line.TrustLineEntry.{TrustLineEntry}
-use Rattle.op_flags.specs.ledger_types.declared.liquidity_pool.LiquidityPoolEntry.{LiquidityPoolEntry}
-use Rattle.op_flags.specs.ledger_types.declared.key.LedgerKey.{LedgerKey}
 use Rattle.op_flags.specs.ledger_types.declared.key.LedgerKey.TheVariants as key
-use Rattle.op_flags.specs.ledger_types.KeyOrder.{asset_cmp}
-use Rattle.op_flags.specs.op_types.declared.operation_result.OperationResult.{OperationResult}
-use Rattle.op_flags.specs.valid_values.Assets.{is_valid_asset}
-use Rattle.op_flags.specs.entry_map.EntryMap.{EntryMap}
-use Rattle.op_flags.specs.entry_slots.Accounts.{HasAccount}
-use Rattle.op_flags.specs.entry_slots.Lines.{line_at}
-use Rattle.op_flags.specs.entry_slots.Pools.{pool_at}
-use Rattle.op_flags.specs.entry_sums.Sums.{total}
-use Rattle.op_flags.specs.sponsor_rules.declared.context.Ctx.{Ctx}
-use Rattle.op_flags.specs.legal_rules.EntryKeys.{is_key}
-use Rattle.op_flags.specs.legal_rules.Holdings.{Increase, none_more, both_more, under_key}
-use Rattle.op_flags.specs.legal_rules.Legal.{view}
-use Rattle.op_flags.specs.legal_rules.Owing.{AreEntriesLegal}
-use Rattle.op_flags.specs.legal_rules.Supply.{of_asset, held}
-use Rattle.op_flags.proofs.legal_rules_proofs.Holdings.{nothing_more}
-use Rattle.op_flags.proofs.legal_rules_proofs.Leaving.{Leaves, leaves_itself, leaves_both, leaves_as}
-use Rattle.op_flags.proofs.legal_rules_proofs.Legality.{view_of, owing_of}
-use Rattle.op_flags.specs.pool_shares.Withdrawing.{part_of, with_change, map_after_withdrawing}
-use Rattle.op_flags.proofs.pool_shares_proofs.Gone.{gone_legal}
-use Rattle.op_flags.proofs.pool_shares_proofs.Sharing.{both_of, sharing_legal, sharing_left}
-use Rattle.op_flags.specs.trade_cross.Holdings.{line_paid}
-use Rattle.op_flags.specs.op_form.Assets.{is_issued_by}
-use Rattle.op_flags.specs.op_form.Done.{Holder, Move, OfAccount, OfBalance, OfPool}
-use Rattle.op_flags.specs.RevokedShares.{Revoked, Given, revoked_id, move_to, left, payer_of_share, given_of}
-use Rattle.op_flags.specs.RevokedShares.{map_without_shares, and_then, share_revoked_by, share_revoked_of}
-use Rattle.op_flags.specs.RevokedShares.{share_revoked, all_revoked}
-use Rattle.op_flags.specs.RevokedShares.{pools_revoked, shares_revoked}
+use Rattle.op_flags.specs.RevokedShares.{and_then}
 use Rattle.op_flags.proofs.Shares.{can_give_all}
 use Rattle.op_flags.proofs.SharesRevoked.{payer_there, first_valid, second_valid, withdrawn_legal, line_empty}
-use Rattle.op_flags.proofs.SharesRevoked.{pool_left_there, gone_entries, then_gone, still_stands, IsLeft, IsPut}
+use Rattle.op_flags.proofs.SharesRevoked.{pool_left_there, gone_entries, then_gone, still_exists, IsLeft, IsPut}
 use Rattle.op_flags.proofs.SharesRevoked.{left_so, put_legal, put_left, left_good, both_so}
-use Rattle.op_flags.proofs.Went.{went_after}
-use Rattle.op_laws.specs.Moves.{gained, issued, is_issuer, place_of}
 use Rattle.op_laws.proofs.AsideMoves.{pool_issues_none, balance_issues_none}
-use Rattle.op_laws.proofs.Issued.{issued_behind}
+use Rattle.op_laws.proofs.Issued.{issued_after}
 use Rattle.op_laws.proofs.IssuedMoves.{same_issuer, issued_so, issued_by_move}
-use Rattle.op_laws.proofs.Told.{Tells, tells_both, more_for, moved, move_tells, account_place, balance_place}
-use Rattle.op_laws.proofs.Told.{pool_place, pool_more, balance_more, more_at, none_at, redeemed_more}
+use Rattle.op_laws.proofs.Described.{Describes, describes_both, more_for, moved, move_describes, account_location, balance_location}
+use Rattle.op_laws.proofs.Described.{pool_location, pool_more, balance_more, more_at, none_at, redeemed_more}
 use Rattle.op_laws.proofs.Parts.{IsPart, no_part, both_parts}
 
 -- ---- what becomes of an amount that a pool gives
 
--- What the pool gives is told together with what becomes of it.
+-- What the pool gives is stated together with what becomes of it.
 pub record IsGiven (base : ℕ) (held_asset : Asset) (pool : Hash) (n : ℕ) (old new : EntryMap) (moves : List Move)
     : Type 0 where
   pub more : Increase
   pub put : Asset → ℤ
   pub left : Leaves base more old new
   pub supply : (x : Asset) → total (held x) new ≡ (total (held x) old +ℤ put x)
-  pub tells : Tells (both_more more (under_key (key.LiquidityPool pool) (λ x. of_asset x held_asset (neg_ℤ (pos n)))))
+  pub describes : Describes (both_more more (under_key (key.LiquidityPool pool) (λ x. of_asset x held_asset (neg_ℤ (pos n)))))
       moves
   pub issues : (x : Asset) → (of_asset x held_asset (neg_ℤ (pos n)) +ℤ put x) ≡ issued x moves
 
@@ -74,9 +46,6 @@ none_given : (s b : Bool) (n : ℕ) → n ≡ 0
 none_given true true n none = omega (arith, ints)
 none_given true false n none = refl
 none_given false b n none = refl
-
-zero_more : (x : ℤ) → (pos 0 +ℤ x) ≡ x
-zero_more x = omega (arith, ints)
 
 and_nothing : (x : ℤ) → x ≡ pos 0 → (x +ℤ pos 0) ≡ pos 0
 and_nothing x none = omega (arith, ints)
@@ -92,15 +61,15 @@ between_of : (b : Bool) (n : ℤ)
 between_of true n = omega (arith, ints)
 between_of false n = refl
 
--- moves tell what they do, whatever form that has
+-- moves say what they do, whatever form that has
 more_as : (d e : Increase) → ((k : LedgerKey) (x : Asset) → d k x ≡ e k x) → (x : Asset) (o : Option LedgerKey)
     → more_at d x o ≡ more_at e x o
 more_as d e same x None = refl
 more_as d e same x (Some k) = same k x
 
-tells_as : (d e : Increase) (moves : List Move) → ((k : LedgerKey) (x : Asset) → d k x ≡ e k x) → Tells e moves
-    → Tells d moves
-tells_as d e moves same tells x holder other = more_as d e same x (place_of x holder) ∙ tells x holder other
+describes_as : (d e : Increase) (moves : List Move) → ((k : LedgerKey) (x : Asset) → d k x ≡ e k x) → Describes e moves
+    → Describes d moves
+describes_as d e moves same describes x holder other = more_as d e same x (location_of x holder) ∙ describes x holder other
 
 module _ (id_pool : ℕ) (ctx : Ctx) (given : Given) (m : EntryMap) (legal : AreEntriesLegal id_pool m) where
   abbrev base : ℕ
@@ -121,13 +90,13 @@ module _ (id_pool : ℕ) (ctx : Ctx) (given : Given) (m : EntryMap) (legal : Are
   gives_is : (k : LedgerKey) (x : Asset) → gives k x ≡ more_for given.asset from (neg_ℤ n) k x
   gives_is k x = pool_more given.asset given.pool (neg_ℤ n) k x
 
-  tells_none : given.amount ≡ 0 → Tells (both_more none_more gives) []
+  describes_none : given.amount ≡ 0 → Describes (both_more none_more gives) []
   unfolding gained
-  tells_none none x holder other =
+  describes_none none x holder other =
       more_as (both_more none_more gives) none_more
       (λ k y. none_given (is_key k (key.LiquidityPool given.pool)) (is_eq (asset_cmp y given.asset)) given.amount none)
-      x (place_of x holder)
-      ∙ none_at x (place_of x holder)
+      x (location_of x holder)
+      ∙ none_at x (location_of x holder)
 
   issues_none : given.amount ≡ 0 → (x : Asset) → (of_asset x given.asset (neg_ℤ n) +ℤ pos 0) ≡ issued x []
   unfolding issued
@@ -139,8 +108,8 @@ module _ (id_pool : ℕ) (ctx : Ctx) (given : Given) (m : EntryMap) (legal : Are
     more = none_more;
     put = λ x. pos 0;
     left = leaves_itself base m legal.keyed;
-    supply = λ x. nothing_more (total (held x) m);
-    tells = tells_none none;
+    supply = λ x. sym (add_zero (total (held x) m));
+    describes = describes_none none;
     issues = issues_none none;
   }
 
@@ -152,17 +121,17 @@ module _ (id_pool : ℕ) (ctx : Ctx) (given : Given) (m : EntryMap) (legal : Are
         more = none_more;
         put = λ x. pos 0;
         left = leaves_itself base m legal.keyed;
-        supply = λ x. nothing_more (total (held x) m);
-        tells = tells_as (both_more none_more gives) (moved given.asset from to n) (move_to given to ∷ [])
-            (λ k x. zero_more (gives k x) ∙ gives_is k x ∙ redeemed_more given.asset from to n (sym issuer) k x)
-            (move_tells given.asset from to n (pool_place given.asset given.pool)
-            (account_place given.asset given.trustor));
+        supply = λ x. sym (add_zero (total (held x) m));
+        describes = describes_as (both_more none_more gives) (moved given.asset from to n) (move_to given to ∷ [])
+            (λ k x. zero_add (gives k x) ∙ gives_is k x ∙ redeemed_more given.asset from to n (sym issuer) k x)
+            (move_describes given.asset from to n (pool_location given.asset given.pool)
+            (account_location given.asset given.trustor));
         issues = λ x. redeemed_of (is_eq (asset_cmp x given.asset)) n
             ∙ (λ i. of_asset x given.asset (issued_so (pool_issues_none given.asset given.pool i) (issuer i) n))
             ∙ issued_by_move x given.asset from to n;
       }
 
-  module _ (r : Revoked) (stands : HasAccount m given.payer)
+  module _ (r : Revoked) (exists : HasAccount m given.payer)
       (valid : is_issued_by given.asset given.trustor ≡ false → is_valid_asset given.asset ≡ true) where
     put_so : IsPut ctx given m r → IsSo r.entries (move_to given (OfBalance (revoked_id ctx given)) ∷ [])
     put_so put =
@@ -171,13 +140,13 @@ module _ (id_pool : ℕ) (ctx : Ctx) (given : Given) (m : EntryMap) (legal : Are
         record {
           more = under_key (key.ClaimableBalance id) (λ x. of_asset x given.asset n);
           put = λ x. of_asset x given.asset n;
-          left = put_left id_pool ctx given m r stands valid put legal.keyed;
-          supply = λ x. (put_legal id_pool ctx given m r stands valid put (view_of x m) (total (held x) m)
+          left = put_left id_pool ctx given m r exists valid put legal.keyed;
+          supply = λ x. (put_legal id_pool ctx given m r exists valid put (view_of x m) (total (held x) m)
               (owing_of x id_pool m legal)).supply;
-          tells = tells_as (both_more (under_key (key.ClaimableBalance id) (λ x. of_asset x given.asset n)) gives)
+          describes = describes_as (both_more (under_key (key.ClaimableBalance id) (λ x. of_asset x given.asset n)) gives)
               (moved given.asset from to n) (move_to given to ∷ [])
               (λ k x i. balance_more given.asset id n k x i +ℤ gives_is k x i)
-              (move_tells given.asset from to n (pool_place given.asset given.pool) (balance_place given.asset id));
+              (move_describes given.asset from to n (pool_location given.asset given.pool) (balance_location given.asset id));
           issues = λ x. between_of (is_eq (asset_cmp x given.asset)) n
               ∙ (λ i. of_asset x given.asset (issued_so (pool_issues_none given.asset given.pool i)
               (balance_issues_none given.asset id i) n))
@@ -186,8 +155,8 @@ module _ (id_pool : ℕ) (ctx : Ctx) (given : Given) (m : EntryMap) (legal : Are
 
     as_it_is : (entries : EntryMap) (moves : List Move) → IsSo entries moves → r.entries ≡ entries → r.moves ≡ moves
         → IsSo r.entries r.moves
-    as_it_is entries moves so left told =
-        subst (λ (e : EntryMap). IsSo e r.moves) (sym left) (subst (IsSo entries) (sym told) so)
+    as_it_is entries moves so left described =
+        subst (λ (e : EntryMap). IsSo e r.moves) (sym left) (subst (IsSo entries) (sym described) so)
 
     pub given_so : IsLeft ctx given m r → IsSo r.entries r.moves
     given_so (inl none) = as_it_is m [] (nothing_so none.none) none.entries none.moved
@@ -197,9 +166,6 @@ module _ (id_pool : ℕ) (ctx : Ctx) (given : Given) (m : EntryMap) (legal : Are
         as_it_is r.entries (move_to given (OfBalance (revoked_id ctx given)) ∷ []) (put_so put) refl put.moved
 
 -- ---- one line of shares
-
-none_left : (n : ℤ) → (n +ℤ neg_ℤ n) ≡ pos 0
-none_left n = omega (arith, ints)
 
 -- what the pool loses is what it gives of both assets
 in_all : (s : Bool) (f g a b : ℤ)
@@ -216,7 +182,7 @@ supply_of all taken gone first second a b f g x y both w e p q is also sum = ome
 module _ (ctx : Ctx) (low : OperationResult) (m : EntryMap) (legal : AreEntriesLegal ctx.id_pool m) (id : AccountId)
     (pool : Hash) where
   module _ (t : TrustLineEntry) (p : LiquidityPoolEntry) (has : line_at m id (line.PoolShare pool) ≡ Some t)
-      (stands : pool_at m pool ≡ Some p) (r : Revoked)
+      (exists : pool_at m pool ≡ Some p) (r : Revoked)
       (is : share_revoked_by ctx low id pool p t m ≡ Ok r) where
     abbrev id_pool : ℕ
     id_pool = ctx.id_pool
@@ -248,7 +214,7 @@ module _ (ctx : Ctx) (low : OperationResult) (m : EntryMap) (legal : AreEntriesL
     both : (first : Revoked) × (second : Revoked) × (left ctx low given_a emptied ≡ Ok first)
         × (left ctx low given_b first.entries ≡ Ok second)
         × (r ≡ record { entries = second.entries; moves = first.moves ++ second.moves })
-    both = both_so ctx low m legal id pool t p has stands r is
+    both = both_so ctx low m legal id pool t p has exists r is
 
     abbrev one : Revoked
     one = both.0
@@ -257,17 +223,17 @@ module _ (ctx : Ctx) (low : OperationResult) (m : EntryMap) (legal : AreEntriesL
     two = both.1
 
     payer_had : HasAccount emptied payer
-    payer_had = still_stands id_pool m legal id pool t p has stands payer
+    payer_had = still_exists id_pool m legal id pool t p has exists payer
         (payer_there (view m) id_pool _ m legal id pool t has)
 
     emptied_legal : AreEntriesLegal id_pool emptied
-    emptied_legal = gone_entries id_pool m legal id pool t p has stands
+    emptied_legal = gone_entries id_pool m legal id pool t p has exists
 
     valid_a : is_issued_by p.params.asset_a id ≡ false → is_valid_asset p.params.asset_a ≡ true
-    valid_a = first_valid (view m) id_pool _ m legal id pool t p has stands
+    valid_a = first_valid (view m) id_pool _ m legal id pool t p has exists
 
     valid_b : is_issued_by p.params.asset_b id ≡ false → is_valid_asset p.params.asset_b ≡ true
-    valid_b = second_valid (view m) id_pool _ m legal id pool t p has stands
+    valid_b = second_valid (view m) id_pool _ m legal id pool t p has exists
 
     is_a : IsLeft ctx given_a emptied one
     is_a = left_so ctx low given_a emptied one both.2
@@ -307,35 +273,35 @@ module _ (ctx : Ctx) (low : OperationResult) (m : EntryMap) (legal : AreEntriesL
         (leaves_both reserve (both_more (both_more lost none_more) first.more) second.more m one.entries two.entries
         (leaves_both reserve (both_more lost none_more) first.more m emptied one.entries
         (leaves_both reserve lost none_more m withdrawn emptied
-        (sharing_left reserve m legal.keyed id pool t p has stands a b (neg_ℤ t.balance))
-        (then_gone id_pool m legal id pool t p has stands reserve)) first.left) second.left)
+        (sharing_left reserve m legal.keyed id pool t p has exists a b (neg_ℤ t.balance))
+        (then_gone id_pool m legal id pool t p has exists reserve)) first.left) second.left)
         (λ k x. in_all (is_key k at_pool) (first.more k x) (second.more k x) (of_asset x p.params.asset_a a)
         (of_asset x p.params.asset_b b))
 
     taken : (x : Asset) → total (held x) withdrawn ≡ (total (held x) m +ℤ both_of p a b x)
     taken x = (sharing_legal (view_of x m) id_pool (total (held x) m) m id pool t p a b (neg_ℤ t.balance)
-        (owing_of x id_pool m legal) has stands (can_give_all id_pool m legal id pool t p has stands)).supply
+        (owing_of x id_pool m legal) has exists (can_give_all id_pool m legal id pool t p has exists)).supply
 
     gone : (x : Asset) → total (held x) emptied ≡ total (held x) withdrawn
     gone x =
         (gone_legal (view_of x withdrawn) id_pool (total (held x) withdrawn) id pool (line_paid (neg_ℤ t.balance) t)
         (with_change a b (neg_ℤ t.balance) p) withdrawn
-        (owing_of x id_pool withdrawn (withdrawn_legal id_pool m legal id pool t p has stands))
-        (line_empty id_pool m legal id pool t p has stands) (none_left t.balance)
-        (pool_left_there id_pool m legal id pool t p has stands)).supply
+        (owing_of x id_pool withdrawn (withdrawn_legal id_pool m legal id pool t p has exists))
+        (line_empty id_pool m legal id pool t p has exists) (add_neg_self t.balance)
+        (pool_left_there id_pool m legal id pool t p has exists)).supply
 
     by_both : IsPart id_pool reserve m two.entries (one.moves ++ two.moves)
     by_both = record {
       more = both_more (both_more first.more gave_a) (both_more second.more gave_b);
       legal = good_two.0;
       left = all_left;
-      tells = tells_both (both_more first.more gave_a) (both_more second.more gave_b) one.moves two.moves first.tells
-          second.tells;
+      describes = describes_both (both_more first.more gave_a) (both_more second.more gave_b) one.moves two.moves first.describes
+          second.describes;
       supply = λ x. supply_of (total (held x) m) (total (held x) withdrawn) (total (held x) emptied)
           (total (held x) one.entries) (total (held x) two.entries) (of_asset x p.params.asset_a a)
           (of_asset x p.params.asset_b b) (first.put x) (second.put x) (issued x one.moves) (issued x two.moves)
           (issued x (one.moves ++ two.moves)) (taken x) (gone x) (first.supply x) (second.supply x) (first.issues x)
-          (second.issues x) (issued_behind x one.moves two.moves);
+          (second.issues x) (issued_after x one.moves two.moves);
     }
 
     line_part : IsPart id_pool reserve m r.entries r.moves
@@ -354,9 +320,9 @@ module _ (ctx : Ctx) (low : OperationResult) (m : EntryMap) (legal : AreEntriesL
   share_by : (o : Option TrustLineEntry) (q : Option LiquidityPoolEntry) → line_at m id (line.PoolShare pool) ≡ o
       → pool_at m pool ≡ q → (r : Revoked) → share_revoked_of ctx low id pool m o q ≡ Ok r
       → IsPart ctx.id_pool ctx.base_reserve m r.entries r.moves
-  share_by (Some t) (Some p) has stands r is = line_part t p has stands r is
-  share_by (Some t) None has stands r is = unchanged_part r is
-  share_by None q has stands r is = unchanged_part r is
+  share_by (Some t) (Some p) has exists r is = line_part t p has exists r is
+  share_by (Some t) None has exists r is = unchanged_part r is
+  share_by None q has exists r is = unchanged_part r is
 
   share_part : (r : Revoked) → share_revoked ctx low id pool m ≡ Ok r
       → IsPart ctx.id_pool ctx.base_reserve m r.entries r.moves

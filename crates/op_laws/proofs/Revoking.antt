@@ -1,53 +1,24 @@
 -- REVOKE_SPONSORSHIP is lawful.
-use Rattle.std.proofs.Common.{◌≡◌, subst, ℕ, [], ◌∷◌}
-use Rattle.std.proofs.Common.{List, Option, Some, None, Ok, slice_set}
-use Rattle.std.specs.Prelude.{pos}
-use Rattle.std.specs.FinMap.{get}
-use Rattle.op_flags.specs.ledger_types.declared.ids.AccountId.{AccountId}
-use Rattle.op_flags.specs.ledger_types.declared.account.AccountEntry.{AccountEntry}
-use Rattle.op_flags.specs.ledger_types.declared.entry.LedgerEntry.{LedgerEntry}
-use Rattle.op_flags.specs.ledger_types.declared.key.LedgerKey.{LedgerKey}
-use Rattle.op_flags.specs.ledger_types.declared.signer.SignerKey.{SignerKey}
-use Rattle.op_flags.specs.entry_map.EntryMap.{EntryMap}
-use Rattle.op_flags.specs.entry_slots.Accounts.{account_at, with_account, HasAccount}
-use Rattle.op_flags.specs.entry_slots.EntrySponsor.{sponsor_of}
-use Rattle.op_flags.specs.entry_slots.Tests.{first_fault}
+use Rattle.op_laws.proofs.Prelude as prelude
+use prelude.{◌≡◌, subst, ℕ, [], ◌∷◌, List, Option, Some, None, Ok, slice_set, pos, get, AccountId, AccountEntry}
+use prelude.{LedgerEntry, LedgerKey, SignerKey, EntryMap, account_at, with_account, HasAccount, sponsor_of, first_fault}
+use prelude.{Ctx, charge_of, map_after_exchange, with_other_payer, open_sponsor, payer_other_than, payer_tests_at}
+use prelude.{move_tests_at, found_signer, with_moved_signer, map_after_moving_signer_between, map_after_moving_found}
+use prelude.{map_after_moving_signer, counts_edited, with_sponsors_core, nothing_owed, sponsors_ready, entry_moved_so}
+use prelude.{nothing_settled, signer_moved_so, Done, is_malformed, entry_tests, entry_moved, entry_revoked}
+use prelude.{signer_tests, signer_moved, revoke_sponsorship, IsLawful, AreLawful, IsUnderway, exchanged_kept}
+use prelude.{exchange_kept, payers_had, next_payer, moved_between, sponsor_kept, next_edited, IsKeyed, none_more}
+use prelude.{IsNext, Leaves, leaves_itself, keeps_both, went_on, went_after_some, went_after_charge, unless_first_ok}
 use Rattle.op_flags.specs.sponsor_rules.declared.charge.Charge.{Charge}
 use Rattle.op_flags.specs.sponsor_rules.declared.charge.Charge.TheVariants as charge
-use Rattle.op_flags.specs.sponsor_rules.declared.context.Ctx.{Ctx}
-use Rattle.op_flags.specs.sponsor_rules.declared.signer_place.FoundSigner.{FoundSigner}
-use Rattle.op_flags.specs.sponsor_rules.Charge.{charge_of}
+use Rattle.op_flags.specs.sponsor_rules.declared.signer_index.FoundSigner.{FoundSigner}
 use Rattle.op_flags.specs.sponsor_rules.Moving.{map_with_sponsor, map_after_moving_balance, map_after_moving_by}
 use Rattle.op_flags.specs.sponsor_rules.Moving.{map_after_moving_entry, map_after_moving}
-use Rattle.op_flags.specs.sponsor_rules.Paying.{map_after_exchange, with_other_payer}
-use Rattle.op_flags.specs.sponsor_rules.Payers.{open_sponsor, payer_other_than, payer_tests_at, move_tests_at}
-use Rattle.op_flags.specs.sponsor_rules.SignerPlace.{found_signer}
-use Rattle.op_flags.specs.sponsor_rules.Signers.{with_moved_signer, map_after_moving_signer_between}
-use Rattle.op_flags.specs.sponsor_rules.Signers.{map_after_moving_found}
-use Rattle.op_flags.specs.sponsor_rules.Signers.{map_after_moving_signer}
-use Rattle.op_flags.proofs.sponsor_rules_proofs.Keeping.{counts_edited, with_sponsors_means}
-use Rattle.op_flags.specs.legal_rules.Owing.{nothing_owed}
-use Rattle.op_flags.proofs.legal_rules_proofs.Given.{sponsors_ready}
-use Rattle.op_flags.proofs.legal_rules_proofs.Kept.{entry_moved_so}
-use Rattle.op_flags.proofs.legal_rules_proofs.PaidFor.{nothing_settled}
-use Rattle.op_flags.proofs.legal_rules_proofs.SignersKept.{signer_moved as signer_moved_so}
 use Rattle.op_flags.specs.op_types.declared.sponsor_ops.RevokeSponsorshipOp.{RevokeSponsorshipOp}
 use Rattle.op_flags.specs.op_types.declared.sponsor_ops.RevokeSponsorshipOp.TheVariants as revoked
 use Rattle.op_flags.specs.op_types.declared.sponsor_results.RevokeSponsorshipResult.TheVariants as revoke
-use Rattle.op_flags.specs.op_form.Done.{Done}
-use Rattle.op_sponsor.specs.RevokeSponsorship.{answer, is_malformed, entry_tests, entry_moved, entry_revoked}
-use Rattle.op_sponsor.specs.RevokeSponsorship.{signer_tests, signer_moved, revoke_sponsorship}
-use Rattle.op_laws.specs.Laws.{IsLawful, AreLawful}
-use Rattle.op_laws.specs.Underway.{IsUnderway}
-use Rattle.op_flags.proofs.legal_rules_proofs.ChargesLeft.{exchanged_kept, exchange_kept, payers_had, next_payer}
-use Rattle.op_flags.proofs.legal_rules_proofs.ChargesLeft.{moved_between}
-use Rattle.op_flags.proofs.legal_rules_proofs.ChargesLeft.{sponsor_kept}
+use Rattle.op_sponsor.specs.RevokeSponsorship.{answer}
 use Rattle.op_laws.proofs.Lawful.{lawful_still}
-use Rattle.op_flags.proofs.legal_rules_proofs.ReservesLeft.{next_edited}
-use Rattle.op_flags.specs.legal_rules.Holdings.{IsKeyed, none_more}
-use Rattle.op_flags.proofs.legal_rules_proofs.Leaving.{IsNext, Leaves, leaves_itself, keeps_both}
-use Rattle.op_flags.proofs.legal_rules_proofs.Passed.{passed}
-use Rattle.op_flags.proofs.Went.{went_on, went_after_some, went_after_charge}
 
 module _ (ctx : Ctx) (m new : EntryMap) (keyed : IsKeyed m) where
   abbrev IsLeft : EntryMap → Type 0
@@ -64,7 +35,7 @@ module _ (ctx : Ctx) (m new : EntryMap) (keyed : IsKeyed m) where
   balance_left k n s (Some x) done =
       let now = map_after_exchange n s (Some x) m in
       let after = map_with_sponsor k (Some x) now in
-      let test = passed (payer_tests_at ctx m x n) after new done in
+      let test = unless_first_ok (payer_tests_at ctx m x n) after new done in
       let had = payers_had ctx m x n None (Some x) test.0 in
       let first = exchange_kept ctx.base_reserve n s (Some x) m keyed had.0 in
       subst IsLeft test.1 (keeps_both ctx.base_reserve m now after first
@@ -88,43 +59,43 @@ module _ (ctx : Ctx) (m new : EntryMap) (keyed : IsKeyed m) where
   -- ---- signers
 
   -- the next account with another sponsor of a signer
-  signer_next : (place : ℕ) (s t : Option AccountId) (a : AccountEntry)
+  signer_next : (index : ℕ) (s t : Option AccountId) (a : AccountEntry)
       → IsNext ctx.base_reserve (pos 0) a (with_other_payer 1 s t a)
-      → IsNext ctx.base_reserve (pos 0) a (with_moved_signer place s t a)
-  signer_next place s t a next =
+      → IsNext ctx.base_reserve (pos 0) a (with_moved_signer index s t a)
+  signer_next index s t a next =
       let b = with_other_payer 1 s t a in
-      let change = λ (xs : List (Option AccountId)). slice_set xs place t in
-      next_edited ctx.base_reserve (pos 0) a b (with_moved_signer place s t a) next
-      (with_sponsors_means change b b.signers) (λ which. counts_edited change which b b.signers)
+      let change = λ (xs : List (Option AccountId)). slice_set xs index t in
+      next_edited ctx.base_reserve (pos 0) a b (with_moved_signer index s t a) next
+      (with_sponsors_core change b b.signers) (λ which. counts_edited change which b b.signers)
 
-  signer_so : (id : AccountId) (place : ℕ) (s t : Option AccountId) → first_fault (move_tests_at ctx m id t 1) ≡ None
-      → with_account (map_after_exchange 1 s t m) id (with_moved_signer place s t) ≡ new → IsLeft new
-  signer_so id place s t none is =
+  signer_so : (id : AccountId) (index : ℕ) (s t : Option AccountId) → first_fault (move_tests_at ctx m id t 1) ≡ None
+      → with_account (map_after_exchange 1 s t m) id (with_moved_signer index s t) ≡ new → IsLeft new
+  signer_so id index s t none is =
       let had = payers_had ctx m id 1 s t none in
-      subst IsLeft is (exchanged_kept ctx.base_reserve 1 s t id (with_moved_signer place s t) m keyed had.0
-      (λ a stands. signer_next place s t a (next_payer ctx.base_reserve 1 s t id m keyed had.1 a stands)))
+      subst IsLeft is (exchanged_kept ctx.base_reserve 1 s t id (with_moved_signer index s t) m keyed had.0
+      (λ a exists. signer_next index s t a (next_payer ctx.base_reserve 1 s t id m keyed had.1 a exists)))
 
-  signer_left : (id : AccountId) (place : ℕ) (s t : Option AccountId)
-      → map_after_moving_signer_between ctx id place s t m ≡ Ok new → IsLeft new
-  signer_left id place None None done = still_left (cc)
-  signer_left id place None (Some x) done =
-      let test = passed (move_tests_at ctx m id (Some x) 1)
-      (with_account (map_after_exchange 1 None (Some x) m) id (with_moved_signer place None (Some x))) new done in
-      signer_so id place None (Some x) test.0 test.1
-  signer_left id place (Some y) None done =
-      let test = passed (move_tests_at ctx m id None 1)
-      (with_account (map_after_exchange 1 (Some y) None m) id (with_moved_signer place (Some y) None)) new done in
-      signer_so id place (Some y) None test.0 test.1
-  signer_left id place (Some y) (Some x) done =
-      let test = passed (move_tests_at ctx m id (Some x) 1)
-      (with_account (map_after_exchange 1 (Some y) (Some x) m) id (with_moved_signer place (Some y) (Some x))) new done
+  signer_left : (id : AccountId) (index : ℕ) (s t : Option AccountId)
+      → map_after_moving_signer_between ctx id index s t m ≡ Ok new → IsLeft new
+  signer_left id index None None done = still_left (cc)
+  signer_left id index None (Some x) done =
+      let test = unless_first_ok (move_tests_at ctx m id (Some x) 1)
+      (with_account (map_after_exchange 1 None (Some x) m) id (with_moved_signer index None (Some x))) new done in
+      signer_so id index None (Some x) test.0 test.1
+  signer_left id index (Some y) None done =
+      let test = unless_first_ok (move_tests_at ctx m id None 1)
+      (with_account (map_after_exchange 1 (Some y) None m) id (with_moved_signer index (Some y) None)) new done in
+      signer_so id index (Some y) None test.0 test.1
+  signer_left id index (Some y) (Some x) done =
+      let test = unless_first_ok (move_tests_at ctx m id (Some x) 1)
+      (with_account (map_after_exchange 1 (Some y) (Some x) m) id (with_moved_signer index (Some y) (Some x))) new done
       in
-      signer_so id place (Some y) (Some x) test.0 test.1
+      signer_so id index (Some y) (Some x) test.0 test.1
 
   found_left : (id : AccountId) (payer : Option AccountId) (o : Option FoundSigner)
       → map_after_moving_found ctx id payer m o ≡ Ok new → IsLeft new
   found_left id payer None done = still_left (cc)
-  found_left id payer (Some found) done = signer_left id found.place found.sponsor (payer_other_than id payer) done
+  found_left id payer (Some found) done = signer_left id found.index found.sponsor (payer_other_than id payer) done
 
 -- ---- the operation
 
@@ -132,8 +103,8 @@ module _ (ctx : Ctx) (m : EntryMap) (done : Done) (under : IsUnderway ctx m) whe
   abbrev payer : Option AccountId
   payer = open_sponsor ctx ctx.op_source
 
-  payer_stands : (x : AccountId) → payer ≡ Some x → HasAccount m x
-  payer_stands = (sponsors_ready ctx m ctx.op_source under.sponsorships).stands
+  payer_exists : (x : AccountId) → payer ≡ Some x → HasAccount m x
+  payer_exists = (sponsors_ready ctx m ctx.op_source under.sponsorships).exists
 
   entry_lawful : (k : LedgerKey) → entry_moved ctx k m ≡ Ok done → IsLawful ctx m done
   entry_lawful k is =
@@ -143,7 +114,7 @@ module _ (ctx : Ctx) (m : EntryMap) (done : Done) (under : IsUnderway ctx m) whe
       let same : made ≡ done = cc in
       subst (IsLawful ctx m) same (lawful_still ctx m under (answer revoke.Success) went.0
       (λ v sum legal. entry_moved_so v ctx.id_pool nothing_owed sum ctx k payer m went.0 legal nothing_settled
-      payer_stands went.1)
+      payer_exists went.1)
       (entry_left ctx m went.0 under.settled.legal.keyed k payer (get m k) went.1))
 
   signer_lawful : (id : AccountId) (which : SignerKey) → signer_moved ctx id which m ≡ Ok done → IsLawful ctx m done
@@ -155,7 +126,7 @@ module _ (ctx : Ctx) (m : EntryMap) (done : Done) (under : IsUnderway ctx m) whe
       let same : made ≡ done = cc in
       subst (IsLawful ctx m) same (lawful_still ctx m under (answer revoke.Success) went.0
       (λ v sum legal. signer_moved_so v ctx.id_pool nothing_owed sum ctx id which payer m went.0 legal nothing_settled
-      payer_stands went.1)
+      payer_exists went.1)
       (found_left ctx m went.0 under.settled.legal.keyed id payer (found_signer which (account_at m id)) went.1))
 
   by_thing : (op : RevokeSponsorshipOp) → revoke_sponsorship ctx op m ≡ Ok done → IsLawful ctx m done
@@ -168,4 +139,4 @@ module _ (ctx : Ctx) (m : EntryMap) (done : Done) (under : IsUnderway ctx m) whe
       signer_lawful id which (went_on (signer_tests ctx id first.0) (signer_moved ctx id which m) done first.2).1
 
 pub revoke_sponsorship_is_lawful : AreLawful revoke_sponsorship
-revoke_sponsorship_is_lawful ctx op m done under stands is = by_thing ctx m done under op is
+revoke_sponsorship_is_lawful ctx op m done under exists is = by_thing ctx m done under op is

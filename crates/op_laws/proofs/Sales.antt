@@ -1,36 +1,17 @@
 -- An operation that sells an offer is lawful, by what it does before the sale.
-use Rattle.std.proofs.Common.{◌≡◌, refl, ap, subst, ◌∙◌, ℕ, ◌+◌, ◌≤◌, zero, suc, List, Ok, arith}
-use Rattle.std.specs.Prelude.{ℤ, pos, neg_ℤ, ◌+ℤ◌}
-use Rattle.op_flags.specs.ledger_types.declared.asset.Asset.{Asset}
+use Rattle.op_laws.proofs.Prelude.{◌≡◌, refl, ap, subst, ◌∙◌, ℕ, ◌+◌, ◌≤◌, zero, suc, List, Ok, arith, ℤ, pos, neg_ℤ}
+use Rattle.op_laws.proofs.Prelude.{◌+ℤ◌, Asset, OperationResult, EntryMap, sponsor_of, total, Ctx, View, none_more}
+use Rattle.op_laws.proofs.Prelude.{both_more, more_at, view, one_more, nothing_owed, IsLegalOwing, AreSponsorshipsSound}
+use Rattle.op_laws.proofs.Prelude.{held, Leaves, leaves_as, keeps_then, kept_at, kept_in, more_in, AreTraded, Done}
+use Rattle.op_laws.proofs.Prelude.{Move, OfAccount, drawn, moves_of, Asked, source_gives_at, source_takes_at, trade_of}
+use Rattle.op_laws.proofs.Prelude.{Sold, sold, IsLawful, issued, IsUnderway, AreDrawn, add_assoc}
 use Rattle.op_flags.specs.ledger_types.declared.asset.Asset.TheVariants as asset
-use Rattle.op_flags.specs.op_types.declared.operation_result.OperationResult.{OperationResult}
-use Rattle.op_flags.specs.entry_map.EntryMap.{EntryMap}
-use Rattle.op_flags.specs.entry_slots.EntrySponsor.{sponsor_of}
-use Rattle.op_flags.specs.entry_sums.Sums.{total}
-use Rattle.op_flags.specs.sponsor_rules.declared.context.Ctx.{Ctx}
-use Rattle.op_flags.specs.legal_rules.Books.{View}
-use Rattle.op_flags.specs.legal_rules.Holdings.{none_more, both_more, more_at}
-use Rattle.op_flags.specs.legal_rules.Legal.{view}
-use Rattle.op_flags.specs.legal_rules.OneMore.{one_more}
-use Rattle.op_flags.specs.legal_rules.Owing.{nothing_owed, IsLegalOwing}
-use Rattle.op_flags.specs.legal_rules.Sponsorships.{AreSponsorshipsSound}
-use Rattle.op_flags.specs.legal_rules.Supply.{held}
-use Rattle.op_flags.proofs.legal_rules_proofs.Leaving.{Leaves, leaves_as, keeps_then}
-use Rattle.op_flags.specs.trade_cross.CrossingLaws.{kept_at, kept_in, more_in, AreTraded}
-use Rattle.op_flags.specs.op_form.Done.{Done, Move, OfAccount}
-use Rattle.op_offers.specs.Managing.{drawn}
-use Rattle.op_flags.specs.op_form.AtomMoves.{moves_of}
-use Rattle.op_offers.specs.Selling.{Asked, source_gives_at, source_takes_at, trade_of, Sold, sold}
 use Rattle.op_offers.specs.SellingLaws.{IsAskedRightly}
 use Rattle.op_offers.proofs.Sold.{selling_keeps}
 use Rattle.op_offers.proofs.SoldLeft.{selling_left_so, selling_traded}
-use Rattle.op_laws.specs.Laws.{IsLawful}
-use Rattle.op_laws.specs.Moves.{issued}
-use Rattle.op_laws.specs.Underway.{IsUnderway, AreDrawn}
-use Rattle.op_laws.proofs.Issued.{plus_assoc}
 use Rattle.op_laws.proofs.Lawful.{DrawsLegal, lawful_drawn, sound_after}
 use Rattle.op_laws.proofs.MoveSums.{moved_more}
-use Rattle.op_laws.proofs.TradeMoves.{moves_tell, more_by_moves, moved_supply}
+use Rattle.op_laws.proofs.TradeMoves.{moves_describe, more_by_moves, moved_supply}
 
 -- one id is drawn at most
 one_drawn : (id_pool next amount : ℕ) → id_pool ≤ next → next ≤ id_pool + 1
@@ -70,7 +51,7 @@ module _ (ctx : Ctx) (next : ℕ) (asked : Asked) (old m : EntryMap) (under : Is
 
   shifts : DrawsLegal ctx.id_pool after.id_pool (λ x. issued x moves) old s.entries
   shifts v sum legal = subst (λ n. IsLegalOwing v after.id_pool nothing_owed n s.entries)
-      (plus_assoc sum (kept_in v.asset s.crossed.atoms) (source_kept v.asset)
+      (add_assoc sum (kept_in v.asset s.crossed.atoms) (source_kept v.asset)
       ∙ ap (λ n. sum +ℤ n)
       (moved_supply (trade_of ctx.base_reserve asked m) asked.offer.seller_id s.crossed traded v.asset))
       (selling_keeps v ctx.id_pool next ctx.base_reserve sum asked m s (ready.counted v sum legal) ready.low
@@ -89,8 +70,8 @@ module _ (ctx : Ctx) (next : ℕ) (asked : Asked) (old m : EntryMap) (under : Is
 
   sound : AreSponsorshipsSound after s.entries
   sound =
-      let here = sound_after ctx old under none_more s.entries leaves.stand in
-      record { once = here.once; other = here.other; stand = here.stand }
+      let here = sound_after ctx old under none_more s.entries leaves.exist in
+      record { once = here.once; other = here.other; exist = here.exist }
 
   pub sale_is_lawful : (result : OperationResult) → IsLawful ctx old (record {
     result = result;
@@ -106,7 +87,7 @@ module _ (ctx : Ctx) (next : ℕ) (asked : Asked) (old m : EntryMap) (under : Is
         moves = moves;
       } in
       lawful_drawn ctx old under (moved_more moves) done shifts leaves.each leaves.holds
-      (moves_tell asked.offer.seller_id s.crossed.atoms)
+      (moves_describe asked.offer.seller_id s.crossed.atoms)
       (record {
         seq = refl;
         version = refl;

@@ -1,42 +1,19 @@
 -- Settled entries, by the forms in which changes are stated, and what they give.
-use Rattle.std.proofs.Common.{◌≡◌, refl, ap, subst, ℕ, ◌≤◌, Bool, true, false, Option, Some, None, arith}
-use Rattle.std.proofs.lemmas.Int.{ints}
-use Rattle.std.specs.Prelude.{ℤ, pos, ◌+ℤ◌, ◌≤ℤ◌, if◌then◌else◌}
-use Rattle.std.specs.FinMap.{get}
-use Rattle.std.specs.Ordering.{is_eq}
-use Rattle.op_flags.specs.ledger_types.declared.ids.AccountId.{AccountId}
-use Rattle.op_flags.specs.ledger_types.declared.asset.Asset.{Asset}
+use Rattle.op_laws.proofs.Prelude as prelude
+use prelude.{◌≡◌, refl, ap, subst, ℕ, ◌≤◌, Bool, true, false, Option, Some, None, arith, ints, ℤ, pos, ◌+ℤ◌, ◌≤ℤ◌}
+use prelude.{if◌then◌else◌, get, is_eq, AccountId, Asset, TrustLineAsset, TrustLineEntry, ClaimableBalanceEntry}
+use prelude.{LedgerEntry, LedgerEntryBody, asset_cmp, EntryMap, num_sponsored, balance_in, balance_of, balance_at}
+use prelude.{line_at, IsLineInRange, total, Subentries, Sponsored, IsBodyInRange, of_asset, of_line, held_in, held}
+use prelude.{view, pools_in, nothing_owed, IsEntryLegal, IsLegalOwing, AreEntriesLegal, account_legal}
+use prelude.{sponsored_at_most, account_states, sponsors_ready, owing_nothing_of, legal_of, line_entry, entries_sound}
+use prelude.{LegalSettles, SettledLegal, SettledAccounts, SettledReady, SettledInRange, SettledHeld, SettledSound}
+use prelude.{SettledFew, SettledAmounts, UnderwayManageable, add_nonnegative, nonnegative_from_positive}
 use Rattle.op_flags.specs.ledger_types.declared.asset.Asset.TheVariants as asset
-use Rattle.op_flags.specs.ledger_types.declared.asset.TrustLineAsset.{TrustLineAsset}
 use Rattle.op_flags.specs.ledger_types.declared.asset.TrustLineAsset.TheVariants as line
-use Rattle.op_flags.specs.ledger_types.declared.trust_line.TrustLineEntry.{TrustLineEntry}
-use Rattle.op_flags.specs.ledger_types.declared.claimable_balance.ClaimableBalanceEntry.{ClaimableBalanceEntry}
-use Rattle.op_flags.specs.ledger_types.declared.entry.LedgerEntry.{LedgerEntry}
-use Rattle.op_flags.specs.ledger_types.declared.entry.LedgerEntryBody.{LedgerEntryBody}
 use Rattle.op_flags.specs.ledger_types.declared.entry.LedgerEntryBody.TheVariants as body
 use Rattle.op_flags.specs.ledger_types.declared.key.LedgerKey.TheVariants as key
-use Rattle.op_flags.specs.ledger_types.KeyOrder.{asset_cmp}
-use Rattle.op_flags.specs.entry_map.EntryMap.{EntryMap}
-use Rattle.op_flags.specs.entry_slots.AccountExtensions.{num_sponsored}
-use Rattle.op_flags.specs.entry_slots.Balances.{balance_in, balance_of, balance_at}
-use Rattle.op_flags.specs.entry_slots.Lines.{line_at}
-use Rattle.op_pool.specs.reserve_rules.Reserve.{IsLineInRange}
-use Rattle.op_flags.specs.entry_sums.Sums.{total}
 use Rattle.op_flags.proofs.entry_sums_proofs.Summing.{total_not_below}
-use Rattle.op_flags.specs.legal_rules.Books.{Subentries, Sponsored}
-use Rattle.op_flags.specs.legal_rules.Ranges.{IsBodyInRange}
-use Rattle.op_flags.specs.legal_rules.Supply.{of_asset, of_line, held_in, held}
-use Rattle.op_flags.specs.legal_rules.Legal.{view, pools_in}
-use Rattle.op_flags.specs.legal_rules.Owing.{nothing_owed, IsEntryLegal, IsLegalOwing, AreEntriesLegal}
-use Rattle.op_flags.proofs.legal_rules_proofs.Bounded.{account_legal}
-use Rattle.op_flags.proofs.legal_rules_proofs.Covered.{sponsored_at_most, account_states}
-use Rattle.op_flags.proofs.legal_rules_proofs.Given.{sponsors_ready}
-use Rattle.op_flags.proofs.legal_rules_proofs.Legality.{owing_nothing_of, legal_of}
-use Rattle.op_flags.proofs.legal_rules_proofs.Liable.{line_entry}
 use Rattle.op_flags.proofs.legal_rules_proofs.Numbers.{taken_off}
-use Rattle.op_flags.proofs.pool_shares_proofs.Sound.{entries_sound}
-use Rattle.op_laws.specs.Steps.{LegalSettles, SettledLegal, SettledAccounts, SettledReady, SettledInRange, SettledHeld}
-use Rattle.op_laws.specs.Steps.{SettledSound, SettledFew, SettledAmounts, UnderwayManageable}
 
 -- ---- legal states
 
@@ -51,13 +28,13 @@ settled_legal h m header settled sum =
 -- ---- what settled entries give
 
 pub settled_accounts : SettledAccounts
-settled_accounts id_pool m id a settled stands =
-    (account_legal (view m) id_pool nothing_owed (total (held asset.Native) m) m id a settled.legal stands).range
+settled_accounts id_pool m id a settled exists =
+    (account_legal (view m) id_pool nothing_owed (total (held asset.Native) m) m id a settled.legal exists).range
 
 line_in_range : (id_pool : ℕ) (m : EntryMap) (id : AccountId) (held : TrustLineAsset) (t : TrustLineEntry)
     → AreEntriesLegal id_pool m → line_at m id held ≡ Some t → IsLineInRange t
-line_in_range id_pool m id held t legal stands =
-    let found = line_entry m id held t stands in
+line_in_range id_pool m id held t legal exists =
+    let found = line_entry m id held t exists in
     (subst (IsBodyInRange id_pool) found.1.is
     (legal.entries (key.TrustLine id held) found.0 found.1.there).range.body).range
 
@@ -67,24 +44,24 @@ ready_of stated_sponsored stated_subs sponsored subs is also le few = omega (ari
 
 pub settled_few : SettledFew
 settled_few id_pool m settled = record {
-  few = λ id a stands. (settled_accounts id_pool m id a settled stands).signers.few;
+  few = λ id a exists. (settled_accounts id_pool m id a settled exists).signers.few;
 }
 
 pub settled_ready : SettledReady
 settled_ready id_pool m settled = record {
-  ready = λ id a stands. record {
-    sponsored = ready_of _ _ (num_sponsored a) a.num_sub_entries (account_states m id a Sponsored stands)
-        (account_states m id a Subentries stands)
+  ready = λ id a exists. record {
+    sponsored = ready_of _ _ (num_sponsored a) a.num_sub_entries (account_states m id a Sponsored exists)
+        (account_states m id a Subentries exists)
         (sponsored_at_most (view m) id_pool nothing_owed (total (held asset.Native) m) m (key.Account id) settled.legal
         (omega (arith, ints)))
-        (account_legal (view m) id_pool nothing_owed (total (held asset.Native) m) m id a settled.legal stands).few;
+        (account_legal (view m) id_pool nothing_owed (total (held asset.Native) m) m id a settled.legal exists).few;
   };
 }
 
 pub settled_in_range : SettledInRange
 settled_in_range id_pool m settled = record {
-  accounts = record { in_range = λ id a stands. (settled_accounts id_pool m id a settled stands).range };
-  lines = λ id held t stands. line_in_range id_pool m id held t settled.legal stands;
+  accounts = record { in_range = λ id a exists. (settled_accounts id_pool m id a settled exists).range };
+  lines = λ id held t exists. line_in_range id_pool m id held t settled.legal exists;
 }
 
 pub settled_sound : SettledSound
@@ -92,19 +69,12 @@ settled_sound id_pool m settled = entries_sound id_pool m settled.legal
 
 -- ---- what is held
 
-sum_not_below : (a b : ℤ) → pos 0 ≤ℤ a → pos 0 ≤ℤ b → pos 0 ≤ℤ (a +ℤ b)
-sum_not_below a b low least = omega (arith, ints)
-
 of_not_below : (x a : Asset) (n : ℤ) → pos 0 ≤ℤ n → pos 0 ≤ℤ of_asset x a n
 of_not_below x a n low = by (is_eq (asset_cmp x a))
   where
     by : (same : Bool) → pos 0 ≤ℤ (if same then n else pos 0)
     by true = low
     by false = omega (arith, ints)
-
--- an amount that is at least 1 is at least 0
-lower : (n : ℤ) → pos 1 ≤ℤ n → pos 0 ≤ℤ n
-lower n low = omega (arith, ints)
 
 line_not_below : (x : Asset) (a : TrustLineAsset) (n : ℤ) → pos 0 ≤ℤ n → pos 0 ≤ℤ of_line x a n
 line_not_below x line.Native n low = omega (arith, ints)
@@ -118,25 +88,25 @@ in_not_below x id_pool (body.TrustLine line) r = line_not_below x line.asset lin
 in_not_below x id_pool (body.Offer offer) r = omega (arith, ints)
 in_not_below x id_pool (body.Data entry) r = omega (arith, ints)
 in_not_below x id_pool (body.ClaimableBalance balance) r =
-    of_not_below x balance.asset balance.amount (lower balance.amount r.amount)
+    of_not_below x balance.asset balance.amount (nonnegative_from_positive balance.amount r.amount)
 in_not_below x id_pool (body.LiquidityPool pool) r =
-    sum_not_below (of_asset x pool.params.asset_a pool.reserve_a) (of_asset x pool.params.asset_b pool.reserve_b)
+    add_nonnegative (of_asset x pool.params.asset_a pool.reserve_a) (of_asset x pool.params.asset_b pool.reserve_b)
     (of_not_below x pool.params.asset_a pool.reserve_a r.reserve_a)
     (of_not_below x pool.params.asset_b pool.reserve_b r.reserve_b)
 
-balance_body : (of : LedgerEntryBody) (x : ClaimableBalanceEntry) → balance_in of ≡ Some x
+pub balance_body : (of : LedgerEntryBody) (x : ClaimableBalanceEntry) → balance_in of ≡ Some x
     → of ≡ body.ClaimableBalance x
 balance_body (body.ClaimableBalance y) x h = let same : y ≡ x = cc in ap body.ClaimableBalance same
 balance_body other x h = absurd (cc)
 
 amount_low : (id_pool : ℕ) (of : LedgerEntryBody) (x : ClaimableBalanceEntry) → balance_in of ≡ Some x
     → IsBodyInRange id_pool of → pos 0 ≤ℤ x.amount
-amount_low id_pool of x is range = lower x.amount (subst (IsBodyInRange id_pool) (balance_body of x is) range).amount
+amount_low id_pool of x is range = nonnegative_from_positive x.amount (subst (IsBodyInRange id_pool) (balance_body of x is) range).amount
 
 pub settled_amounts : SettledAmounts
 unfolding balance_at
 settled_amounts id_pool m settled = record {
-  low = λ id x stands. by x (get m (key.ClaimableBalance id)) (settled.legal.entries (key.ClaimableBalance id)) stands;
+  low = λ id x exists. by x (get m (key.ClaimableBalance id)) (settled.legal.entries (key.ClaimableBalance id)) exists;
 }
   where
     by : (x : ClaimableBalanceEntry) (o : Option LedgerEntry)
@@ -151,12 +121,12 @@ settled_held id_pool m settled = total_not_below (held asset.Native) m
 -- ---- what operations on offers ask for
 
 pub underway_manageable : UnderwayManageable
-underway_manageable ctx m under stands ids = record {
+underway_manageable ctx m under exists ids = record {
   view = view m;
   sum = total (held asset.Native) m;
   legal = under.settled.legal;
   ids = ids;
   ready = settled_ready ctx.id_pool m under.settled;
-  source = stands;
+  source = exists;
   sponsor = sponsors_ready ctx m ctx.op_source under.sponsorships;
 }

@@ -1,59 +1,30 @@
--- The pool of a new line of shares: it is made where it doesn't stand, and nothing else changes.
-use Rattle.std.proofs.Common.{◌≡◌, refl, sym, ap, ◌∙◌, ℕ, true, false, not, ◌||◌, inr, Option, Some, None, arith}
-use Rattle.std.proofs.lemmas.Int.{ints}
-use Rattle.std.specs.Prelude.{ℤ, pos}
-use Rattle.std.specs.Ordering.{int_eq, is_lt, is_eq}
-use Rattle.std.specs.declared.cmp.Ordering.{Ordering}
-use Rattle.std.specs.declared.cmp.Ordering.TheVariants.{Less, Equal, Greater}
-use Rattle.std.specs.FinMap.{get}
-use Rattle.op_flags.specs.ledger_types.declared.ids.AccountId.{AccountId}
-use Rattle.op_flags.specs.ledger_types.declared.ids.Hash.{Hash}
-use Rattle.op_flags.specs.ledger_types.declared.asset.Asset.{Asset}
-use Rattle.op_flags.specs.ledger_types.declared.asset.PoolParams.{PoolParams}
-use Rattle.op_flags.specs.ledger_types.declared.asset.TrustLineAsset.{TrustLineAsset}
-use Rattle.op_flags.specs.ledger_types.declared.liquidity_pool.LiquidityPoolEntry.{LiquidityPoolEntry}
-use Rattle.op_flags.specs.ledger_types.declared.entry.LedgerEntry.{LedgerEntry}
-use Rattle.op_flags.specs.ledger_types.declared.entry.LedgerEntryBody.{LedgerEntryBody}
+-- The pool of a new line of shares: it is made where it doesn't exist, and nothing else changes.
+use Rattle.op_laws.proofs.Prelude as prelude
+use prelude.{◌≡◌, refl, sym, ap, ◌∙◌, ℕ, false, not, ◌||◌, inr, Option, Some, None, arith, ints, ℤ, pos, int_eq, is_lt}
+use prelude.{is_eq, get, AccountId, Hash, Asset, PoolParams, TrustLineAsset, LiquidityPoolEntry, LedgerEntry}
+use prelude.{LedgerEntryBody, key_of, key_of_body, asset_cmp, is_valid_asset, EntryMap, put, pool_in, pool_of, pool_at}
+use prelude.{part, View, IsKeyed, none_more, nothing_owed, IsEntryLegal, IsLegalOwing, IsPoolInRange, held, put_beside}
+use prelude.{put_same, Leaves, leaves_itself, accounts_kept, keyed_put, empty_pool, map_with_pool, map_with_pool_by}
+use prelude.{IsLegalNow, when_nothing_owed, same_params, put_elsewhere, put_there, if_zero, int_eq_true}
+use prelude.{zeros_add_to_zero, is_lt_true_Less, not-false, or_parts}
 use Rattle.op_flags.specs.ledger_types.declared.entry.LedgerEntryBody.TheVariants as body
 use Rattle.op_flags.specs.ledger_types.declared.key.LedgerKey.TheVariants as key
-use Rattle.op_flags.specs.ledger_types.Keys.{key_of, key_of_body}
-use Rattle.op_flags.specs.ledger_types.KeyOrder.{asset_cmp}
-use Rattle.op_flags.specs.valid_values.Assets.{is_valid_asset}
-use Rattle.op_flags.specs.entry_map.EntryMap.{EntryMap, put}
-use Rattle.op_flags.specs.entry_slots.Pools.{pool_in, pool_of, pool_at}
-use Rattle.op_flags.specs.entry_sums.Sums.{part}
-use Rattle.op_flags.proofs.entry_sums_proofs.Lookups.{put_there, put_elsewhere}
-use Rattle.op_flags.specs.legal_rules.Books.{View}
-use Rattle.op_flags.specs.legal_rules.Holdings.{IsKeyed, none_more}
-use Rattle.op_flags.specs.legal_rules.Owing.{nothing_owed, IsEntryLegal, IsLegalOwing}
 use Rattle.op_flags.specs.legal_rules.PoolLaws.{new_pool}
-use Rattle.op_flags.specs.legal_rules.Ranges.{IsPoolInRange}
-use Rattle.op_flags.specs.legal_rules.Supply.{held}
-use Rattle.op_flags.proofs.legal_rules_proofs.ChargesLeft.{put_beside}
-use Rattle.op_flags.proofs.legal_rules_proofs.Holdings.{none_if, put_same}
-use Rattle.op_flags.proofs.legal_rules_proofs.Leaving.{Leaves, leaves_itself, accounts_kept, keyed_put}
-use Rattle.op_flags.proofs.legal_rules_proofs.Liable.{int_same}
-use Rattle.op_flags.proofs.legal_rules_proofs.Numbers.{both_none}
-use Rattle.op_flags.proofs.legal_rules_proofs.Passed.{neither}
 use Rattle.op_flags.proofs.legal_rules_proofs.PoolsKept.{pool_put}
-use Rattle.op_flags.specs.pool_shares.ShareLines.{empty_pool, map_with_pool, map_with_pool_by}
-use Rattle.op_flags.proofs.pool_shares_proofs.Gone.{IsLegalNow, as_it_stands}
 use Rattle.op_trust.specs.ShareTrust as spec
-use Rattle.op_trust.proofs.Counts.{same_params}
-use Rattle.op_laws.proofs.TrustLines.{not_true}
 
--- a pool with these parameters stands, and nothing else changed
+-- a pool with these parameters exists, and nothing else changed
 pub record IsPooled (id_pool base : ℕ) (pool : Hash) (params : PoolParams) (m now : EntryMap) : Type 0 where
   pub legal : (v : View) (sum : ℤ) → IsLegalOwing v id_pool nothing_owed sum m → IsLegalNow v id_pool sum now
   pub left : Leaves base none_more m now
   pub its : LiquidityPoolEntry
-  pub stands : pool_at now pool ≡ Some its
+  pub exists : pool_at now pool ≡ Some its
   pub same : its.params ≡ params
   pub lines : (id : AccountId) (a : TrustLineAsset) → get now (key.TrustLine id a) ≡ get m (key.TrustLine id a)
 
--- ---- a pool that doesn't stand
+-- ---- a pool that doesn't exist
 
--- where no pool stands under its key, nothing does
+-- where no pool is under its key, nothing is
 no_pool_body : (b : LedgerEntryBody) (pool : Hash) → key_of_body b ≡ key.LiquidityPool pool → pool_in b ≡ None → ⊥
 no_pool_body (body.LiquidityPool p) pool own none = absurd (cc)
 no_pool_body other pool own none = absurd (cc)
@@ -69,11 +40,6 @@ no_pool m pool keyed none = no_pool_of (get m (key.LiquidityPool pool)) pool (ke
 
 -- ---- a new pool
 
-less_of : (o : Ordering) → is_lt o ≡ true → o ≡ Less
-less_of Less is = refl
-less_of Equal is = absurd (cc)
-less_of Greater is = absurd (cc)
-
 new_in_range : (params : PoolParams) → spec.is_pool_bad params ≡ false
     → IsPoolInRange (empty_pool (spec.pool_named_by params) params)
 new_in_range params good =
@@ -81,12 +47,12 @@ new_in_range params good =
     let bad_b = not (is_valid_asset params.asset_b) in
     let bad_order = not (is_lt (asset_cmp params.asset_a params.asset_b)) in
     let bad_fee = not (int_eq params.fee (pos 30)) in
-    let last = neither (bad_a || bad_b || bad_order) bad_fee good in
-    let third = neither (bad_a || bad_b) bad_order last.0 in
+    let last = or_parts (bad_a || bad_b || bad_order) bad_fee good in
+    let third = or_parts (bad_a || bad_b) bad_order last.0 in
     record {
-      fee = int_same params.fee (pos 30) (not_true (int_eq params.fee (pos 30)) last.1);
-      assets = less_of (asset_cmp params.asset_a params.asset_b)
-          (not_true (is_lt (asset_cmp params.asset_a params.asset_b)) third.1);
+      fee = int_eq_true params.fee (pos 30) (not-false (int_eq params.fee (pos 30)) last.1);
+      assets = is_lt_true_Less (asset_cmp params.asset_a params.asset_b)
+          (not-false (is_lt (asset_cmp params.asset_a params.asset_b)) third.1);
       id = refl;
       reserve_a = omega (arith, ints);
       reserve_b = omega (arith, ints);
@@ -114,12 +80,12 @@ module _ (id_pool base seq : ℕ) (params : PoolParams) (m : EntryMap) (keyed : 
 
     holds_nothing : (x : Asset) → held x made ≡ part (held x) (get m (key_of made))
     holds_nothing x =
-        both_none _ _ (none_if (is_eq (asset_cmp x params.asset_a)) (pos 0) refl)
-        (none_if (is_eq (asset_cmp x params.asset_b)) (pos 0) refl) ∙ sym (ap (part (held x)) free)
+        zeros_add_to_zero _ _ (if_zero (is_eq (asset_cmp x params.asset_a)) (pos 0) refl)
+        (if_zero (is_eq (asset_cmp x params.asset_b)) (pos 0) refl) ∙ sym (ap (part (held x)) free)
 
-    made_stands : pool_at (put m made) pool ≡ Some (empty_pool pool params)
+    made_exists : pool_at (put m made) pool ≡ Some (empty_pool pool params)
     unfolding pool_at
-    made_stands = ap pool_of (put_there m made)
+    made_exists = ap pool_of (put_there m made)
 
     made_so : IsPooled id_pool base pool params m (put m made)
     made_so = record {
@@ -128,20 +94,20 @@ module _ (id_pool base seq : ℕ) (params : PoolParams) (m : EntryMap) (keyed : 
       left = accounts_kept base none_more m (put m made) (keyed_put m made keyed)
           (put_beside m made (λ id same. absurd (cc))) (put_same m made holds_nothing);
       its = empty_pool pool params;
-      stands = made_stands;
+      exists = made_exists;
       same = refl;
       lines = λ id a. put_elsewhere m made (key.TrustLine id a) (λ same. absurd (cc));
     }
 
-  -- ---- whether it stands or is made
+  -- ---- whether it exists or is made
 
   pooled_by : (o : Option LiquidityPoolEntry) → pool_at m pool ≡ o → spec.is_taken params o ≡ false
       → IsPooled id_pool base pool params m (map_with_pool_by seq pool params m o)
   pooled_by (Some p) there free = record {
-    legal = λ v sum legal. as_it_stands v id_pool sum m legal;
+    legal = λ v sum legal. when_nothing_owed v id_pool sum m legal;
     left = leaves_itself base m keyed;
     its = p;
-    stands = there;
+    exists = there;
     same = same_params p.params params free;
     lines = λ id a. refl;
   }

@@ -1,46 +1,21 @@
 -- CHANGE_TRUST of a line in a pool's shares is lawful.
-use Rattle.std.proofs.Common.{◌≡◌, refl, subst, Bool, true, false, not, ◌||◌, ◌∷◌, []}
-use Rattle.std.proofs.Common.{Option, Some, None, Ok, if◌then◌else◌}
-use Rattle.std.specs.Prelude.{ℤ, pos, int_lt, ◌≤ℤ◌}
-use Rattle.std.specs.Ordering.{int_eq}
-use Rattle.op_flags.specs.ledger_types.declared.ids.AccountId.{AccountId}
-use Rattle.op_flags.specs.ledger_types.declared.ids.Hash.{Hash}
-use Rattle.op_flags.specs.ledger_types.declared.asset.PoolParams.{PoolParams}
-use Rattle.op_flags.specs.ledger_types.declared.asset.TrustLineAsset.{TrustLineAsset}
+use Rattle.op_laws.proofs.Prelude.{◌≡◌, refl, subst, Bool, true, false, not, ◌||◌, ◌∷◌, [], Option, Some, None, Ok, ℤ}
+use Rattle.op_laws.proofs.Prelude.{pos, int_lt, ◌≤ℤ◌, int_eq, AccountId, Hash, PoolParams, TrustLineAsset}
+use Rattle.op_laws.proofs.Prelude.{TrustLineEntry, LiquidityPoolEntry, NotSupported, EntryMap, HasAccount, use_count}
+use Rattle.op_laws.proofs.Prelude.{line_at, with_line, pool_at, greatest_i64, Ctx, view, nothing_owed, needed_line}
+use Rattle.op_laws.proofs.Prelude.{line_legal, first_passed, map_without_share_line, gone_legal, entries_sound, Done}
+use Rattle.op_laws.proofs.Prelude.{success, answer, is_exceeded, limit_tests, with_limit, same_params, went_on}
+use Rattle.op_laws.proofs.Prelude.{IsLawful, IsUnderway, int_lt_false, or_parts}
+use Rattle.std.proofs.Common.{if◌then◌else◌}
 use Rattle.op_flags.specs.ledger_types.declared.asset.TrustLineAsset.TheVariants as line
-use Rattle.op_flags.specs.ledger_types.declared.trust_line.TrustLineEntry.{TrustLineEntry}
-use Rattle.op_flags.specs.ledger_types.declared.liquidity_pool.LiquidityPoolEntry.{LiquidityPoolEntry}
-use Rattle.op_flags.specs.op_types.declared.operation_result.OperationResult.TheVariants.{NotSupported}
 use Rattle.op_flags.specs.op_types.declared.trust_results.ChangeTrustResult.TheVariants as trust
-use Rattle.op_flags.specs.entry_map.EntryMap.{EntryMap}
-use Rattle.op_flags.specs.entry_slots.Accounts.{HasAccount}
-use Rattle.op_flags.specs.entry_slots.LineExtensions.{use_count}
-use Rattle.op_flags.specs.entry_slots.Lines.{line_at, with_line}
-use Rattle.op_flags.specs.entry_slots.Pools.{pool_at}
-use Rattle.op_pool.specs.reserve_rules.Reserve.{greatest_i64}
-use Rattle.op_flags.specs.sponsor_rules.declared.context.Ctx.{Ctx}
-use Rattle.op_flags.specs.legal_rules.Legal.{view}
-use Rattle.op_flags.specs.legal_rules.Owing.{nothing_owed}
-use Rattle.op_flags.specs.legal_rules.PoolShares.{needed_line}
-use Rattle.op_flags.proofs.legal_rules_proofs.LinesLeft.{line_legal}
-use Rattle.op_flags.proofs.legal_rules_proofs.Passed.{first_passed, neither}
-use Rattle.op_flags.specs.pool_shares.ShareLines.{map_without_share_line}
-use Rattle.op_flags.proofs.pool_shares_proofs.Gone.{gone_legal}
 use Rattle.op_flags.proofs.pool_shares_proofs.GoneLeft.{gone_left}
-use Rattle.op_flags.proofs.pool_shares_proofs.Sound.{entries_sound}
-use Rattle.op_flags.specs.op_form.Done.{Done}
-use Rattle.op_flags.specs.op_form.Steps.{success}
-use Rattle.op_trust.specs.ChangeTrust.{answer, is_exceeded, limit_tests, with_limit}
 use Rattle.op_trust.specs.ShareTrust as spec
-use Rattle.op_trust.proofs.Counts.{same_params}
-use Rattle.op_flags.proofs.Went.{went_on}
-use Rattle.op_laws.specs.Laws.{IsLawful}
-use Rattle.op_laws.specs.Underway.{IsUnderway}
-use Rattle.op_laws.proofs.LineLimits.{not_below, not_zero, nothing_in_line, line_limited_lawful}
+use Rattle.op_laws.proofs.LineLimits.{not_zero, nothing_in_line, line_limited_lawful}
 use Rattle.op_laws.proofs.NewShares.{share_added_lawful}
 use Rattle.op_laws.proofs.Parts.{lawful_now}
 
-module _ (ctx : Ctx) (m : EntryMap) (under : IsUnderway ctx m) (stands : HasAccount m ctx.op_source)
+module _ (ctx : Ctx) (m : EntryMap) (under : IsUnderway ctx m) (exists : HasAccount m ctx.op_source)
     (params : PoolParams) (limit : ℤ) (low : pos 0 ≤ℤ limit) (high : limit ≤ℤ greatest_i64)
     (good : spec.is_pool_bad params ≡ false)
     (free : spec.is_taken params (pool_at m (spec.pool_named_by params)) ≡ false) where
@@ -79,7 +54,7 @@ module _ (ctx : Ctx) (m : EntryMap) (under : IsUnderway ctx m) (stands : HasAcco
           (λ v sum legal. gone_legal v ctx.id_pool sum id pool t p m legal there empty beside)
           (gone_left ctx.id_pool ctx.base_reserve m under.settled.legal id pool t p there empty beside))
 
-      -- the pool stands beside the line
+      -- the pool exists beside the line
       gone_by : (o : Option LiquidityPoolEntry) → pool_at m pool ≡ o → spec.is_taken params o ≡ false
           → IsLawful ctx m (record { result = answer trust.Success; entries = gone; ctx = ctx; moves = [] })
       gone_by None missing is_free =
@@ -132,19 +107,19 @@ module _ (ctx : Ctx) (m : EntryMap) (under : IsUnderway ctx m) (stands : HasAcco
       let second = went_on (spec.needed_tests_at m needs_b) _ done first.1 in
       let counts = went_on (spec.count_tests needs_a needs_b pool m) _ done second.1 in
       let test = first_passed (int_eq limit (pos 0)) (answer trust.InvalidLimit) [] some.0 in
-      share_added_lawful ctx m under stands params limit there (not_zero limit low test.0) high first.0 second.0 good
+      share_added_lawful ctx m under exists params limit there (not_zero limit low test.0) high first.0 second.0 good
       free done counts.1
 
 -- Each CHANGE_TRUST of a line in a pool's shares that succeeds is lawful.
 pub share_trust_is_lawful : (ctx : Ctx) (m : EntryMap) (done : Done) → IsUnderway ctx m → HasAccount m ctx.op_source
     → (limit : ℤ) → limit ≤ℤ greatest_i64 → (params : PoolParams) → spec.share_trust ctx params limit m ≡ Ok done
     → IsLawful ctx m done
-share_trust_is_lawful ctx m done under stands limit high params is =
+share_trust_is_lawful ctx m done under exists limit high params is =
     let formed = went_on (spec.share_tests params limit) _ done is in
     let untaken = went_on (spec.pool_tests params m) _ done formed.1 in
     let bad = spec.is_pool_bad params in
     let form = first_passed (int_lt limit (pos 0) || bad) (answer trust.Malformed) [] formed.0 in
-    let test = neither (int_lt limit (pos 0)) bad form.0 in
+    let test = or_parts (int_lt limit (pos 0)) bad form.0 in
     let taken = first_passed (spec.is_taken params (pool_at m (spec.pool_named_by params))) NotSupported [] untaken.0 in
-    by_line ctx m under stands params limit (not_below limit test.0) high test.1 taken.0 done
+    by_line ctx m under exists params limit (int_lt_false limit (pos 0) test.0) high test.1 taken.0 done
     (line_at m ctx.op_source (line.PoolShare (spec.pool_named_by params))) refl untaken.1

@@ -1,41 +1,22 @@
 -- BEGIN_SPONSORING_FUTURE_RESERVES and END_SPONSORING_FUTURE_RESERVES are lawful.
-use Rattle.std.proofs.Common.{◌≡◌, ◌≢◌, refl, sym, subst, ℕ, suc, take, drop, ◌<◌, Bool, true, false, cond}
-use Rattle.std.proofs.Common.{◌||◌, is_some, List}
-use Rattle.std.proofs.Common.{[], ◌∷◌, ◌++◌, length, get_or, All, Option, Some, None}
-use Rattle.std.proofs.lemmas.List.Elements.{All-nil, All-cons, All-append, All-take, All-drop, All-push}
-use Rattle.std.proofs.lemmas.List.Quantifiers.{all_pairs_push, all_pairs_remove, position-Some}
-use Rattle.std.specs.List.{find, remove}
+use Rattle.op_laws.proofs.Prelude.{◌≡◌, ◌≢◌, refl, sym, subst, ℕ, suc, take, drop, ◌<◌, Bool, true, false, cond, ◌||◌}
+use Rattle.op_laws.proofs.Prelude.{is_some, List, [], ◌∷◌, ◌++◌, length, get_or, All, Option, Some, None, All-nil}
+use Rattle.op_laws.proofs.Prelude.{All-cons, All-append, All-take, All-drop, All-push, all_pairs_push, all_pairs_remove}
+use Rattle.op_laws.proofs.Prelude.{position-Some, find, remove, AccountId, EntryMap, HasAccount, account_at, Tests, Ctx}
+use Rattle.op_laws.proofs.Prelude.{Sponsorship, is_same_account, open_sponsor, apart_accounts, AreSponsorshipsSound}
+use Rattle.op_laws.proofs.Prelude.{OperationResult, Done, is_open_sponsor, success, IsLawful, AreLawful, IsUnderway}
+use Rattle.op_laws.proofs.Prelude.{none_more, holds_itself, is_itself_after, went_on, went_after_some, first_passed}
 use Rattle.std.specs.Option.{option_map}
-use Rattle.op_flags.specs.ledger_types.declared.ids.AccountId.{AccountId}
-use Rattle.op_flags.specs.entry_map.EntryMap.{EntryMap}
-use Rattle.op_flags.specs.entry_slots.Accounts.{HasAccount, account_at}
-use Rattle.op_flags.specs.entry_slots.Tests.{Tests}
-use Rattle.op_flags.specs.sponsor_rules.declared.context.Ctx.{Ctx}
-use Rattle.op_flags.specs.sponsor_rules.declared.context.Sponsorship.{Sponsorship}
-use Rattle.op_flags.specs.sponsor_rules.Payers.{is_same_account, open_sponsor}
-use Rattle.op_flags.proofs.sponsor_rules_proofs.Ids.{apart_accounts}
-use Rattle.op_flags.specs.legal_rules.Sponsorships.{AreSponsorshipsSound}
-use Rattle.op_flags.specs.op_types.declared.operation_result.OperationResult.{OperationResult}
 use Rattle.op_flags.specs.op_types.declared.sponsor_ops.BeginSponsoringFutureReservesOp.{
   BeginSponsoringFutureReservesOp,
 }
 use Rattle.op_flags.specs.op_types.declared.sponsor_results.BeginSponsoringFutureReservesResult.TheVariants as begin
 use Rattle.op_flags.specs.op_types.declared.sponsor_results.EndSponsoringFutureReservesResult.TheVariants as end
-use Rattle.op_flags.specs.op_form.Done.{Done}
-use Rattle.op_flags.specs.op_form.Sponsorships.{is_open_sponsor}
-use Rattle.op_flags.specs.op_form.Steps.{success}
 use Rattle.op_sponsor.specs.BeginSponsoringFutureReserves as begins
 use Rattle.op_sponsor.specs.EndSponsoringFutureReserves as ends
-use Rattle.op_laws.specs.Laws.{IsLawful, AreLawful}
-use Rattle.op_laws.specs.Underway.{IsUnderway}
 use Rattle.op_laws.proofs.Lawful.{lawful_by}
 use Rattle.op_laws.proofs.Lumens.{nothing_issued}
-use Rattle.op_flags.specs.legal_rules.Holdings.{none_more}
-use Rattle.op_flags.proofs.legal_rules_proofs.Holdings.{holds_itself}
-use Rattle.op_flags.proofs.legal_rules_proofs.Leaving.{is_itself_after}
-use Rattle.op_laws.proofs.Told.{tells_nothing}
-use Rattle.op_flags.proofs.Went.{went_on, went_after_some}
-use Rattle.op_flags.proofs.legal_rules_proofs.Passed.{first_passed}
+use Rattle.op_laws.proofs.Described.{describes_nothing}
 
 -- ---- other sponsorships
 
@@ -54,7 +35,7 @@ opened_so ctx m under result opened sound =
       entries = m;
       ctx = record ctx { sponsorships = opened };
       moves = [];
-    }) (λ v sum legal. legal) (λ id. is_itself_after ctx.base_reserve (account_at m id)) (holds_itself m) tells_nothing
+    }) (λ v sum legal. legal) (λ id. is_itself_after ctx.base_reserve (account_at m id)) (holds_itself m) describes_nothing
     nothing_issued
     (record {
       seq = refl;
@@ -92,7 +73,7 @@ opened_sound : (ctx : Ctx) (op : BeginSponsoringFutureReservesOp) (m : EntryMap)
     → HasAccount m ctx.op_source → is_same_account op.sponsored_id ctx.op_source ≡ false
     → is_some (open_sponsor ctx op.sponsored_id) ≡ false
     → AreSponsorshipsSound (begins.with_sponsorship_opened op ctx) m
-opened_sound ctx op m sound stands apart none =
+opened_sound ctx op m sound exists apart none =
     let new = begins.new_sponsorship ctx op in
     let free = not_sponsored ctx op.sponsored_id none in
     record {
@@ -100,11 +81,11 @@ opened_sound ctx op m sound stands apart none =
           (λ k d lt. apart_accounts (get_or ctx.sponsorships k d).sponsored op.sponsored_id (free k d lt));
       other = All-push (λ x. x.sponsor ≢ x.sponsored) ctx.sponsorships new sound.other
           (λ same. apart_accounts op.sponsored_id ctx.op_source apart (sym same));
-      stand = All-push (λ x. HasAccount m x.sponsor) ctx.sponsorships new sound.stand stands;
+      exist = All-push (λ x. HasAccount m x.sponsor) ctx.sponsorships new sound.exist exists;
     }
 
 pub begin_sponsoring_is_lawful : AreLawful begins.begin_sponsoring
-begin_sponsoring_is_lawful ctx op m done under stands is =
+begin_sponsoring_is_lawful ctx op m done under exists is =
     let opened = begins.with_sponsorship_opened op ctx in
     let went = went_on (begins.begin_tests ctx op) (success opened (begins.answer begin.Success) m []) done is in
     let third : Tests OperationResult = (
@@ -119,41 +100,41 @@ begin_sponsoring_is_lawful ctx op m done under stands is =
     let same : made ≡ done = cc in
     subst (IsLawful ctx m) same (opened_so ctx m under (begins.answer begin.Success)
     (ctx.sponsorships ++ begins.new_sponsorship ctx op ∷ [])
-    (opened_sound ctx op m under.sponsorships stands first.0 second.0))
+    (opened_sound ctx op m under.sponsorships exists first.0 second.0))
 
 -- ---- end
 
 all_removed : (P : Sponsorship → Type 0) (xs : List Sponsorship) (n : ℕ) → All P xs → All P (remove xs n)
 all_removed P xs n all = All-append P (take n xs) (drop (suc n) xs) (All-take P n xs all) (All-drop P (suc n) xs all)
 
-ended_sound : (ctx : Ctx) (m : EntryMap) (place : ℕ) → AreSponsorshipsSound ctx m → place < length ctx.sponsorships
-    → AreSponsorshipsSound (ends.without_sponsorship place ctx) m
-ended_sound ctx m place sound within = record {
-  once = all_pairs_remove (λ x y. x.sponsored ≢ y.sponsored) ctx.sponsorships place within sound.once;
-  other = all_removed (λ x. x.sponsor ≢ x.sponsored) ctx.sponsorships place sound.other;
-  stand = all_removed (λ x. HasAccount m x.sponsor) ctx.sponsorships place sound.stand;
+ended_sound : (ctx : Ctx) (m : EntryMap) (index : ℕ) → AreSponsorshipsSound ctx m → index < length ctx.sponsorships
+    → AreSponsorshipsSound (ends.without_sponsorship index ctx) m
+ended_sound ctx m index sound within = record {
+  once = all_pairs_remove (λ x y. x.sponsored ≢ y.sponsored) ctx.sponsorships index within sound.once;
+  other = all_removed (λ x. x.sponsor ≢ x.sponsored) ctx.sponsorships index sound.other;
+  exist = all_removed (λ x. HasAccount m x.sponsor) ctx.sponsorships index sound.exist;
 }
 
 some_sponsorship : AccountId → Sponsorship
 some_sponsorship id = record { sponsored = id; sponsor = id }
 
-within_open : (ctx : Ctx) (place : ℕ) → ends.place_of_sponsorship ctx ≡ Some place → place < length ctx.sponsorships
-unfolding ends.place_of_sponsorship
-within_open ctx place is =
-    (position-Some (λ s. is_same_account s.sponsored ctx.op_source) ctx.sponsorships place
+within_open : (ctx : Ctx) (index : ℕ) → ends.index_of_sponsorship ctx ≡ Some index → index < length ctx.sponsorships
+unfolding ends.index_of_sponsorship
+within_open ctx index is =
+    (position-Some (λ s. is_same_account s.sponsored ctx.op_source) ctx.sponsorships index
     (some_sponsorship ctx.op_source) is).0
 
 pub end_sponsoring_is_lawful : AreLawful (λ ctx (_ : Unit {0}) m. ends.end_sponsoring ctx m)
-end_sponsoring_is_lawful ctx op m done under stands is =
-    let went = went_after_some (ends.place_of_sponsorship ctx) (ends.answer end.NotSponsored) _ done is in
-    let place = went.0 in
+end_sponsoring_is_lawful ctx op m done under exists is =
+    let went = went_after_some (ends.index_of_sponsorship ctx) (ends.answer end.NotSponsored) _ done is in
+    let index = went.0 in
     let made : Done = record {
       result = ends.answer end.Success;
       entries = m;
-      ctx = ends.without_sponsorship place ctx;
+      ctx = ends.without_sponsorship index ctx;
       moves = [];
     } in
     let also = went.2 in
     let same : made ≡ done = cc in
-    subst (IsLawful ctx m) same (opened_so ctx m under (ends.answer end.Success) (remove ctx.sponsorships place)
-    (ended_sound ctx m place under.sponsorships (within_open ctx place went.1)))
+    subst (IsLawful ctx m) same (opened_so ctx m under (ends.answer end.Success) (remove ctx.sponsorships index)
+    (ended_sound ctx m index under.sponsorships (within_open ctx index went.1)))

@@ -1,37 +1,19 @@
--- What the moves of trades tell of each holder, and what they issue.
-use Rattle.std.proofs.Common.{◌≡◌, refl, sym, ap, ◌∙◌, Bool, true, false, All, List, [], ◌∷◌, ◌++◌, Option, Some}
-use Rattle.std.proofs.Common.{None, arith}
-use Rattle.std.proofs.lemmas.Int.{ints}
-use Rattle.std.proofs.lemmas.List.Elements.{All-head, All-tail}
-use Rattle.std.specs.Prelude.{ℤ, pos, neg_ℤ, ◌+ℤ◌, if◌then◌else◌}
-use Rattle.std.specs.Ordering.{is_eq}
-use Rattle.op_flags.specs.ledger_types.declared.ids.AccountId.{AccountId}
-use Rattle.op_flags.specs.ledger_types.declared.ids.Hash.{Hash}
-use Rattle.op_flags.specs.ledger_types.declared.asset.Asset.{Asset}
+-- What the moves of trades say of each holder, and what they issue.
+use Rattle.op_laws.proofs.Prelude.{◌≡◌, refl, sym, ap, ◌∙◌, Bool, true, false, All, List, [], ◌∷◌, ◌++◌, Option, Some}
+use Rattle.op_laws.proofs.Prelude.{None, arith, ints, All-head, All-tail, ℤ, pos, neg_ℤ, ◌+ℤ◌, if◌then◌else◌, is_eq}
+use Rattle.op_laws.proofs.Prelude.{AccountId, Hash, Asset, ClaimAtom, LedgerKey, asset_cmp, is_same_account, is_key}
+use Rattle.op_laws.proofs.Prelude.{under_key, both_more, more_where, of_asset, holder, moves_of, trade_moves, Holder}
+use Rattle.op_laws.proofs.Prelude.{OfAccount, OfPool, Move, Trade, Crossing, kept_at, kept_in, more_in, sold_in}
+use Rattle.op_laws.proofs.Prelude.{bought_in, IsOfTrade, AreTraded, IsOfHop, is_issuer, location_of, issued}
+use Rattle.op_laws.proofs.Prelude.{unless_issuer, if_add, zero_from_own_double, trade_is_of_hop}
 use Rattle.op_flags.specs.ledger_types.declared.asset.Asset.TheVariants as asset
 use Rattle.op_flags.specs.ledger_types.declared.asset.TrustLineAsset.TheVariants as line
-use Rattle.op_flags.specs.ledger_types.declared.claim_atom.ClaimAtom.{ClaimAtom}
 use Rattle.op_flags.specs.ledger_types.declared.claim_atom.ClaimAtom.TheVariants as atom
-use Rattle.op_flags.specs.ledger_types.declared.key.LedgerKey.{LedgerKey}
 use Rattle.op_flags.specs.ledger_types.declared.key.LedgerKey.TheVariants as key
-use Rattle.op_flags.specs.ledger_types.KeyOrder.{asset_cmp}
-use Rattle.op_flags.specs.sponsor_rules.Payers.{is_same_account}
-use Rattle.op_flags.specs.legal_rules.EntryKeys.{is_key}
-use Rattle.op_flags.specs.legal_rules.Holdings.{under_key, both_more, more_at as more_where}
-use Rattle.op_flags.specs.legal_rules.Supply.{of_asset}
-use Rattle.op_flags.specs.legal_rules.Trades.{holder}
-use Rattle.op_flags.specs.op_form.AtomMoves.{moves_of, trade_moves}
-use Rattle.op_flags.specs.op_form.Done.{Holder, OfAccount, OfPool, Move}
-use Rattle.op_flags.specs.trade_cross.declared.trade.Trade.{Trade}
-use Rattle.op_flags.specs.trade_cross.Crossing.{Crossing}
-use Rattle.op_flags.specs.trade_cross.CrossingLaws.{kept_at, kept_in, more_in, sold_in, bought_in, IsOfTrade, AreTraded}
-use Rattle.op_flags.specs.trade_cross.HopLaws.{IsOfHop}
-use Rattle.op_laws.specs.Moves.{is_issuer, place_of, issued}
-use Rattle.op_payment.proofs.Shifts.{unless_issuer}
 use Rattle.op_laws.proofs.IssuedMoves.{same_issuer}
 use Rattle.op_laws.proofs.MoveSums.{Measure, summed, held_by, more_by, moved_more, sum_issued}
-use Rattle.op_laws.proofs.Told.{Tells, tells_nothing, tells_both, at_place, more_for, moved, move_tells, account_more}
-use Rattle.op_laws.proofs.Told.{HasPlace, account_place, pool_place, pool_more}
+use Rattle.op_laws.proofs.Described.{Describes, describes_nothing, describes_both, at_index, more_for, moved, move_describes, account_more}
+use Rattle.op_laws.proofs.Described.{HasLocation, account_location, pool_location, pool_more}
 
 -- ---- a measure of amounts
 
@@ -48,9 +30,6 @@ others by (atom.LiquidityPool pool sold n bought k ∷ atoms) =
     (by sold (OfPool pool) (neg_ℤ n) +ℤ by bought (OfPool pool) k) +ℤ others by atoms
 others by (other ∷ atoms) = pos 0 +ℤ others by atoms
 
-nothing_of : (n : ℤ) → n ≡ (n +ℤ n) → n ≡ pos 0
-nothing_of n is = omega (arith, ints)
-
 none_sold : (u v : ℤ) → u ≡ pos 0 → v ≡ pos 0 → pos 0 ≡ (pos 0 +ℤ (u +ℤ v))
 none_sold u v nothing none = omega (arith, ints)
 
@@ -61,14 +40,9 @@ sold_also : (a b c d r s u v w y : ℤ) → r ≡ (s +ℤ (u +ℤ v)) → w ≡ 
     → ((a +ℤ b) +ℤ ((c +ℤ d) +ℤ r)) ≡ (((b +ℤ c) +ℤ s) +ℤ (w +ℤ y))
 sold_also a b c d r s u v w y rest sent got = omega (arith, ints)
 
-pub of_hop : (trade : Trade) (one : ClaimAtom) → IsOfTrade trade one → IsOfHop trade one
-of_hop trade (atom.OrderBook seller id sold n bought k) is = is
-of_hop trade (atom.LiquidityPool pool sold n bought k) is = absurd is
-of_hop trade (atom.V0 seller id sold n bought k) is = absurd is
-
 module _ (by : Measure) (linear : IsLinear by) (trade : Trade) (taker : Holder) where
   none_by : (held : Asset) → by held taker (pos 0) ≡ pos 0
-  none_by held = nothing_of (by held taker (pos 0)) (linear held taker (pos 0) (pos 0))
+  none_by held = zero_from_own_double (by held taker (pos 0)) (linear held taker (pos 0) (pos 0))
 
   -- one trade more
   traded_also : (h : Holder) (sold bought : Asset) (n k : ℤ) (atoms : List ClaimAtom) → sold ≡ trade.wheat
@@ -108,11 +82,6 @@ module _ (by : Measure) (linear : IsLinear by) (trade : Trade) (taker : Holder) 
 
 -- ---- measures
 
-pub sum_if : (t : Bool) (a b : ℤ)
-    → (if t then a +ℤ b else pos 0) ≡ ((if t then a else pos 0) +ℤ (if t then b else pos 0))
-sum_if true a b = refl
-sum_if false a b = refl
-
 sum_unless : (t : Bool) (a b c : ℤ) → c ≡ (a +ℤ b)
     → (if t then pos 0 else c) ≡ ((if t then pos 0 else a) +ℤ (if t then pos 0 else b))
 sum_unless true a b c is = refl
@@ -121,22 +90,22 @@ sum_unless false a b c is = is
 pub held_linear : (x : Asset) → IsLinear (held_by x)
 held_linear x held h a b =
     sum_unless (is_issuer held h) (of_asset x held a) (of_asset x held b) (of_asset x held (a +ℤ b))
-    (sum_if (is_eq (asset_cmp x held)) a b)
+    (if_add (is_eq (asset_cmp x held)) a b)
 
 sum_at : (o : Option LedgerKey) (held : Asset) (a b : ℤ) (k : LedgerKey) (x : Asset)
-    → at_place o (λ y. of_asset y held (a +ℤ b)) k x
-    ≡ (at_place o (λ y. of_asset y held a) k x +ℤ at_place o (λ y. of_asset y held b) k x)
+    → at_index o (λ y. of_asset y held (a +ℤ b)) k x
+    ≡ (at_index o (λ y. of_asset y held a) k x +ℤ at_index o (λ y. of_asset y held b) k x)
 sum_at None held a b k x = refl
 sum_at (Some at) held a b k x =
-    ap (λ n. if is_key k at then n else pos 0) (sum_if (is_eq (asset_cmp x held)) a b)
-    ∙ sum_if (is_key k at) (of_asset x held a) (of_asset x held b)
+    ap (λ n. if is_key k at then n else pos 0) (if_add (is_eq (asset_cmp x held)) a b)
+    ∙ if_add (is_key k at) (of_asset x held a) (of_asset x held b)
 
 pub more_linear : (k : LedgerKey) (x : Asset) → IsLinear (more_by k x)
 more_linear k x held h a b =
-    sum_unless (is_issuer held h) (at_place (place_of held h) (λ y. of_asset y held a) k x)
-    (at_place (place_of held h) (λ y. of_asset y held b) k x)
-    (at_place (place_of held h) (λ y. of_asset y held (a +ℤ b)) k x)
-    (sum_at (place_of held h) held a b k x)
+    sum_unless (is_issuer held h) (at_index (location_of held h) (λ y. of_asset y held a) k x)
+    (at_index (location_of held h) (λ y. of_asset y held b) k x)
+    (at_index (location_of held h) (λ y. of_asset y held (a +ℤ b)) k x)
+    (sum_at (location_of held h) held a b k x)
 
 -- ---- where accounts have assets
 
@@ -195,38 +164,38 @@ others_more k x (atom.LiquidityPool pool sold n bought j ∷ atoms) =
     λ i. (pool_more sold pool (neg_ℤ n) k x i +ℤ pool_more bought pool j k x i) +ℤ others_more k x atoms i
 others_more k x (other ∷ atoms) = ap (λ n. pos 0 +ℤ n) (others_more k x atoms)
 
--- ---- what an account that takes is told
+-- ---- what is said of an account that takes
 
-trade_tells : (taker other : Holder) (sold bought : Asset) (n k : ℤ) (moves : List Move) → HasPlace sold taker
-    → HasPlace sold other → HasPlace bought taker → HasPlace bought other → Tells (moved_more moves) moves
-    → Tells (moved_more (trade_moves taker other sold n bought k ++ moves))
+trade_describes : (taker other : Holder) (sold bought : Asset) (n k : ℤ) (moves : List Move) → HasLocation sold taker
+    → HasLocation sold other → HasLocation bought taker → HasLocation bought other → Describes (moved_more moves) moves
+    → Describes (moved_more (trade_moves taker other sold n bought k ++ moves))
     (trade_moves taker other sold n bought k ++ moves)
-trade_tells taker other sold bought n k moves here there back forth rest =
+trade_describes taker other sold bought n k moves here there back forth rest =
     let gives : Move = record { from = other; to = taker; asset = sold; amount = n } in
     let takes : Move = record { from = taker; to = other; asset = bought; amount = k } in
-    tells_both (moved sold other taker n) (both_more (moved bought taker other k) (moved_more moves)) (gives ∷ [])
-    (takes ∷ moves) (move_tells sold other taker n there here)
-    (tells_both (moved bought taker other k) (moved_more moves) (takes ∷ []) moves
-    (move_tells bought taker other k back forth) rest)
+    describes_both (moved sold other taker n) (both_more (moved bought taker other k) (moved_more moves)) (gives ∷ [])
+    (takes ∷ moves) (move_describes sold other taker n there here)
+    (describes_both (moved bought taker other k) (moved_more moves) (takes ∷ []) moves
+    (move_describes bought taker other k back forth) rest)
 
--- The moves tell of each holder what its entry holds more.
-pub moves_tell : (source : AccountId) (atoms : List ClaimAtom)
-    → Tells (moved_more (moves_of (OfAccount source) atoms)) (moves_of (OfAccount source) atoms)
-moves_tell source [] = tells_nothing
-moves_tell source (atom.OrderBook seller id sold n bought k ∷ atoms) =
-    trade_tells (OfAccount source) (OfAccount seller) sold bought n k (moves_of (OfAccount source) atoms)
-    (account_place sold source) (account_place sold seller) (account_place bought source) (account_place bought seller)
-    (moves_tell source atoms)
-moves_tell source (atom.LiquidityPool pool sold n bought k ∷ atoms) =
-    trade_tells (OfAccount source) (OfPool pool) sold bought n k (moves_of (OfAccount source) atoms)
-    (account_place sold source) (pool_place sold pool) (account_place bought source) (pool_place bought pool)
-    (moves_tell source atoms)
-moves_tell source (atom.V0 seller id sold n bought k ∷ atoms) = moves_tell source atoms
+-- The moves say of each holder what its entry holds more.
+pub moves_describe : (source : AccountId) (atoms : List ClaimAtom)
+    → Describes (moved_more (moves_of (OfAccount source) atoms)) (moves_of (OfAccount source) atoms)
+moves_describe source [] = describes_nothing
+moves_describe source (atom.OrderBook seller id sold n bought k ∷ atoms) =
+    trade_describes (OfAccount source) (OfAccount seller) sold bought n k (moves_of (OfAccount source) atoms)
+    (account_location sold source) (account_location sold seller) (account_location bought source) (account_location bought seller)
+    (moves_describe source atoms)
+moves_describe source (atom.LiquidityPool pool sold n bought k ∷ atoms) =
+    trade_describes (OfAccount source) (OfPool pool) sold bought n k (moves_of (OfAccount source) atoms)
+    (account_location sold source) (pool_location sold pool) (account_location bought source) (pool_location bought pool)
+    (moves_describe source atoms)
+moves_describe source (atom.V0 seller id sold n bought k ∷ atoms) = moves_describe source atoms
 
 all_of_hop : (trade : Trade) (atoms : List ClaimAtom) → All (IsOfTrade trade) atoms → All (IsOfHop trade) atoms
-all_of_hop trade atoms all = λ k d lt. of_hop trade _ (all k d lt)
+all_of_hop trade atoms all = λ k d lt. trade_is_of_hop trade _ (all k d lt)
 
--- the same by what the trade comes to
+-- the same by what the trade yields
 sum_of : (by : Measure) → IsLinear by → (trade : Trade) (source : AccountId) (done : Crossing) → AreTraded trade done
     → summed by (moves_of (OfAccount source) done.atoms) ≡ (others by done.atoms
     +ℤ (by trade.sheep (OfAccount source) (neg_ℤ (pos done.sheep))

@@ -1,75 +1,32 @@
 -- CHANGE_TRUST of a line in an asset is lawful.
-use Rattle.std.proofs.Common.{◌≡◌, ◌≢◌, refl, sym, ap, subst, ◌∙◌, ℕ, ◌%◌, ◌≤◌, Bool, true, false, not, ◌||◌, ◌∷◌, []}
-use Rattle.std.proofs.Common.{is_some, bit_or, Option, Some, None, Ok, arith}
-use Rattle.std.proofs.lemmas.Int.{ints}
-use Rattle.std.specs.Prelude.{ℤ, pos, neg_ℤ, int_lt, ◌+ℤ◌, ◌-ℤ◌, ◌≤ℤ◌, if◌then◌else◌}
-use Rattle.std.specs.FinMap.{get}
-use Rattle.std.specs.Ordering.{int_eq, is_eq}
-use Rattle.op_flags.specs.ledger_types.declared.ids.AccountId.{AccountId}
-use Rattle.op_flags.specs.ledger_types.declared.account.AccountEntry.{AccountEntry}
-use Rattle.op_flags.specs.ledger_types.declared.asset.Asset.{Asset}
+use Rattle.op_laws.proofs.Prelude as prelude
+use prelude.{◌≡◌, ◌≢◌, refl, sym, ap, subst, ◌∙◌, ℕ, ◌%◌, ◌≤◌, Bool, true, false, not, ◌||◌, ◌∷◌, [], is_some, bit_or}
+use prelude.{Option, Some, None, Ok, arith, ints, ℤ, pos, neg_ℤ, int_lt, ◌+ℤ◌, ◌≤ℤ◌, if◌then◌else◌, get, int_eq}
+use prelude.{AccountId, AccountEntry, Asset, TrustLineAsset, TrustLineEntry, LedgerEntry, LedgerEntryBody, LedgerKey}
+use prelude.{key_of, key_of_body, is_valid_asset, EntryMap, erase, account_at, HasAccount, sponsor_of, line_liabilities}
+use prelude.{use_count, line_in, line_of, line_at, with_line, part, greatest_i64, Ctx, map_after_adding}
+use prelude.{line_multiplicity, without_subentry, map_after_discounting, map_after_removing, map_after_removing_entry}
+use prelude.{apart_accounts, is_key, Kind, Subentries, Sponsoring, Sponsored, Selling, Buying, Shares, ShareLines, Uses}
+use prelude.{View, view, weighed, nothing_owed, beside_reserves, IsEntryLegal, IsHeldIn, AreLineFlags}
+use prelude.{IsTrustLineInRange, of_line, held_of, sponsors_ready, subentry_added_so, nothing_settled, subentry_removed}
+use prelude.{owns, legal_as, line_entry, with_line_body, subentry_of, is_native, is_issued_by, issuer_at, line_asset_of}
+use prelude.{line_of_asset, Done, is_auth_required, is_account_clawback_enabled, success, IsLawful, IsUnderway}
+use prelude.{subentry_kept, discharged_kept, erased_kept, line_legal, IsKeyed, none_more, still_holds, Leaves}
+use prelude.{keeps_both, went_on, went_after_some, went_after_charge, first_passed, add_zero, add_zero_at_most}
+use prelude.{int_eq_true, int_lt_false, zero_sub_if_zero, zero_sub_zero, zeros_add_to_zero, of_line_zero, not-false}
+use prelude.{or_parts}
 use Rattle.op_flags.specs.ledger_types.declared.asset.Asset.TheVariants as asset
-use Rattle.op_flags.specs.ledger_types.declared.asset.TrustLineAsset.{TrustLineAsset}
 use Rattle.op_flags.specs.ledger_types.declared.asset.TrustLineAsset.TheVariants as line
-use Rattle.op_flags.specs.ledger_types.declared.trust_line.TrustLineEntry.{TrustLineEntry}
-use Rattle.op_flags.specs.ledger_types.declared.entry.LedgerEntry.{LedgerEntry}
-use Rattle.op_flags.specs.ledger_types.declared.entry.LedgerEntryBody.{LedgerEntryBody}
 use Rattle.op_flags.specs.ledger_types.declared.entry.LedgerEntryBody.TheVariants as body
-use Rattle.op_flags.specs.ledger_types.declared.key.LedgerKey.{LedgerKey}
 use Rattle.op_flags.specs.ledger_types.declared.key.LedgerKey.TheVariants as key
-use Rattle.op_flags.specs.ledger_types.Keys.{key_of, key_of_body}
-use Rattle.op_flags.specs.ledger_types.KeyOrder.{asset_cmp}
 use Rattle.op_flags.specs.op_types.declared.trust_results.ChangeTrustResult.TheVariants as trust
-use Rattle.op_flags.specs.valid_values.Assets.{is_valid_asset}
-use Rattle.op_flags.specs.entry_map.EntryMap.{EntryMap, erase}
-use Rattle.op_flags.specs.entry_slots.Accounts.{account_at, HasAccount}
-use Rattle.op_flags.specs.entry_slots.EntrySponsor.{sponsor_of}
-use Rattle.op_flags.specs.entry_slots.LineExtensions.{line_liabilities, use_count}
-use Rattle.op_flags.specs.entry_slots.Lines.{line_in, line_of, line_at, with_line}
-use Rattle.op_flags.specs.entry_sums.Sums.{part}
-use Rattle.op_pool.specs.reserve_rules.Reserve.{greatest_i64}
-use Rattle.op_flags.specs.sponsor_rules.declared.context.Ctx.{Ctx}
-use Rattle.op_flags.specs.sponsor_rules.Adding.{map_after_adding}
-use Rattle.op_flags.specs.sponsor_rules.Charge.{line_multiplicity}
-use Rattle.op_flags.specs.sponsor_rules.Paying.{without_subentry}
-use Rattle.op_flags.specs.sponsor_rules.Removing.{map_after_discounting, map_after_removing, map_after_removing_entry}
-use Rattle.op_flags.proofs.sponsor_rules_proofs.Ids.{apart_accounts}
-use Rattle.op_flags.specs.legal_rules.EntryKeys.{is_key}
-use Rattle.op_flags.specs.legal_rules.Books.{Kind, Subentries, Sponsoring, Sponsored, Selling, Buying, Shares}
-use Rattle.op_flags.specs.legal_rules.Books.{ShareLines, Uses}
-use Rattle.op_flags.specs.legal_rules.Books.{View}
-use Rattle.op_flags.specs.legal_rules.Legal.{view}
-use Rattle.op_flags.specs.legal_rules.Owing.{weighed, nothing_owed, beside_reserves, IsEntryLegal}
-use Rattle.op_flags.specs.legal_rules.Ranges.{IsHeldIn, AreLineFlags, IsTrustLineInRange}
-use Rattle.op_flags.specs.legal_rules.Supply.{of_line, held as held_of}
-use Rattle.op_flags.proofs.legal_rules_proofs.Given.{sponsors_ready}
-use Rattle.op_flags.proofs.legal_rules_proofs.Kept.{subentry_added_so}
-use Rattle.op_flags.proofs.legal_rules_proofs.Numbers.{plus_nothing}
-use Rattle.op_flags.proofs.legal_rules_proofs.PaidFor.{nothing_settled}
-use Rattle.op_flags.proofs.legal_rules_proofs.Removing.{subentry_removed, owns}
-use Rattle.op_flags.proofs.legal_rules_proofs.Steps.{legal_as}
-use Rattle.op_flags.proofs.legal_rules_proofs.Liable.{int_same, line_entry, with_line_body}
-use Rattle.op_flags.proofs.legal_rules_proofs.Subentries.{subentry_of}
-use Rattle.op_flags.specs.op_form.Assets.{is_native, is_issued_by, issuer_at, line_asset_of, line_of_asset}
-use Rattle.op_flags.specs.op_form.Done.{Done}
-use Rattle.op_flags.specs.op_form.Flags.{is_auth_required, is_account_clawback_enabled}
-use Rattle.op_flags.specs.op_form.Steps.{success}
 use Rattle.op_trust.specs.ChangeTrust as spec
-use Rattle.op_laws.specs.Laws.{IsLawful}
-use Rattle.op_laws.specs.Underway.{IsUnderway}
-use Rattle.op_flags.proofs.legal_rules_proofs.ChargesLeft.{subentry_kept, discharged_kept, erased_kept}
 use Rattle.op_laws.proofs.Lawful.{KeepsLegal, lawful_still}
-use Rattle.op_flags.proofs.legal_rules_proofs.LinesLeft.{line_legal}
-use Rattle.op_laws.proofs.LineLimits.{not_below, not_zero, nothing_in_line, line_limited_lawful}
-use Rattle.op_flags.specs.legal_rules.Holdings.{IsKeyed, none_more}
-use Rattle.op_flags.proofs.legal_rules_proofs.Holdings.{still_holds}
-use Rattle.op_flags.proofs.legal_rules_proofs.Leaving.{Leaves, keeps_both}
-use Rattle.op_flags.proofs.Went.{went_on, went_after_some, went_after_charge}
-use Rattle.op_flags.proofs.legal_rules_proofs.Passed.{first_passed, neither}
+use Rattle.op_laws.proofs.LineLimits.{not_zero, nothing_in_line, line_limited_lawful}
 
 -- ---- keys
 
--- where no line stands under its key, nothing does
+-- where no line is under its key, nothing is
 no_line_body : (b : LedgerEntryBody) (id : AccountId) (held : TrustLineAsset) → key_of_body b ≡ key.TrustLine id held
     → line_in b ≡ None → ⊥
 no_line_body (body.TrustLine t) id held own none = absurd (cc)
@@ -94,10 +51,6 @@ pub record IsIdleLine (t : TrustLineEntry) (held : Asset) : Type 0 where
   pub buying : (line_liabilities t).buying ≡ pos 0
   pub uses : use_count t ≡ pos 0
 
-none_stated : (b : Bool) (n : ℤ) → n ≡ pos 0 → (pos 0 -ℤ (if b then n else pos 0)) ≡ pos 0
-none_stated true n none = omega (arith, ints)
-none_stated false n none = refl
-
 module _ (v : View) (e : LedgerEntry) (t : TrustLineEntry) (held : Asset) (idle : IsIdleLine t held) where
   abbrev own : LedgerKey → Bool
   own k = is_key (key.TrustLine t.account_id t.asset) k
@@ -111,30 +64,20 @@ module _ (v : View) (e : LedgerEntry) (t : TrustLineEntry) (held : Asset) (idle 
   nothing_of x Subentries k = refl
   nothing_of x Sponsoring k = refl
   nothing_of x Sponsored k = refl
-  nothing_of x Selling k = none_stated _ (line_liabilities t).selling idle.selling
-  nothing_of x Buying k = none_stated _ (line_liabilities t).buying idle.buying
-  nothing_of asset.Native Uses k = none_stated _ (use_count t) idle.uses
-  nothing_of (asset.Alphanum4 code issuer) Uses k = none_stated _ (use_count t) idle.uses
-  nothing_of (asset.Alphanum12 code issuer) Uses k = none_stated _ (use_count t) idle.uses
-  nothing_of asset.Native Shares k = none_stated _ (pos 0) refl
-  nothing_of (asset.Alphanum4 code issuer) Shares k = none_stated _ (pos 0) refl
-  nothing_of (asset.Alphanum12 code issuer) Shares k = none_stated _ (pos 0) refl
-  nothing_of asset.Native ShareLines k = none_stated _ (pos 0) refl
-  nothing_of (asset.Alphanum4 code issuer) ShareLines k = none_stated _ (pos 0) refl
-  nothing_of (asset.Alphanum12 code issuer) ShareLines k = none_stated _ (pos 0) refl
+  nothing_of x Selling k = zero_sub_if_zero _ (line_liabilities t).selling idle.selling
+  nothing_of x Buying k = zero_sub_if_zero _ (line_liabilities t).buying idle.buying
+  nothing_of asset.Native Uses k = zero_sub_if_zero _ (use_count t) idle.uses
+  nothing_of (asset.Alphanum4 code issuer) Uses k = zero_sub_if_zero _ (use_count t) idle.uses
+  nothing_of (asset.Alphanum12 code issuer) Uses k = zero_sub_if_zero _ (use_count t) idle.uses
+  nothing_of asset.Native Shares k = zero_sub_if_zero _ (pos 0) refl
+  nothing_of (asset.Alphanum4 code issuer) Shares k = zero_sub_if_zero _ (pos 0) refl
+  nothing_of (asset.Alphanum12 code issuer) Shares k = zero_sub_if_zero _ (pos 0) refl
+  nothing_of asset.Native ShareLines k = zero_sub_if_zero _ (pos 0) refl
+  nothing_of (asset.Alphanum4 code issuer) ShareLines k = zero_sub_if_zero _ (pos 0) refl
+  nothing_of (asset.Alphanum12 code issuer) ShareLines k = zero_sub_if_zero _ (pos 0) refl
 
   pub nothing_counted : (kind : Kind) (k : LedgerKey) → beside_reserves (weighed v (with_line_body e t)) kind k ≡ pos 0
   nothing_counted = subst CountsNothing (sym idle.asset) (nothing_of held)
-
-pub same_zero : (b : Bool) → (if b then pos 0 else pos 0) ≡ pos 0
-same_zero true = refl
-same_zero false = refl
-
-nothing_held : (x : Asset) (a : TrustLineAsset) → of_line x a (pos 0) ≡ pos 0
-nothing_held x line.Native = refl
-nothing_held x (line.Alphanum4 code issuer) = same_zero (is_eq (asset_cmp x (asset.Alphanum4 code issuer)))
-nothing_held x (line.Alphanum12 code issuer) = same_zero (is_eq (asset_cmp x (asset.Alphanum12 code issuer)))
-nothing_held x (line.PoolShare pool) = refl
 
 -- ---- the flags and the asset of a new line
 
@@ -162,28 +105,15 @@ held_in_it (asset.Alphanum12 code issuer) id issued valid other = (valid, apart_
 
 -- ---- numbers
 
-pub not_true : (b : Bool) → not b ≡ false → b ≡ true
-not_true true h = refl
-not_true false h = absurd (cc)
-
-as_nothing : (t : ℤ) → t ≡ pos 0 → (pos 0 +ℤ t) ≡ pos 0
-as_nothing t none = omega (arith, ints)
-
-none_taken : (x : ℤ) → x ≡ pos 0 → (pos 0 +ℤ neg_ℤ x) ≡ pos 0
-none_taken x none = omega (arith, ints)
-
 minus_none : (x h : ℤ) → h ≡ pos 0 → (x +ℤ neg_ℤ h) ≡ x
 minus_none x h none = omega (arith, ints)
-
-plus_none : (x : ℤ) → x ≤ℤ pos 1 → (x +ℤ pos 0) ≤ℤ pos 1
-plus_none x le = omega (arith, ints)
 
 none_within : (s b : ℤ) → b ≡ pos 0 → pos 0 ≤ℤ s → s ≤ℤ b → s ≡ pos 0
 none_within s b none low le = omega (arith, ints)
 
 -- ---- adding
 
-module _ (ctx : Ctx) (m : EntryMap) (under : IsUnderway ctx m) (stands : HasAccount m ctx.op_source) (held : Asset)
+module _ (ctx : Ctx) (m : EntryMap) (under : IsUnderway ctx m) (exists : HasAccount m ctx.op_source) (held : Asset)
     (issued_asset : is_native held ≡ false) (limit : ℤ) where
   abbrev src : AccountId
   src = ctx.op_source
@@ -233,17 +163,17 @@ module _ (ctx : Ctx) (m : EntryMap) (under : IsUnderway ctx m) (stands : HasAcco
         refl (record {
           free = no_line m src its legal.keyed none;
           unsponsored = refl;
-          id_free = λ id. plus_none _ (legal.offers id);
+          id_free = λ id. add_zero_at_most _ (pos 1) (legal.offers id);
         }) (omega arith) (record {
           range = record { body = new_range; paid = λ some. absurd (some refl) };
           bound = λ none_set. (refl, refl);
           few = tt;
           fits = tt;
           filled = tt;
-        }) stands (sponsors_ready ctx m src under.sponsorships) done)
-        (λ kind k. as_nothing _ (nothing_counted v entry new_t held
+        }) exists (sponsors_ready ctx m src under.sponsorships) done)
+        (λ kind k. zeros_add_to_zero (pos 0) _ refl (nothing_counted v entry new_t held
         (record { asset = refl; selling = refl; buying = refl; uses = refl }) kind k))
-        (ap (λ n. sum +ℤ n) (nothing_held v.asset its) ∙ plus_nothing sum)
+        (ap (λ n. sum +ℤ n) (of_line_zero v.asset its) ∙ add_zero sum)
 
     added_lawful : (done : Done) → line_at m src its ≡ None → spec.added ctx held limit issuer m ≡ Ok done
         → IsLawful ctx m done
@@ -255,7 +185,7 @@ module _ (ctx : Ctx) (m : EntryMap) (under : IsUnderway ctx m) (stands : HasAcco
         subst (IsLawful ctx m) same (lawful_still ctx m under (spec.answer trust.Success) went.0
         (added_legal went.0 none went.1)
         (subentry_kept ctx m src (line_multiplicity its) entry went.0 under.settled.legal.keyed
-        (λ id at. absurd (cc)) (λ x. nothing_held x its)
+        (λ id at. absurd (cc)) (λ x. of_line_zero x its)
         (λ x. ap (part (held_of x)) (no_line m src its under.settled.legal.keyed none)) went.1))
 
   -- ---- another limit
@@ -308,15 +238,15 @@ module _ (ctx : Ctx) (m : EntryMap) (under : IsUnderway ctx m) (stands : HasAcco
         removed_legal v sum legal = legal_as v (IsEntryLegal ctx.id_pool) _ nothing_owed _ sum _
             (subentry_removed v ctx.id_pool nothing_owed sum m legal nothing_settled t.account_id times its_key e1 at
             (subentry_of (body.TrustLine t) t.account_id times refl))
-            (λ kind k. none_taken _ (nothing_counted v e t held its_line kind k))
+            (λ kind k. zero_sub_zero _ (nothing_counted v e t held its_line kind k))
             (minus_none sum (of_line v.asset t.asset t.balance)
-            (ap (of_line v.asset t.asset) nothing_in.0 ∙ nothing_held v.asset t.asset))
+            (ap (of_line v.asset t.asset) nothing_in.0 ∙ of_line_zero v.asset t.asset))
 
         had : (a : AccountEntry) → account_at m t.account_id ≡ Some a → times ≤ a.num_sub_entries
-        had a standing =
+        had a existing =
             let own = owns (view m) ctx.id_pool nothing_owed _ m under.settled.legal nothing_settled t.account_id times
             its_key e1 at (subentry_of (body.TrustLine t) t.account_id times refl) in
-            let also = own.stands in
+            let also = own.exists in
             let same : own.account ≡ a = cc in
             subst (λ (b : AccountEntry). times ≤ b.num_sub_entries) same own.enough
 
@@ -329,7 +259,7 @@ module _ (ctx : Ctx) (m : EntryMap) (under : IsUnderway ctx m) (stands : HasAcco
             keeps_both ctx.base_reserve m now (erase now its_key) first
             (erased_kept ctx.base_reserve now its_key first.keyed (λ id same. absurd (cc))
             (λ x. still_holds m now first.holds its_key x ∙ ap (part (held_of x)) at
-            ∙ ap (of_line x t.asset) nothing_in.0 ∙ nothing_held x t.asset))
+            ∙ ap (of_line x t.asset) nothing_in.0 ∙ of_line_zero x t.asset))
 
     removed_lawful : (done : Done) → int_eq limit (pos 0) ≡ true → spec.removed ctx held t m ≡ Ok done
         → IsLawful ctx m done
@@ -338,7 +268,7 @@ module _ (ctx : Ctx) (m : EntryMap) (under : IsUnderway ctx m) (stands : HasAcco
         let went = went_on ((not (int_eq (use_count t) (pos 0)), spec.answer trust.CannotDelete) ∷ [])
         (success ctx (spec.answer trust.Success) new []) done is in
         let test = first_passed (not (int_eq (use_count t) (pos 0))) (spec.answer trust.CannotDelete) [] went.0 in
-        let unused = int_same (use_count t) (pos 0) (not_true (int_eq (use_count t) (pos 0)) test.0) in
+        let unused = int_eq_true (use_count t) (pos 0) (not-false (int_eq (use_count t) (pos 0)) test.0) in
         let also = went.1 in
         let made : Done = record { result = spec.answer trust.Success; entries = new; ctx = ctx; moves = [] } in
         let same : made ≡ done = cc in
@@ -352,7 +282,7 @@ module _ (ctx : Ctx) (m : EntryMap) (under : IsUnderway ctx m) (stands : HasAcco
 
 -- ---- CHANGE_TRUST of a line in an asset
 
-module _ (ctx : Ctx) (m : EntryMap) (done : Done) (under : IsUnderway ctx m) (stands : HasAccount m ctx.op_source)
+module _ (ctx : Ctx) (m : EntryMap) (done : Done) (under : IsUnderway ctx m) (exists : HasAccount m ctx.op_source)
     (limit : ℤ) (high : limit ≤ℤ greatest_i64) where
   module _ (held : Asset) (issued_asset : is_native held ≡ false) (low : pos 0 ≤ℤ limit)
       (valid : is_valid_asset held ≡ true) (other : is_issued_by held ctx.op_source ≡ false) where
@@ -360,9 +290,9 @@ module _ (ctx : Ctx) (m : EntryMap) (done : Done) (under : IsUnderway ctx m) (st
         → spec.is_exceeded limit t ≡ false → (b : Bool) → int_eq limit (pos 0) ≡ b
         → (if b then spec.removed ctx held t m else spec.limited ctx held limit m) ≡ Ok done → IsLawful ctx m done
     by_limit t there exceeded true none is =
-        removed_lawful ctx m under stands held issued_asset limit t there exceeded low done none is
+        removed_lawful ctx m under exists held issued_asset limit t there exceeded low done none is
     by_limit t there exceeded false some is =
-        limited_lawful ctx m under stands held issued_asset limit t there exceeded low done some high is
+        limited_lawful ctx m under exists held issued_asset limit t there exceeded low done some high is
 
     by_line : (o : Option TrustLineEntry) → line_at m ctx.op_source (line_asset_of held) ≡ o
         → spec.changed ctx held limit m o ≡ Ok done → IsLawful ctx m done
@@ -375,7 +305,7 @@ module _ (ctx : Ctx) (m : EntryMap) (done : Done) (under : IsUnderway ctx m) (st
         let went = went_on ((int_eq limit (pos 0), spec.answer trust.InvalidLimit) ∷ []) _ done is in
         let test = first_passed (int_eq limit (pos 0)) (spec.answer trust.InvalidLimit) [] went.0 in
         let issuer = went_after_some (issuer_at m held) (spec.answer trust.NoIssuer) _ done went.1 in
-        added_lawful ctx m under stands held issued_asset limit valid other (not_zero limit low test.0) high issuer.0
+        added_lawful ctx m under exists held issued_asset limit valid other (not_zero limit low test.0) high issuer.0
         done there issuer.2
 
   -- Each CHANGE_TRUST of a line in an asset that succeeds is lawful.
@@ -387,8 +317,8 @@ module _ (ctx : Ctx) (m : EntryMap) (done : Done) (under : IsUnderway ctx m) (st
       let bad = not (is_valid_asset held) in
       let own = is_issued_by held ctx.op_source in
       let test = first_passed (below || native || bad || own) (spec.answer trust.Malformed) [] went.0 in
-      let last = neither (below || native || bad) own test.0 in
-      let third = neither (below || native) bad last.0 in
-      let first = neither below native third.0 in
-      by_line held first.1 (not_below limit first.0) (not_true (is_valid_asset held) third.1) last.1
+      let last = or_parts (below || native || bad) own test.0 in
+      let third = or_parts (below || native) bad last.0 in
+      let first = or_parts below native third.0 in
+      by_line held first.1 (int_lt_false limit (pos 0) first.0) (not-false (is_valid_asset held) third.1) last.1
       (line_of_asset m ctx.op_source held) refl went.1

@@ -1,61 +1,27 @@
 -- LIQUIDITY_POOL_WITHDRAW is lawful.
-use Rattle.std.proofs.Common.{◌≡◌, sym, subst, ◌∙◌, false, ◌||◌, List, [], ◌∷◌, Option, Some, Ok, arith}
-use Rattle.std.proofs.lemmas.Int.{ints}
-use Rattle.std.specs.Prelude.{ℤ, pos, neg_ℤ, ◌+ℤ◌, ◌≤ℤ◌, int_le, int_lt, nat_lt}
-use Rattle.op_flags.specs.ledger_types.declared.ids.AccountId.{AccountId}
-use Rattle.op_flags.specs.ledger_types.declared.ids.Hash.{Hash}
-use Rattle.op_flags.specs.ledger_types.declared.asset.Asset.{Asset}
+use Rattle.op_laws.proofs.Prelude as prelude
+use prelude.{◌≡◌, sym, subst, ◌∙◌, false, ◌||◌, List, [], ◌∷◌, Option, Some, Ok, ℤ, pos, neg_ℤ, ◌+ℤ◌, ◌≤ℤ◌, int_le}
+use prelude.{int_lt, AccountId, Hash, Asset, TrustLineEntry, LiquidityPoolEntry, LedgerKey, EntryMap, HasAccount}
+use prelude.{line_at, pool_at, total, Ctx, Increase, both_more, view, nothing_owed, of_asset, held_of, holder}
+use prelude.{leaves_as, IsLegalLine, line_legal, first_passed, most_taken, CanPay, Part, part_of, IsLegalPool}
+use prelude.{pool_legal, first_used, second_used, sound_of, Done, OfAccount, OfPool, Move, disabled_tests}
+use prelude.{withdraw_tests, share_tests, taken_tests, map_after_taking, move_of_a, move_of_b, taken}
+use prelude.{liquidity_pool_withdraw, IsLawful, AreLawful, issued, IsUnderway, IsMoved, unless_issuer, shifts_as}
+use prelude.{went_on, went_after_some, at_most_trans, int_lt_false, nonnegative_from_positive, positive_from_int_le}
+use prelude.{or_parts}
+use Rattle.std.specs.Prelude.{nat_lt}
 use Rattle.op_flags.specs.ledger_types.declared.asset.Asset.TheVariants as asset
 use Rattle.op_flags.specs.ledger_types.declared.asset.TrustLineAsset.TheVariants as line
-use Rattle.op_flags.specs.ledger_types.declared.trust_line.TrustLineEntry.{TrustLineEntry}
-use Rattle.op_flags.specs.ledger_types.declared.liquidity_pool.LiquidityPoolEntry.{LiquidityPoolEntry}
-use Rattle.op_flags.specs.ledger_types.declared.key.LedgerKey.{LedgerKey}
 use Rattle.op_flags.specs.op_types.declared.pool_ops.LiquidityPoolWithdrawOp.{LiquidityPoolWithdrawOp}
 use Rattle.op_flags.specs.op_types.declared.pool_results.LiquidityPoolWithdrawResult.TheVariants as withdrawing
-use Rattle.op_flags.specs.entry_map.EntryMap.{EntryMap}
-use Rattle.op_flags.specs.entry_slots.Accounts.{HasAccount}
-use Rattle.op_flags.specs.entry_slots.Lines.{line_at}
-use Rattle.op_flags.specs.entry_slots.Pools.{pool_at}
-use Rattle.op_flags.specs.entry_sums.Sums.{total}
-use Rattle.op_flags.specs.sponsor_rules.declared.context.Ctx.{Ctx}
-use Rattle.op_flags.specs.legal_rules.Holdings.{Increase, both_more}
-use Rattle.op_flags.specs.legal_rules.Legal.{view}
-use Rattle.op_flags.specs.legal_rules.Owing.{nothing_owed}
-use Rattle.op_flags.specs.legal_rules.Supply.{of_asset, held as held_of}
-use Rattle.op_flags.specs.legal_rules.Trades.{holder}
-use Rattle.op_flags.proofs.legal_rules_proofs.Leaving.{leaves_as}
-use Rattle.op_flags.proofs.legal_rules_proofs.LinesLeft.{IsLegalLine, line_legal}
-use Rattle.op_flags.proofs.legal_rules_proofs.Passed.{first_passed, neither}
-use Rattle.op_flags.specs.trade_cross.Holdings.{most_taken}
-use Rattle.op_flags.proofs.trade_cross_proofs.Paying.{CanPay}
-use Rattle.op_flags.specs.pool_shares.Withdrawing.{Part, part_of}
 use Rattle.op_flags.proofs.pool_shares_proofs.Parts.{can_withdraw}
-use Rattle.op_flags.proofs.pool_shares_proofs.Sound.{IsLegalPool, pool_legal, first_used, second_used, sound_of}
-use Rattle.op_flags.specs.op_form.Done.{Done, OfAccount, OfPool, Move}
-use Rattle.op_pool.specs.Withdraw.{answer, disabled_tests, withdraw_tests, share_tests, taken_tests, map_after_taking}
-use Rattle.op_pool.specs.Withdraw.{move_of_a, move_of_b, taken, liquidity_pool_withdraw}
-use Rattle.op_pool.proofs.Fitting.{not_less}
-use Rattle.op_laws.specs.Laws.{IsLawful, AreLawful}
-use Rattle.op_laws.specs.Moves.{issued}
-use Rattle.op_laws.specs.Underway.{IsUnderway}
-use Rattle.op_payment.proofs.Amounts.{IsMoved}
-use Rattle.op_payment.proofs.Shifts.{unless_issuer, shifts_as}
+use Rattle.op_pool.specs.Withdraw.{answer}
 use Rattle.op_laws.proofs.AsideMoves.{pool_issues_none, taken_back_issued}
-use Rattle.op_laws.proofs.Claims.{at_least_one}
-use Rattle.op_laws.proofs.Issued.{issued_behind}
+use Rattle.op_laws.proofs.Issued.{issued_after}
 use Rattle.op_laws.proofs.Lawful.{lawful_with}
-use Rattle.op_laws.proofs.PoolPayments.{holder_stands, takes_so, shift_of, more_of, pool_before, account_before}
+use Rattle.op_laws.proofs.PoolPayments.{holder_exists, takes_so, shift_of, more_of, pool_before, account_before}
 use Rattle.op_laws.proofs.PoolPayments.{both_taken}
-use Rattle.op_flags.proofs.Went.{went_on, went_after_some}
-use Rattle.op_laws.proofs.Told.{Tells, more_for, account_place, pool_place, moved, move_tells, tells_both}
-
--- ---- what may be taken out
-
-no_more : (x y z : ℤ) → x ≤ℤ y → y ≤ℤ z → x ≤ℤ z
-no_more x y z first second = omega (arith, ints)
-
-low_of : (x : ℤ) → pos 1 ≤ℤ x → pos 0 ≤ℤ x
-low_of x some = omega (arith, ints)
+use Rattle.op_laws.proofs.Described.{Describes, more_for, account_location, pool_location, moved, move_describes, describes_both}
 
 -- ---- what a withdrawal moves
 
@@ -87,7 +53,7 @@ module _ (ctx : Ctx) (op : LiquidityPoolWithdrawOp) (p : LiquidityPoolEntry) (pa
       (unless_issuer x b src out_b)
       ∙ (λ i. taken_back_issued x a (OfPool pool) src out_a (pool_issues_none a pool) i
       +ℤ taken_back_issued x b (OfPool pool) src out_b (pool_issues_none b pool) i)
-      ∙ sym (issued_behind x (move_of_a ctx op p part ∷ []) (move_of_b ctx op p part ∷ []))
+      ∙ sym (issued_after x (move_of_a ctx op p part ∷ []) (move_of_b ctx op p part ∷ []))
 
   abbrev more_a : Increase
   more_a = moved a (OfPool pool) (OfAccount src) out_a
@@ -100,10 +66,10 @@ module _ (ctx : Ctx) (op : LiquidityPoolWithdrawOp) (p : LiquidityPoolEntry) (pa
   more_is k x = account_before (more_for a (OfPool pool) (neg_ℤ out_a) k x) (more_for b (OfPool pool) (neg_ℤ out_b) k x)
       (more_for a (OfAccount src) out_a k x) (more_for b (OfAccount src) out_b k x)
 
-  tells : Tells (both_more more_a more_b) moves
-  tells = tells_both more_a more_b (move_of_a ctx op p part ∷ []) (move_of_b ctx op p part ∷ [])
-      (move_tells a (OfPool pool) (OfAccount src) out_a (pool_place a pool) (account_place a src))
-      (move_tells b (OfPool pool) (OfAccount src) out_b (pool_place b pool) (account_place b src))
+  describes : Describes (both_more more_a more_b) moves
+  describes = describes_both more_a more_b (move_of_a ctx op p part ∷ []) (move_of_b ctx op p part ∷ [])
+      (move_describes a (OfPool pool) (OfAccount src) out_a (pool_location a pool) (account_location a src))
+      (move_describes b (OfPool pool) (OfAccount src) out_b (pool_location b pool) (account_location b src))
 
   -- a withdrawal that moves both amounts is lawful
   withdrawal_lawful : (m : EntryMap) → IsUnderway ctx m
@@ -121,13 +87,13 @@ module _ (ctx : Ctx) (op : LiquidityPoolWithdrawOp) (p : LiquidityPoolEntry) (pa
       (shifts_as ctx.id_pool (shift_of p src (neg_ℤ out_a) (neg_ℤ out_b) out_a out_b) (λ x. issued x moves) m new
       shifted both.shifts)
       (leaves_as ctx.base_reserve (more_of p src pool (neg_ℤ out_a) (neg_ℤ out_b) out_a out_b)
-      (both_more more_a more_b) m new both.left more_is) tells
+      (both_more more_a more_b) m new both.left more_is) describes
 
 -- ---- the operation
 
 module _ (ctx : Ctx) (op : LiquidityPoolWithdrawOp) (m : EntryMap) (done : Done) (under : IsUnderway ctx m)
     (source : HasAccount m ctx.op_source) (some : pos 1 ≤ℤ op.amount) (t : TrustLineEntry) (p : LiquidityPoolEntry)
-    (has : line_at m ctx.op_source (line.PoolShare op.pool_id) ≡ Some t) (stands : pool_at m op.pool_id ≡ Some p)
+    (has : line_at m ctx.op_source (line.PoolShare op.pool_id) ≡ Some t) (exists : pool_at m op.pool_id ≡ Some p)
     (enough : op.amount ≤ℤ t.balance) where
   abbrev part_out : Part
   part_out = part_of p op.amount
@@ -140,12 +106,12 @@ module _ (ctx : Ctx) (op : LiquidityPoolWithdrawOp) (m : EntryMap) (done : Done)
       under.settled.legal has
 
   was : IsLegalPool op.pool_id p
-  was = pool_legal (view m) ctx.id_pool nothing_owed lumens m op.pool_id p under.settled.legal stands
+  was = pool_legal (view m) ctx.id_pool nothing_owed lumens m op.pool_id p under.settled.legal exists
 
   -- there are as many shares of the pool
   of_all : op.amount ≤ℤ p.total_pool_shares
-  of_all = no_more op.amount t.balance p.total_pool_shares enough
-      ((sound_of (view m) ctx.id_pool lumens m under.settled.legal).shares ctx.op_source op.pool_id t p has stands)
+  of_all = at_most_trans op.amount t.balance p.total_pool_shares enough
+      ((sound_of (view m) ctx.id_pool lumens m under.settled.legal).shares ctx.op_source op.pool_id t p has exists)
 
   abbrev takes_a : Option LedgerKey
   takes_a = holder ctx.op_source p.params.asset_a
@@ -155,13 +121,13 @@ module _ (ctx : Ctx) (op : LiquidityPoolWithdrawOp) (m : EntryMap) (done : Done)
 
   takes_first : nat_lt (most_taken m takes_a) part_out.a ≡ false → CanPay m takes_a (pos part_out.a)
   takes_first room = takes_so (view m) ctx.id_pool ctx.base_reserve lumens m under.settled.legal part_out.a takes_a
-      (holder_stands m ctx.op_source source p.params.asset_a
-      (first_used (view m) ctx.id_pool lumens m under.settled.legal ctx.op_source op.pool_id t has p stands)) room
+      (holder_exists m ctx.op_source source p.params.asset_a
+      (first_used (view m) ctx.id_pool lumens m under.settled.legal ctx.op_source op.pool_id t has p exists)) room
 
   takes_second : nat_lt (most_taken m takes_b) part_out.b ≡ false → CanPay m takes_b (pos part_out.b)
   takes_second room = takes_so (view m) ctx.id_pool ctx.base_reserve lumens m under.settled.legal part_out.b takes_b
-      (holder_stands m ctx.op_source source p.params.asset_b
-      (second_used (view m) ctx.id_pool lumens m under.settled.legal ctx.op_source op.pool_id t has p stands)) room
+      (holder_exists m ctx.op_source source p.params.asset_b
+      (second_used (view m) ctx.id_pool lumens m under.settled.legal ctx.op_source op.pool_id t has p exists)) room
 
   taken_lawful : taken ctx op p part_out m ≡ Ok done → IsLawful ctx m done
   taken_lawful is =
@@ -173,10 +139,10 @@ module _ (ctx : Ctx) (op : LiquidityPoolWithdrawOp) (m : EntryMap) (done : Done)
       let first = first_passed (under_a || under_b) (answer withdrawing.UnderMinimum)
       ((full_a || full_b, answer withdrawing.LineFull) ∷ []) tested.0 in
       let second = first_passed (full_a || full_b) (answer withdrawing.LineFull) [] first.1 in
-      let room = neither full_a full_b second.0 in
-      let both = both_taken ctx.id_pool ctx.base_reserve m under.settled.legal ctx.op_source op.pool_id t p has stands
+      let room = or_parts full_a full_b second.0 in
+      let both = both_taken ctx.id_pool ctx.base_reserve m under.settled.legal ctx.op_source op.pool_id t p has exists
       (neg_ℤ (pos part_out.a)) (neg_ℤ (pos part_out.b)) (neg_ℤ op.amount)
-      (can_withdraw ctx.op_source op.pool_id t p op.amount its was (low_of op.amount some) enough of_all) part_out.a
+      (can_withdraw ctx.op_source op.pool_id t p op.amount its was (nonnegative_from_positive op.amount some) enough of_all) part_out.a
       part_out.b (takes_first room.0)
       (takes_second room.1) in
       let also = tested.1 in
@@ -201,8 +167,8 @@ liquidity_pool_withdraw_is_lawful ctx op m done under source is =
     let below_a = int_lt op.min_amount_a (pos 0) in
     let below_b = int_lt op.min_amount_b (pos 0) in
     let test = first_passed (none || below_a || below_b) (answer withdrawing.Malformed) [] formed.0 in
-    let least = neither (none || below_a) below_b test.0 in
-    let some = neither none below_a least.0 in
+    let least = or_parts (none || below_a) below_b test.0 in
+    let some = or_parts none below_a least.0 in
     let short = first_passed (int_lt line_found.0.balance op.amount) (answer withdrawing.Underfunded) [] held.0 in
-    taken_lawful ctx op m done under source (at_least_one op.amount some.0) line_found.0 pool_found.0 line_found.1
-    pool_found.1 (not_less line_found.0.balance op.amount short.0) pool_found.2
+    taken_lawful ctx op m done under source (positive_from_int_le op.amount some.0) line_found.0 pool_found.0 line_found.1
+    pool_found.1 (int_lt_false line_found.0.balance op.amount short.0) pool_found.2

@@ -1,4 +1,4 @@
--- The book of a pair behind an offer that was crossed, and crossing over a book that is ranked once.
+-- The book of a pair after an offer that was crossed, and crossing over a book that is ranked once.
 use Rattle.std.specs.Prelude.{◌≡◌, ℕ, zero, suc, List, [], ◌∷◌, Some, true, false, if◌then◌else◌}
 use Rattle.op_flags.specs.ledger_types.declared.asset.Asset.{Asset}
 use Rattle.op_flags.specs.ledger_types.declared.offer.OfferEntry.{OfferEntry}
@@ -49,11 +49,11 @@ CrossedOffersRest =
 abbrev pub turn_over : Trade → Left → List OfferEntry → Turn
 turn_over trade left offers = if is_used_up left then Ends Converted else turn_at trade (head offers)
 
-abbrev pub behind_head : List OfferEntry → List OfferEntry
-behind_head [] = []
-behind_head (first ∷ others) = others
+abbrev pub after_head : List OfferEntry → List OfferEntry
+after_head [] = []
+after_head (first ∷ others) = others
 
--- The taker meets these offers one behind the other. No book is looked up.
+-- The taker meets these offers one after the other. No book is looked up.
 unfoldable pub crossed_over : ℕ → Trade → ℕ → Left → List OfferEntry → EntryMap → Crossing
 crossed_over base trade zero left offers m = at_limit m (turn_over trade left offers)
 crossed_over base trade (suc k) left offers m = elim (turn_over trade left offers) [
@@ -61,7 +61,7 @@ crossed_over base trade (suc k) left offers m = elim (turn_over trade left offer
   | Meets o ↦
       let x = step base trade.rounding left o m in
       joined o x.amounts (if x.stays then ended x.entries Converted
-      else crossed_over base trade k (left_after left x.amounts) (behind_head offers) x.entries)
+      else crossed_over base trade k (left_after left x.amounts) (after_head offers) x.entries)
 ]
 
 -- Crossing, which asks for the best offer of the entries at hand each time, meets the offers of the book as it was

@@ -20,7 +20,7 @@ use Rattle.op_flags.specs.op_form.Done.{Done, Attempt}
 use Rattle.op_laws.specs.AnyOperation.{any_operation}
 use Rattle.op_laws.specs.Underway.{IsUnderway, AreDrawn, KeepsTerms}
 use Rattle.op_flags.specs.op_form.Done.{OfAccount}
-use Rattle.op_laws.specs.Moves.{gained, issued, AreTold}
+use Rattle.op_laws.specs.Moves.{gained, issued, AreDescribed}
 use Rattle.op_flags.specs.legal_rules.Supply.{lumens_at}
 
 -- an account's available balance is at least 0, or at least what it was
@@ -30,7 +30,7 @@ IsCovered ctx m account =
     ⊎ ((was : AccountEntry) × (account_at m account.account_id ≡ Some was)
     × (available was ctx.base_reserve ≤ℤ available account ctx.base_reserve))
 
--- what holds behind an operation, by what held before
+-- what holds after an operation, by what held before
 pub record IsLawful (ctx : Ctx) (m : EntryMap) (done : Done) : Type 0 where
   -- the next operation can begin
   pub legal : IsUnderway done.ctx done.entries
@@ -40,7 +40,7 @@ pub record IsLawful (ctx : Ctx) (m : EntryMap) (done : Done) : Type 0 where
   pub lumens : (id : AccountId)
       → lumens_at done.entries id ≡ lumens_at m id +ℤ gained asset.Native (OfAccount id) done.moves
   -- and so has each holder of each asset
-  pub told : AreTold m done.entries done.moves
+  pub described : AreDescribed m done.entries done.moves
   -- the supply changes by what is issued and redeemed
   pub supply : (x : Asset) → total (held x) done.entries ≡ total (held x) m +ℤ issued x done.moves
   pub reserves : (id : AccountId) (account : AccountEntry) → account_at done.entries id ≡ Some account

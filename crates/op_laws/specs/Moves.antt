@@ -44,21 +44,21 @@ gained x holder (move ∷ moves) = gained_in x holder move +ℤ gained x holder 
 
 -- Where the entries keep what a holder has of an asset: lumens in the account, an issued asset in its line, and nothing
 -- of the fee pool or of what is on its way.
-abbrev pub place_of : Asset → Holder → Option LedgerKey
-place_of asset.Native (OfAccount id) = Some (key.Account id)
-place_of issued (OfAccount id) = Some (key.TrustLine id (line_asset_of issued))
-place_of x (OfBalance id) = Some (key.ClaimableBalance id)
-place_of x (OfPool id) = Some (key.LiquidityPool id)
-place_of x FeePool = None
-place_of x Transit = None
+abbrev pub location_of : Asset → Holder → Option LedgerKey
+location_of asset.Native (OfAccount id) = Some (key.Account id)
+location_of issued (OfAccount id) = Some (key.TrustLine id (line_asset_of issued))
+location_of x (OfBalance id) = Some (key.ClaimableBalance id)
+location_of x (OfPool id) = Some (key.LiquidityPool id)
+location_of x FeePool = None
+location_of x Transit = None
 
 abbrev pub held_at : Asset → EntryMap → Option LedgerKey → ℤ
 held_at x m None = pos 0
-held_at x m (Some place) = part (held x) (get m place)
+held_at x m (Some index) = part (held x) (get m index)
 
 -- what a holder has of an asset; an issuer has none of its own
 abbrev pub holding : Asset → Holder → EntryMap → ℤ
-holding x holder m = held_at x m (place_of x holder)
+holding x holder m = held_at x m (location_of x holder)
 
 -- ---- what is issued and redeemed
 
@@ -78,9 +78,9 @@ unfoldable pub issued : Asset → List Move → ℤ
 issued x [] = pos 0
 issued x (move ∷ moves) = issued_in x move +ℤ issued x moves
 
--- ---- what moves tell
+-- ---- what moves say
 
 -- Each holder has what it had and what the moves give it, but an asset's issuer, which has as much of that as it likes.
-abbrev pub AreTold : (old new : EntryMap) → List Move → Type 0
-AreTold old new moves = (x : Asset) (holder : Holder) → is_issuer x holder ≡ false
+abbrev pub AreDescribed : (old new : EntryMap) → List Move → Type 0
+AreDescribed old new moves = (x : Asset) (holder : Holder) → is_issuer x holder ≡ false
     → holding x holder new ≡ (holding x holder old +ℤ gained x holder moves)

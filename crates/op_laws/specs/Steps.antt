@@ -87,7 +87,7 @@ abbrev pub UnderwayManageable : Type 0
 UnderwayManageable = (ctx : Ctx) (m : EntryMap) → IsUnderway ctx m → HasAccount m ctx.op_source
     → pos (ctx.id_pool + 1) ≤ℤ greatest_i64 → IsManageable ctx m
 
--- all that the transactions of a set stand on
+-- all that the transactions of a set rely on
 pub record TransactionLaws : Type 0 where
   pub operations : AllLawful
   pub fees : FeesSettle

@@ -1,4 +1,4 @@
--- What holds before and behind each operation of a transaction.
+-- What holds before and after each operation of a transaction.
 use Rattle.std.specs.Prelude.{◌≡◌, ℕ, ◌+◌, ◌<◌, ◌≤◌, ◌+ℤ◌, List}
 use Rattle.op_flags.specs.ledger_types.declared.asset.Asset.{Asset}
 use Rattle.op_flags.specs.entry_map.EntryMap.{EntryMap}
@@ -9,7 +9,7 @@ use Rattle.op_flags.specs.legal_rules.Sponsorships.{AreSponsorshipsSound}
 use Rattle.op_flags.specs.legal_rules.Supply.{held}
 use Rattle.op_flags.specs.op_form.Sequences.{last_seq}
 use Rattle.op_flags.specs.op_form.Done.{Move}
-use Rattle.op_laws.specs.Moves.{issued, AreTold}
+use Rattle.op_laws.specs.Moves.{issued, AreDescribed}
 
 -- what holds of the entries between two transactions, when so many ids are drawn
 pub record IsSettled (id_pool : ℕ) (m : EntryMap) : Type 0 where
@@ -20,7 +20,7 @@ pub record IsSettled (id_pool : ℕ) (m : EntryMap) : Type 0 where
 pub record LeavesSettled (id_pool : ℕ) (old new : EntryMap) (moves : List Move) : Type 0 where
   pub settled : IsSettled id_pool new
   pub supply : (x : Asset) → total (held x) new ≡ total (held x) old +ℤ issued x moves
-  pub told : AreTold old new moves
+  pub described : AreDescribed old new moves
 
 -- what holds before every operation of a transaction
 pub record IsUnderway (ctx : Ctx) (m : EntryMap) : Type 0 where

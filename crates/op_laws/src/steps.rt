@@ -67,7 +67,7 @@ pub fn underway_manageable()
     ensures { spec.UnderwayManageable }
 {}
 
-/// All laws that the transactions of a set stand on.
+/// All laws that the transactions of a set rely on.
 pub fn transaction_laws()
     ensures { spec.TransactionLaws }
 {

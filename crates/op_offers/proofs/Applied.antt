@@ -1,14 +1,9 @@
 -- That what is managed in a child, and kept, is what the operation does.
-use Rattle.std.proofs.Common.{◌≡◌, ap, Ok, Err}
-use Rattle.std.specs.Prelude.{Result}
-use Rattle.entry_map.specs.Undo.{Undo, opened, kept}
-use Rattle.sponsor_rules.specs.declared.context.Ctx.{Ctx}
+use Rattle.op_offers.proofs.Prelude.{◌≡◌, ap, Ok, Err, Result, Undo, opened, Ctx, OfferFault, IsManaging, Managed}
+use Rattle.op_offers.proofs.Prelude.{Traded, Removed, Answer, success_answer, done_of_managed}
+use Rattle.entry_map.specs.Undo.{kept}
 use Rattle.op_form.specs.Done.{Does}
-use Rattle.op_offers.specs.declared.fault.OfferFault.{OfferFault}
 use Rattle.op_offers.specs.declared.manage.Managed.{Managed as ManagedOfCall}
-use Rattle.op_offers.specs.Calls.{IsManaging}
-use Rattle.op_offers.specs.Managing.{Managed, Traded, Removed}
-use Rattle.op_offers.specs.Operations.{Answer, success_answer, done_of_managed}
 
 -- the same children are open
 pub saved_is : (ctx : Ctx) (answer : ManagedOfCall) (old new : Undo) (managed : Result Managed OfferFault)

@@ -1,29 +1,18 @@
 -- That an offer which is made can be sold, once its fields and lines have passed their tests and its reserve is
 -- counted.
-use Rattle.std.proofs.Common.{◌≡◌, sym, subst, ◌+◌, false, Option, Some, None, Ok, arith}
-use Rattle.std.proofs.lemmas.Int.{ints}
-use Rattle.std.specs.Prelude.{ℤ, pos, ◌≤ℤ◌, int_lt}
-use Rattle.entry_map.specs.EntryMap.{EntryMap}
-use Rattle.sponsor_rules.specs.declared.context.Ctx.{Ctx}
-use Rattle.sponsor_rules.specs.Adding.{map_after_counting_subentry}
-use Rattle.trade_cross.specs.legal_rules.Trades.{holder}
-use Rattle.trade_cross.proofs.legal_rules_proofs.Passed.{neither}
-use Rattle.op_offers.specs.declared.ask.Ask.{Ask}
-use Rattle.op_offers.specs.Asked.{is_malformed, is_no_pair, is_out_of_range}
-use Rattle.op_offers.specs.Calls.{IsManageable, IsSellable, IsSound, IsLimitOf, IsLimitLow}
-use Rattle.op_offers.specs.Managing.{sell_fault, buy_fault, new_asked}
+use Rattle.op_offers.proofs.Prelude.{◌≡◌, sym, subst, ◌+◌, false, Option, Some, None, Ok, arith, ℤ, pos, ◌≤ℤ◌, int_lt}
+use Rattle.op_offers.proofs.Prelude.{EntryMap, Ctx, map_after_counting_subentry, holder, Ask, is_malformed, is_no_pair}
+use Rattle.op_offers.proofs.Prelude.{is_out_of_range, IsManageable, IsSellable, IsSound, IsLimitOf, IsLimitLow}
+use Rattle.op_offers.proofs.Prelude.{sell_fault, buy_fault, new_asked, int_lt_false, or_parts}
 use Rattle.op_offers.proofs.NewOffers.{new_counted, new_rightly}
 use Rattle.op_offers.proofs.Tested.{valid_ask}
 
 -- ---- limits
 
-not_below : (n : ℤ) → int_lt n (pos 0) ≡ false → pos 0 ≤ℤ n
-not_below n h = grind (arith, ints)
-
 amount_low : (ask : Ask) → is_malformed ask ≡ false → pos 0 ≤ℤ ask.amount
 amount_low ask valid =
-    let range = neither (is_no_pair ask) (is_out_of_range ask) valid in
-    not_below ask.amount (neither (int_lt ask.amount (pos 0)) _ range.1).0
+    let range = or_parts (is_no_pair ask) (is_out_of_range ask) valid in
+    int_lt_false ask.amount (pos 0) (or_parts (int_lt ask.amount (pos 0)) _ range.1).0
 
 limit_low : (amount : ℤ) (o : Option ℤ) → pos 0 ≤ℤ amount → IsLimitOf amount o → IsLimitLow o
 limit_low amount None low is = tt

@@ -1,34 +1,15 @@
 -- The entry of an offer of the source that was loaded, and that it can be sold once it is out of its book.
-use Rattle.std.proofs.Common.{◌≡◌, refl, sym, ap, ◌∙◌, Bool, true, false, Option, Some, None, Ok, arith}
-use Rattle.std.proofs.lemmas.Int.{ints}
-use Rattle.std.specs.Prelude.{ℤ, pos, ◌≤ℤ◌, Result, if◌then◌else◌}
-use Rattle.std.specs.FinMap.{get}
-use Rattle.std.specs.Ordering.{int_eq}
-use Rattle.ledger_types.specs.Prices.{IsPriced}
-use Rattle.ledger_types.specs.declared.ids.AccountId.{AccountId}
-use Rattle.ledger_types.specs.declared.offer.OfferEntry.{OfferEntry}
-use Rattle.ledger_types.specs.declared.entry.LedgerEntry.{LedgerEntry}
-use Rattle.ledger_types.specs.declared.entry.LedgerEntryBody.{LedgerEntryBody}
+use Rattle.op_offers.proofs.Prelude.{◌≡◌, refl, sym, ap, ◌∙◌, Bool, true, false, Option, Some, None, Ok, arith, ints, ℤ}
+use Rattle.op_offers.proofs.Prelude.{pos, ◌≤ℤ◌, Result, if◌then◌else◌, get, int_eq, IsPriced, AccountId, OfferEntry}
+use Rattle.op_offers.proofs.Prelude.{LedgerEntry, LedgerEntryBody, EntryMap, offer_of, offer_at, offer_slot_by}
+use Rattle.op_offers.proofs.Prelude.{offer_slot_of, offer_slot_at, entry_of_offer, Ctx, nothing_owed, IsOfferInRange}
+use Rattle.op_offers.proofs.Prelude.{holder, DoesReleaseFit, map_after_cancelling, offer_key, release_fits, Ask}
+use Rattle.op_offers.proofs.Prelude.{OfferFault, IsManageable, IsSellable, IsSound, sell_fault, buy_fault, old_asked}
+use Rattle.op_offers.proofs.Prelude.{changed, managed_at, Managed, Removed, map_without_offer, nothing_right}
 use Rattle.ledger_types.specs.declared.entry.LedgerEntryBody.TheVariants as body
 use Rattle.ledger_types.specs.declared.key.LedgerKey.TheVariants as key
-use Rattle.entry_map.specs.EntryMap.{EntryMap}
 use Rattle.entry_slots.specs.declared.offers.OfferSlot.{OfferSlot}
-use Rattle.entry_slots.specs.Offers.{offer_of, offer_at, offer_slot_by, offer_slot_of, offer_slot_at, entry_of_offer}
-use Rattle.sponsor_rules.specs.declared.context.Ctx.{Ctx}
-use Rattle.trade_cross.specs.legal_rules.Owing.{nothing_owed}
-use Rattle.trade_cross.specs.legal_rules.Ranges.{IsOfferInRange}
-use Rattle.trade_cross.specs.legal_rules.Trades.{holder}
-use Rattle.trade_cross.specs.Amounts.{DoesReleaseFit}
-use Rattle.trade_cross.specs.Cancelling.{map_after_cancelling}
-use Rattle.trade_cross.specs.Crossing.{offer_key}
-use Rattle.trade_cross.proofs.Cancelled.{release_fits}
-use Rattle.op_offers.specs.declared.ask.Ask.{Ask}
-use Rattle.op_offers.specs.declared.fault.OfferFault.{OfferFault}
-use Rattle.op_offers.specs.Calls.{IsManageable, IsSellable, IsSound}
-use Rattle.op_offers.specs.Managing.{sell_fault, buy_fault, old_asked, changed, managed_at, Managed, Removed}
-use Rattle.op_offers.specs.Selling.{map_without_offer}
 use Rattle.op_offers.proofs.OldOffers.{old_counted, old_rightly}
-use Rattle.trade_cross.proofs.legal_rules_proofs.MayOwe.{nothing_right}
 use Rattle.op_offers.proofs.Tested.{valid_ask}
 
 -- ---- the entry of an offer that was loaded
@@ -98,9 +79,9 @@ module _ (ctx : Ctx) (ask : Ask) (m : EntryMap) (k : IsManageable ctx m) (slot :
   at_own : get m (offer_key old) ≡ Some e
   at_own = ap (get m) keyed ∙ there
 
-  stands : offer_at m old.seller_id old.offer_id ≡ Some old
+  exists : offer_at m old.seller_id old.offer_id ≡ Some old
   unfolding offer_at
-  stands = ap offer_of at_own
+  exists = ap offer_of at_own
 
   range : IsOfferInRange ctx.id_pool old
   range = (k.legal.entries (key.Offer ctx.op_source ask.offer_id) e there).range.body
@@ -112,7 +93,7 @@ module _ (ctx : Ctx) (ask : Ask) (m : EntryMap) (k : IsManageable ctx m) (slot :
   old_amount = let some = range.amount in omega (arith, ints)
 
   pub old_fits : DoesReleaseFit old m
-  old_fits = release_fits k.view ctx.id_pool 0 nothing_owed nothing_right old k.sum m k.legal stands
+  old_fits = release_fits k.view ctx.id_pool 0 nothing_owed nothing_right old k.sum m k.legal exists
 
   -- It can be sold once it is out of its book.
   pub changed_sellable : IsSound ask → sell_fault m (holder ctx.op_source ask.selling) ≡ None

@@ -1,42 +1,17 @@
 -- A new offer whose reserve is counted can be sold.
-use Rattle.std.proofs.Common.{◌≡◌, ◌≢◌, refl, sym, ap, subst, ◌∙◌, ℕ, ◌+◌, ◌≤◌, Option, Some, None, Ok, arith}
-use Rattle.std.proofs.lemmas.Int.{ints}
-use Rattle.std.specs.Prelude.{ℤ, pos, ◌≤ℤ◌}
-use Rattle.std.specs.FinMap.{get}
-use Rattle.ledger_types.specs.declared.ids.AccountId.{AccountId}
-use Rattle.ledger_types.specs.declared.asset.TrustLineAsset.{TrustLineAsset}
-use Rattle.ledger_types.specs.declared.entry.LedgerEntry.{LedgerEntry}
-use Rattle.ledger_types.specs.declared.entry.LedgerEntryBody.{LedgerEntryBody}
+use Rattle.op_offers.proofs.Prelude as prelude
+use prelude.{◌≡◌, ◌≢◌, refl, sym, ap, subst, ◌∙◌, ℕ, ◌+◌, ◌≤◌, Option, Some, None, Ok, arith, ints, ℤ, pos, ◌≤ℤ◌, get}
+use prelude.{AccountId, TrustLineAsset, LedgerEntry, LedgerEntryBody, LedgerKey, key_of_body, EntryMap, account_at}
+use prelude.{HasAccount, sponsor_of, line_of, line_at, Ctx, sponsored_entry, map_after_counting}
+use prelude.{map_after_counting_subentry, with_subentry, View, none_more, one_more, nothing_owed, IsLegalOwing}
+use prelude.{IsOfferInRange, IsBodyInRange, holder, charged_kept, Leaves, IsHeld, IsOwnKey, holder_own, Ask, sell_fault}
+use prelude.{buy_fault, new_asked, Asked, IsAskedRightly, unless_first_ok}
 use Rattle.ledger_types.specs.declared.entry.LedgerEntryBody.TheVariants as body
-use Rattle.ledger_types.specs.declared.key.LedgerKey.{LedgerKey}
 use Rattle.ledger_types.specs.declared.key.LedgerKey.TheVariants as key
-use Rattle.ledger_types.specs.Keys.{key_of_body}
-use Rattle.entry_map.specs.EntryMap.{EntryMap}
-use Rattle.entry_slots.specs.Accounts.{account_at, HasAccount}
-use Rattle.entry_slots.specs.EntrySponsor.{sponsor_of}
-use Rattle.entry_slots.specs.Lines.{line_of, line_at}
-use Rattle.sponsor_rules.specs.declared.context.Ctx.{Ctx}
-use Rattle.sponsor_rules.specs.Adding.{sponsored_entry, map_after_counting, map_after_counting_subentry}
-use Rattle.sponsor_rules.specs.Paying.{with_subentry}
 use Rattle.sponsor_rules.specs.Payers.{open_sponsor, subentry_tests_at}
-use Rattle.trade_cross.specs.legal_rules.Books.{View}
-use Rattle.trade_cross.specs.legal_rules.Holdings.{none_more}
-use Rattle.trade_cross.specs.legal_rules.OneMore.{one_more}
-use Rattle.trade_cross.specs.legal_rules.Owing.{nothing_owed, IsLegalOwing}
-use Rattle.trade_cross.specs.legal_rules.Ranges.{IsOfferInRange, IsBodyInRange}
 use Rattle.trade_cross.specs.legal_rules.Sponsorships.{IsSponsorReady}
-use Rattle.trade_cross.specs.legal_rules.Trades.{holder}
-use Rattle.trade_cross.proofs.legal_rules_proofs.ChargesLeft.{charged_kept}
 use Rattle.trade_cross.proofs.legal_rules_proofs.Counted.{subentries_counted}
-use Rattle.trade_cross.proofs.legal_rules_proofs.Leaving.{Leaves}
-use Rattle.trade_cross.proofs.legal_rules_proofs.Passed.{passed}
 use Rattle.trade_cross.proofs.legal_rules_proofs.Sponsors.{recorded}
-use Rattle.trade_cross.specs.Accounts.{IsHeld}
-use Rattle.trade_cross.proofs.Passing.{IsOwnKey, holder_own}
-use Rattle.op_offers.specs.declared.ask.Ask.{Ask}
-use Rattle.op_offers.specs.Managing.{sell_fault, buy_fault, new_asked}
-use Rattle.op_offers.specs.Selling.{Asked}
-use Rattle.op_offers.specs.SellingLaws.{IsAskedRightly}
 use Rattle.op_offers.proofs.Tested.{IsValidAsk, sells_held, buys_held}
 
 sponsor_is : (t : Option AccountId) (e : LedgerEntry) → sponsor_of e ≡ None → sponsor_of (sponsored_entry t e) ≡ t
@@ -47,7 +22,7 @@ too_high : (id : ℤ) (n : ℕ) → id ≡ pos (n + 1) → id ≤ℤ pos n → �
 too_high id n is le = omega (arith, ints)
 
 module _ (ctx : Ctx) (ask : Ask) (m : EntryMap) (v : View) (sum : ℤ)
-    (legal : IsLegalOwing v ctx.id_pool nothing_owed sum m) (stands : HasAccount m ctx.op_source)
+    (legal : IsLegalOwing v ctx.id_pool nothing_owed sum m) (exists : HasAccount m ctx.op_source)
     (ready : IsSponsorReady ctx ctx.op_source m) where
   abbrev next : ℕ
   next = ctx.id_pool + 1
@@ -76,23 +51,23 @@ module _ (ctx : Ctx) (ask : Ask) (m : EntryMap) (v : View) (sum : ℤ)
   module _ (new : EntryMap) (counted : map_after_counting_subentry ctx ctx.op_source 1 m ≡ Ok new) where
     both : IsLegalOwing v ctx.id_pool (one_more ctx.op_source (open_sponsor ctx ctx.op_source)) sum new
         × ((k : LedgerKey) → ((x : AccountId) → k ≢ key.Account x) → get new k ≡ get m k)
-    both = subentries_counted v ctx.id_pool sum ctx ctx.op_source m new legal stands ready counted
+    both = subentries_counted v ctx.id_pool sum ctx ctx.op_source m new legal exists ready counted
 
-    -- It is counted and doesn't stand.
+    -- It is counted and doesn't exist.
     pub new_counted : IsLegalOwing v ctx.id_pool (one_more ctx.op_source (sponsor_of asked.entry)) sum new
     new_counted = subst (λ t. IsLegalOwing v ctx.id_pool (one_more ctx.op_source t) sum new) (sym its_sponsor) both.0
 
     -- To all accounts that leaves what they have.
     pub new_left : Leaves ctx.base_reserve none_more m new
     new_left =
-        let test = passed (subentry_tests_at ctx m ctx.op_source 1)
+        let test = unless_first_ok (subentry_tests_at ctx m ctx.op_source 1)
         (map_after_counting ctx.op_source 1 (open_sponsor ctx ctx.op_source) m) new counted in
         subst (Leaves ctx.base_reserve none_more m) test.1
         (charged_kept ctx m ctx.op_source 1 legal.keyed test.0
         (with_subentry 1 (open_sponsor ctx ctx.op_source)) (λ a there on. on))
 
-    still_stands : HasAccount new ctx.op_source
-    still_stands = new_left.stand ctx.op_source stands
+    still_exists : HasAccount new ctx.op_source
+    still_exists = new_left.exist ctx.op_source exists
 
     line_still : (id : AccountId) (x : TrustLineAsset) → line_at new id x ≡ line_at m id x
     unfolding line_at
@@ -100,7 +75,7 @@ module _ (ctx : Ctx) (ask : Ask) (m : EntryMap) (v : View) (sum : ℤ)
 
     held_still : (k : Option LedgerKey) → IsOwnKey ctx.op_source k → IsHeld m k → IsHeld new k
     held_still None own has = tt
-    held_still (Some (key.Account id)) own has = (still_stands.0, ap (account_at new) own ∙ still_stands.1)
+    held_still (Some (key.Account id)) own has = (still_exists.0, ap (account_at new) own ∙ still_exists.1)
     held_still (Some (key.TrustLine id x)) own has = (has.0, line_still id x ∙ has.1, has.2)
     held_still (Some other) own has = absurd own
 
@@ -112,9 +87,9 @@ module _ (ctx : Ctx) (ask : Ask) (m : EntryMap) (v : View) (sum : ℤ)
         let buys = holder ctx.op_source ask.buying in
         record {
           gives = held_still sells (holder_own ctx.op_source ask.selling)
-              (sells_held m ctx.op_source stands sells (holder_own ctx.op_source ask.selling) gives);
+              (sells_held m ctx.op_source exists sells (holder_own ctx.op_source ask.selling) gives);
           takes = held_still buys (holder_own ctx.op_source ask.buying)
-              (buys_held m ctx.op_source stands buys (holder_own ctx.op_source ask.buying) takes);
+              (buys_held m ctx.op_source exists buys (holder_own ctx.op_source ask.buying) takes);
           free = λ seller. both.1 (key.Offer seller (pos next)) (λ x same. absurd (cc)) ∙ next_free seller _ refl;
           paid = λ x is. ready.other x (sym its_sponsor ∙ is);
           n = valid.n;

@@ -1,26 +1,9 @@
 -- An old offer that is out of its book can be sold.
-use Rattle.std.proofs.Common.{◌≡◌, ◌≢◌, sym, ap, subst, ◌∙◌, Some, None}
-use Rattle.std.specs.Prelude.{ℤ}
-use Rattle.std.specs.FinMap.{get}
-use Rattle.ledger_types.specs.declared.ids.AccountId.{AccountId}
-use Rattle.ledger_types.specs.declared.offer.OfferEntry.{OfferEntry}
-use Rattle.ledger_types.specs.declared.entry.LedgerEntry.{LedgerEntry}
+use Rattle.op_offers.proofs.Prelude.{◌≡◌, ◌≢◌, sym, ap, subst, ◌∙◌, Some, None, ℤ, get, AccountId, OfferEntry}
+use Rattle.op_offers.proofs.Prelude.{LedgerEntry, EntryMap, HasAccount, sponsor_of, Ctx, View, one_more, nothing_owed}
+use Rattle.op_offers.proofs.Prelude.{IsEntryLegal, IsLegalOwing, holder, with_offer_body, offer_key, holder_own, Ask}
+use Rattle.op_offers.proofs.Prelude.{sell_fault, buy_fault, old_asked, Asked, map_without_offer, IsAskedRightly}
 use Rattle.ledger_types.specs.declared.entry.LedgerEntryBody.TheVariants as body
-use Rattle.entry_map.specs.EntryMap.{EntryMap}
-use Rattle.entry_slots.specs.Accounts.{HasAccount}
-use Rattle.entry_slots.specs.EntrySponsor.{sponsor_of}
-use Rattle.sponsor_rules.specs.declared.context.Ctx.{Ctx}
-use Rattle.trade_cross.specs.legal_rules.Books.{View}
-use Rattle.trade_cross.specs.legal_rules.OneMore.{one_more}
-use Rattle.trade_cross.specs.legal_rules.Owing.{nothing_owed, IsEntryLegal, IsLegalOwing}
-use Rattle.trade_cross.specs.legal_rules.Trades.{holder}
-use Rattle.trade_cross.proofs.legal_rules_proofs.OffersKept.{with_offer_body}
-use Rattle.trade_cross.specs.Crossing.{offer_key}
-use Rattle.trade_cross.proofs.Passing.{holder_own}
-use Rattle.op_offers.specs.declared.ask.Ask.{Ask}
-use Rattle.op_offers.specs.Managing.{sell_fault, buy_fault, old_asked}
-use Rattle.op_offers.specs.Selling.{Asked, map_without_offer}
-use Rattle.op_offers.specs.SellingLaws.{IsAskedRightly}
 use Rattle.op_offers.proofs.OutLeft.{out_held}
 use Rattle.op_offers.proofs.OutOfBook.{old_offers_out}
 use Rattle.op_offers.proofs.Tested.{IsValidAsk, sells_held, buys_held}
@@ -37,7 +20,7 @@ module _ (ctx : Ctx) (ask : Ask) (m : EntryMap) (v : View) (sum : ℤ)
   its_entry : IsEntryLegal ctx.id_pool (with_offer_body e old)
   its_entry = subst (IsEntryLegal ctx.id_pool) (λ i. record e { body = is i }) (legal.entries (offer_key old) e there)
 
-  -- It is counted and doesn't stand.
+  -- It is counted and doesn't exist.
   pub old_counted : IsLegalOwing v ctx.id_pool (one_more ctx.op_source (sponsor_of e)) sum out
   old_counted = subst (λ x. IsLegalOwing v ctx.id_pool (one_more x (sponsor_of e)) sum out) own
       (old_offers_out v ctx.id_pool sum old e m legal there is).0
@@ -49,14 +32,14 @@ module _ (ctx : Ctx) (ask : Ask) (m : EntryMap) (v : View) (sum : ℤ)
   pub old_rightly : HasAccount m ctx.op_source → IsValidAsk ask
       → sell_fault m (holder ctx.op_source ask.selling) ≡ None
       → buy_fault m (holder ctx.op_source ask.buying) ≡ None → IsAskedRightly ctx.id_pool asked out
-  old_rightly stands valid gives takes =
+  old_rightly exists valid gives takes =
       let sells = holder ctx.op_source ask.selling in
       let buys = holder ctx.op_source ask.buying in
       record {
         gives = out_held v ctx.id_pool sum old e m legal there is sells
-            (sells_held m ctx.op_source stands sells (holder_own ctx.op_source ask.selling) gives);
+            (sells_held m ctx.op_source exists sells (holder_own ctx.op_source ask.selling) gives);
         takes = out_held v ctx.id_pool sum old e m legal there is buys
-            (buys_held m ctx.op_source stands buys (holder_own ctx.op_source ask.buying) takes);
+            (buys_held m ctx.op_source exists buys (holder_own ctx.op_source ask.buying) takes);
         free = (old_offers_out v ctx.id_pool sum old e m legal there is).3;
         paid = paid_by_other;
         n = valid.n;

@@ -1,45 +1,15 @@
--- An old offer that is out of the book is counted and doesn't stand.
-use Rattle.std.proofs.Common.{◌≡◌, refl, sym, ap, ◌∙◌, ℕ, ◌+◌, Bool, true, false, Option, Some, None, arith}
-use Rattle.std.proofs.lemmas.Int.{ints}
-use Rattle.std.specs.Prelude.{ℤ, pos, neg_ℤ, ◌+ℤ◌, ◌-ℤ◌, ◌≤ℤ◌, if◌then◌else◌}
-use Rattle.std.specs.Ordering.{is_eq, int_cmp}
-use Rattle.std.specs.FinMap.{get}
-use Rattle.ledger_types.specs.declared.ids.AccountId.{AccountId}
-use Rattle.ledger_types.specs.declared.offer.OfferEntry.{OfferEntry}
-use Rattle.ledger_types.specs.declared.entry.LedgerEntry.{LedgerEntry}
-use Rattle.ledger_types.specs.declared.entry.LedgerEntryBody.{LedgerEntryBody}
+-- An old offer that is out of the book is counted and doesn't exist.
+use Rattle.op_offers.proofs.Prelude as prelude
+use prelude.{◌≡◌, refl, sym, ap, ◌∙◌, ◌+◌, Bool, true, false, Option, Some, None, arith, ints, ℤ, pos, neg_ℤ, ◌+ℤ◌}
+use prelude.{◌-ℤ◌, ◌≤ℤ◌, if◌then◌else◌, is_eq, int_cmp, get, AccountId, OfferEntry, LedgerEntry, LedgerEntryBody}
+use prelude.{LedgerKey, key_of_body, EntryMap, erase, sponsor_of, line_of, line_at, offer_of, offer_at, total, part}
+use prelude.{part_at_most, total_erase, is_there, is_key, for_account, holder, releasing, Kind, Subentries, Sponsoring}
+use prelude.{Sponsored, View, offer_with, offer_with_in, trade_aggregates, nothing_owed, plus, less, weighed}
+use prelude.{IsEntryLegal, nothing_right, with_offer_body, erase_legal, still_there, legal_as, offer_key}
+use prelude.{map_without_offer, IsHeld, one_more, OldOffersOut, erase_beside, IsKeyed, release_open, erase_elsewhere}
+use prelude.{left_over, int_cmp_same, add-zero, offer_with_in_nonnegative}
 use Rattle.ledger_types.specs.declared.entry.LedgerEntryBody.TheVariants as body
-use Rattle.ledger_types.specs.declared.key.LedgerKey.{LedgerKey}
 use Rattle.ledger_types.specs.declared.key.LedgerKey.TheVariants as key
-use Rattle.ledger_types.specs.Keys.{key_of_body}
-use Rattle.entry_map.specs.EntryMap.{EntryMap, erase}
-use Rattle.entry_slots.specs.EntrySponsor.{sponsor_of}
-use Rattle.entry_slots.specs.Lines.{line_of, line_at}
-use Rattle.entry_slots.specs.Offers.{offer_of, offer_at}
-use Rattle.trade_cross.specs.entry_sums.Sums.{total, part}
-use Rattle.trade_cross.proofs.entry_sums_proofs.Lookups.{erase_elsewhere, left_over}
-use Rattle.trade_cross.proofs.entry_sums_proofs.Summing.{part_at_most, total_erase}
-use Rattle.trade_cross.specs.sponsor_laws.Sums.{is_there}
-use Rattle.trade_cross.specs.legal_rules.EntryKeys.{is_key, for_account}
-use Rattle.trade_cross.specs.legal_rules.Trades.{holder}
-use Rattle.trade_cross.specs.legal_rules.Binding.{releasing}
-use Rattle.trade_cross.specs.legal_rules.Books.{Kind, Subentries, Sponsoring, Sponsored, View}
-use Rattle.trade_cross.specs.legal_rules.OfferIds.{offer_with, offer_with_in}
-use Rattle.trade_cross.specs.legal_rules.OfferLaws.{trade_books}
-use Rattle.trade_cross.specs.legal_rules.Owing.{nothing_owed, plus, less, weighed, IsEntryLegal}
-use Rattle.trade_cross.proofs.legal_rules_proofs.MayOwe.{nothing_right}
-use Rattle.trade_cross.proofs.legal_rules_proofs.OffersKept.{with_offer_body}
-use Rattle.trade_cross.proofs.legal_rules_proofs.Putting.{erase_legal}
-use Rattle.trade_cross.proofs.legal_rules_proofs.Releasing.{still_there}
-use Rattle.trade_cross.proofs.legal_rules_proofs.Steps.{legal_as}
-use Rattle.trade_cross.specs.Crossing.{offer_key}
-use Rattle.op_offers.specs.Selling.{map_without_offer}
-use Rattle.trade_cross.specs.Accounts.{IsHeld}
-use Rattle.trade_cross.specs.legal_rules.OneMore.{one_more}
-use Rattle.op_offers.specs.SellingLaws.{OldOffersOut}
-use Rattle.trade_cross.proofs.legal_rules_proofs.ChargesLeft.{erase_beside}
-use Rattle.trade_cross.specs.legal_rules.Holdings.{IsKeyed}
-use Rattle.trade_cross.proofs.StepLegal.{release_open}
 
 -- ---- what is owed
 
@@ -56,11 +26,8 @@ owes_none : (x : ℤ) (t : Bool) → ((pos 0 +ℤ x) +ℤ neg_ℤ (x -ℤ (if t 
 owes_none x true = omega (arith, ints)
 owes_none x false = omega (arith, ints)
 
-plus_zero : (n : ℕ) → n + 0 ≡ n
-plus_zero n = omega arith
-
 owes_one : (v : View) (e : LedgerEntry) (o : OfferEntry) (kind : Kind) (k : LedgerKey)
-    → plus (plus nothing_owed (trade_books o)) (less (weighed v (with_offer_body e o))) kind k
+    → plus (plus nothing_owed (trade_aggregates o)) (less (weighed v (with_offer_body e o))) kind k
     ≡ one_more o.seller_id (sponsor_of e) kind k
 owes_one v e o Subentries k = owes_own (for_account k (Some o.seller_id) 1) (for_account k (Some o.seller_id) 1)
     (is_key (key_of_body (body.Offer o)) k) refl
@@ -68,25 +35,14 @@ owes_one v e o Sponsored k =
     owes_own (for_account k (Some o.seller_id) (if is_there (sponsor_of e) then 1 else 0))
     (for_account k (Some o.seller_id) ((if is_there (sponsor_of e) then 1 else 0) + 0))
     (is_key (key_of_body (body.Offer o)) k)
-    (ap (λ n. for_account k (Some o.seller_id) n) (plus_zero (if is_there (sponsor_of e) then 1 else 0)))
+    (ap (λ n. for_account k (Some o.seller_id) n) (add-zero (if is_there (sponsor_of e) then 1 else 0)))
 owes_one v e o Sponsoring k = owes_payer (for_account k (sponsor_of e) 1) (is_key (key_of_body (body.Offer o)) k)
-owes_one v e o kind k = owes_none (trade_books o kind k) (is_key (key_of_body (body.Offer o)) k)
+owes_one v e o kind k = owes_none (trade_aggregates o kind k) (is_key (key_of_body (body.Offer o)) k)
 
 -- ---- ids
 
-itself_equal : (i : ℤ) → is_eq (int_cmp i i) ≡ true
-itself_equal i = grind (arith, ints)
-
 too_many : (rest one all : ℤ) → (rest +ℤ one) ≡ all → all ≤ℤ pos 1 → pos 1 ≤ℤ one → pos 1 ≤ℤ rest → ⊥
 too_many rest one all is most some more = omega (arith, ints)
-
-if_low : (t : Bool) → pos 0 ≤ℤ (if t then pos 1 else pos 0)
-if_low true = omega (arith, ints)
-if_low false = omega (arith, ints)
-
-offer_low : (id : ℤ) (b : LedgerEntryBody) → pos 0 ≤ℤ offer_with_in id b
-offer_low id (body.Offer o) = if_low (is_eq (int_cmp o.offer_id id))
-offer_low id other = omega (arith, ints)
 
 one_if : (t : Bool) → t ≡ true → pos 1 ≤ℤ (if t then pos 1 else pos 0)
 one_if true is = omega (arith, ints)
@@ -95,7 +51,7 @@ one_if false is = absurd (cc)
 counts_itself : (id : ℤ) (seller : AccountId) (b : LedgerEntryBody) → key_of_body b ≡ key.Offer seller id
     → pos 1 ≤ℤ offer_with_in id b
 counts_itself id seller (body.Offer o) own =
-    one_if (is_eq (int_cmp o.offer_id id)) (ap (λ i. is_eq (int_cmp i id)) (ids own) ∙ itself_equal id)
+    one_if (is_eq (int_cmp o.offer_id id)) (ap (λ i. is_eq (int_cmp i id)) (ids own) ∙ int_cmp_same id)
   where
     ids : {i j : ℤ} {p q : AccountId} → key.Offer p i ≡ key.Offer q j → i ≡ j
     ids same = cc
@@ -116,7 +72,7 @@ module _ (m : EntryMap) (keyed : IsKeyed m) (apart : (id : ℤ) → total (offer
       (counts_itself o.offer_id o.seller_id (body.Offer o) refl)
       (most (counts_itself o.offer_id seller other.body (keyed (key.Offer seller o.offer_id) other left.1))
       (part_at_most (offer_with o.offer_id) (erase m (offer_key o)) (key.Offer seller o.offer_id) other
-      (λ k y at. offer_low o.offer_id y.body) is)))
+      (λ k y at. offer_with_in_nonnegative o.offer_id y.body) is)))
     where
       most : {x y : ℤ} → pos 1 ≤ℤ x → x ≤ℤ y → pos 1 ≤ℤ y
       most le also = omega (arith, ints)
@@ -139,12 +95,12 @@ unfolding offer_at
 old_offers_out v id_pool sum old e m legal there is =
     let e1 = with_offer_body e old in
     let there1 : get m (offer_key old) ≡ Some e1 = there ∙ ap Some (λ i. record e { body = is i }) in
-    let stands : offer_at m old.seller_id old.offer_id ≡ Some old = ap offer_of there1 in
+    let exists : offer_at m old.seller_id old.offer_id ≡ Some old = ap offer_of there1 in
     let r = releasing old m in
-    let out = release_open v id_pool 0 nothing_owed nothing_right old sum m legal stands in
+    let out = release_open v id_pool 0 nothing_owed nothing_right old sum m legal exists in
     let at = still_there v id_pool nothing_owed sum old m legal nothing_right.trades e there1 in (
       legal_as v (IsEntryLegal id_pool) _ (one_more old.seller_id (sponsor_of e)) _ sum (map_without_offer old m)
-          (erase_legal v (IsEntryLegal id_pool) (plus nothing_owed (trade_books old)) sum r out.legal
+          (erase_legal v (IsEntryLegal id_pool) (plus nothing_owed (trade_aggregates old)) sum r out.legal
           (offer_key old) e1 at
           (λ id same. absurd (cc)))
           (λ kind k. owes_one v e old kind k) (nothing_off sum),

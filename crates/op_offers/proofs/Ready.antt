@@ -1,35 +1,17 @@
 -- What a state gives in which an offer can be sold.
-use Rattle.std.proofs.Common.{◌≡◌, refl, ap, ◌∙◌, ℕ, ◌≤◌, zero, suc, Option, Some, None, Ok, arith}
-use Rattle.std.proofs.lemmas.Int.{ints}
-use Rattle.std.specs.Prelude.{pos, neg_ℤ, ◌≤ℤ◌, unsigned_abs, Result}
-use Rattle.ledger_types.specs.Prices.{IsPriced}
-use Rattle.ledger_types.specs.declared.key.LedgerKey.{LedgerKey}
-use Rattle.entry_map.specs.EntryMap.{EntryMap}
-use Rattle.entry_map.specs.Undo.{Undo, with_current}
-use Rattle.entry_slots.specs.Tests.{first_fault, unless_fault}
-use Rattle.entry_slots.specs.EntrySponsor.{sponsor_of}
-use Rattle.offer_exchange.specs.Exchange.{unlimited, adjusted}
-use Rattle.trade_cross.specs.legal_rules.OfferLaws.{trade_books}
-use Rattle.trade_cross.specs.legal_rules.OfferLiabilities.{bound_of}
-use Rattle.trade_cross.specs.legal_rules.OneMore.{IsOwedRightly, one_more}
-use Rattle.trade_cross.specs.legal_rules.Owing.{Owed}
-use Rattle.trade_cross.proofs.legal_rules_proofs.MayOwe.{one_more_is_right}
-use Rattle.trade_cross.specs.declared.crossed.CrossEnd.{CrossEnd}
-use Rattle.trade_cross.specs.declared.crossed.CrossEnd.TheVariants.{Converted, Partial, BadPrice, CrossSelf, TooMany}
-use Rattle.trade_cross.specs.Crossable.{IsCrossable}
-use Rattle.trade_cross.specs.Crossing.{Crossing}
-use Rattle.trade_cross.specs.Holdings.{most_given, most_taken}
+use Rattle.op_offers.proofs.Prelude as prelude
+use prelude.{◌≡◌, refl, ap, ◌∙◌, ℕ, ◌≤◌, zero, suc, Option, Some, None, Ok, arith, ints, pos, neg_ℤ, ◌≤ℤ◌, unsigned_abs}
+use prelude.{Result, IsPriced, LedgerKey, EntryMap, Undo, with_current, first_fault, unless_fault, sponsor_of}
+use prelude.{unlimited, adjusted, trade_aggregates, bound_of, IsOwedRightly, one_more, Owed, one_more_is_right}
+use prelude.{CrossEnd, Converted, Partial, BadPrice, CrossSelf, TooMany, IsCrossable, Crossing, most_given, most_taken}
+use prelude.{IsInRangeAt, given_fits, taken_fits, OfferFault, IsSellable, IsSold, DoPaymentsFit, DoesRestFit, end_fault}
+use prelude.{Asked, source_gives_at, source_takes_at, trade_of, crossed_by, settled, amount_left, offer_left}
+use prelude.{wanted_tests, after_tests, by_end, kept, Sold, sold}
 use Rattle.trade_cross.specs.Progressing.{AreTradeBounds}
-use Rattle.trade_cross.specs.Sides.{IsInRangeAt}
-use Rattle.trade_cross.proofs.Binding.{given_fits, taken_fits}
 use Rattle.trade_cross.proofs.Bonds.{bond_fits, payment_fits, available_within, bought_within}
 use Rattle.trade_cross.proofs.StepIs.{all_in_range}
 use Rattle.trade_cross.proofs.StepPlanned.{in_range_at}
-use Rattle.op_offers.specs.declared.fault.OfferFault.{OfferFault}
 use Rattle.op_offers.specs.declared.sell.Sold.{Sold as SoldOfCall}
-use Rattle.op_offers.specs.Calls.{IsSellable, IsSold, DoPaymentsFit, DoesRestFit, end_fault}
-use Rattle.op_offers.specs.Selling.{Asked, source_gives_at, source_takes_at, trade_of, crossed_by, settled}
-use Rattle.op_offers.specs.Selling.{amount_left, offer_left, wanted_tests, after_tests, by_end, kept, Sold, sold}
 use Rattle.op_offers.proofs.Sold.{capped_fits, done_so, gives, takes, legal_given, legal_paid, right_then}
 use Rattle.op_offers.proofs.Sold.{legal_now, sells_fit, sells, legal_bound, buys}
 
@@ -117,9 +99,9 @@ module _ (asked : Asked) (m : EntryMap) (k : IsSellable asked m) where
         let can_buy = buys k.view k.id_pool k.next base k.sum asked m k.legal k.wide k.right.n k.right.d
         k.right.id_low k.right j send receive send_fits receive_fits is in
         record {
-          gives = bond_fits k.view k.next (trade_books new) k.sum _ now (source_gives_at asked)
+          gives = bond_fits k.view k.next (trade_aggregates new) k.sum _ now (source_gives_at asked)
               (pos (bound_of new).wheat) (pos 0) can_sell
-              (available_within k.view k.next (trade_books new) k.sum _ now base covered (source_gives_at asked)
+              (available_within k.view k.next (trade_aggregates new) k.sum _ now base covered (source_gives_at asked)
               (bound_of new).wheat fits);
           takes = bond_fits k.view k.next _ k.sum _ bound (source_takes_at asked) (pos 0) (pos (bound_of new).sheep)
               can_buy (bought_within k.view k.next _ k.sum _ bound (source_takes_at asked));
@@ -145,7 +127,7 @@ module _ (asked : Asked) (m : EntryMap) (k : IsSellable asked m) where
     pub rest_fits : (sheep wheat : ℕ) (end : CrossEnd) → DoesRestFit asked (amount_left base asked sheep wheat end m) m
     rest_fits sheep wheat end = rest_by sheep wheat end (amount_left base asked sheep wheat end m) refl
 
--- ---- the whole
+-- ---- the complete sale
 
 sale_by : (base : ℕ) (asked : Asked) (m : EntryMap) (o : Option OfferFault) (end : CrossEnd) (done : Crossing)
     → o ≡ None → end_fault end ≡ None
@@ -172,10 +154,10 @@ sale_is base asked m passed ended =
     ∙ sale_by base asked m (first_fault (wanted_tests base asked m)) (crossed_by base asked m).end
     (crossed_by base asked m) passed ended
 
--- a sale behind a change of the map
-pub sold_behind : (answer : SoldOfCall) (old now new : Undo) (n : EntryMap) (done : Sold)
+-- a sale after a change of the map
+pub sold_after : (answer : SoldOfCall) (old now new : Undo) (n : EntryMap) (done : Sold)
     → now ≡ with_current old n → IsSold answer now new done → IsSold answer old new done
-sold_behind answer old now new n done was is = record {
+sold_after answer old now new n done was is = record {
   atoms = is.atoms;
   amount = is.amount;
   entries = is.entries ∙ ap (λ (u : Undo). with_current u done.entries) was;

@@ -1,71 +1,28 @@
 -- An offer that is out of the book crosses, and what is left of it is kept.
-use Rattle.std.proofs.Common.{◌≡◌, refl, sym, ap, subst, ◌∙◌, ℕ, ◌+◌, ◌-◌, ◌≤◌, zero, suc, Bool, true, false}
-use Rattle.std.proofs.Common.{Option, Some, None, Ok, arith}
-use Rattle.std.proofs.lemmas.Int.{ints}
+use Rattle.op_offers.proofs.Prelude as prelude
+use prelude.{◌≡◌, refl, sym, ap, subst, ◌∙◌, ℕ, ◌+◌, ◌-◌, ◌≤◌, zero, suc, Bool, true, false, Option, Some, None, Ok}
+use prelude.{arith, ints, ℤ, pos, neg_ℤ, ◌+ℤ◌, ◌-ℤ◌, ◌≤ℤ◌, unsigned_abs, if◌then◌else◌, is_eq, int_cmp, get, AccountId}
+use prelude.{TrustLineAsset, AccountEntry, OfferEntry, LedgerEntry, LedgerEntryBody, LedgerKey, key_of, key_of_body}
+use prelude.{EntryMap, put, account_at, sponsor_of, line_of, line_at, total, total_none, available, room, greatest_i64}
+use prelude.{is_there, Amounts, unlimited, adjusted, liabilities, bound_of, is_key, for_account, binding, acquiring}
+use prelude.{CanBind, Kind, Subentries, Sponsoring, Sponsored, View, offer_with, offer_with_in, trade_aggregates, Owed}
+use prelude.{nothing_owed, plus, weighed, IsEntryLegal, IsLegalOwing, IsOfferInRange, acquiring_legal, binding_legal}
+use prelude.{unbound_if, put_legal, legal_wider, legal_as, most_given, most_taken, account_gives, account_takes}
+use prelude.{line_gives, line_takes, paying, CrossEnd, Converted, Partial, BadPrice, CrossSelf, TooMany, most_crossings}
+use prelude.{Crossing, converted, left_of_trade, drawn, OfferFault, Asked, capped, source_gives_at, source_takes_at}
+use prelude.{wanted_tests, trade_of, settled, left_of, offer_left, map_after_keeping, Sold, kept, by_end, after_tests}
+use prelude.{sold, unless_fault, first_fault, IsHeld, IsEased, Related, Passes, IsOwedRightly, one_more, IsCrossed}
+use prelude.{kept_at, kept_in, IsAskedRightly, SellingKeeps, can_sell, can_buy, given_fits, taken_fits, giving_takes}
+use prelude.{selling_takes, held_paid, held_bound, offer_beside, no_less, put_beside, crossing_keeps, subentries_freed}
+use prelude.{one_more_is_right, IsOwnKey, holder_own, IsKeyed, put_elsewhere, add_assoc, add_neg_self}
+use prelude.{add_to_zero_at_most_one, add_zero, add_zero_at_most, int_cmp_equal, natural_at_most_trans}
+use prelude.{unsigned_abs_positive, add-zero}
 use Rattle.std.proofs.Math.Nat.{min-le_right}
-use Rattle.std.specs.Prelude.{ℤ, pos, neg_ℤ, ◌+ℤ◌, ◌-ℤ◌, ◌≤ℤ◌, unsigned_abs, if◌then◌else◌}
-use Rattle.std.specs.Ordering.{is_eq, int_cmp}
-use Rattle.std.specs.Cmp.{Equal-is}
-use Rattle.std.specs.FinMap.{get, int_cmp-IsAntisymmetric}
-use Rattle.ledger_types.specs.declared.ids.AccountId.{AccountId}
-use Rattle.ledger_types.specs.declared.asset.TrustLineAsset.{TrustLineAsset}
-use Rattle.ledger_types.specs.declared.account.AccountEntry.{AccountEntry}
-use Rattle.ledger_types.specs.declared.offer.OfferEntry.{OfferEntry}
-use Rattle.ledger_types.specs.declared.entry.LedgerEntry.{LedgerEntry}
-use Rattle.ledger_types.specs.declared.entry.LedgerEntryBody.{LedgerEntryBody}
 use Rattle.ledger_types.specs.declared.entry.LedgerEntryBody.TheVariants as body
-use Rattle.ledger_types.specs.declared.key.LedgerKey.{LedgerKey}
 use Rattle.ledger_types.specs.declared.key.LedgerKey.TheVariants as key
-use Rattle.ledger_types.specs.Keys.{key_of, key_of_body}
-use Rattle.entry_map.specs.EntryMap.{EntryMap, put}
-use Rattle.entry_slots.specs.Accounts.{account_at}
-use Rattle.entry_slots.specs.EntrySponsor.{sponsor_of}
-use Rattle.entry_slots.specs.Lines.{line_of, line_at}
-use Rattle.trade_cross.specs.entry_sums.Sums.{total}
-use Rattle.trade_cross.proofs.entry_sums_proofs.Lookups.{put_elsewhere}
-use Rattle.trade_cross.proofs.entry_sums_proofs.Summing.{total_none}
-use Rattle.sponsor_rules.specs.reserve_rules.Reserve.{available, room, greatest_i64}
-use Rattle.trade_cross.specs.sponsor_laws.Sums.{is_there}
-use Rattle.offer_exchange.specs.Exchange.{Amounts, unlimited, adjusted, liabilities}
 use Rattle.offer_exchange.specs.Laws.{IsBound}
 use Rattle.offer_exchange.proofs.Adjusting.{adjusted_bound}
-use Rattle.trade_cross.specs.legal_rules.OfferLiabilities.{bound_of}
-use Rattle.trade_cross.specs.legal_rules.EntryKeys.{is_key, for_account}
-use Rattle.trade_cross.specs.legal_rules.Binding.{binding, acquiring, CanBind}
-use Rattle.trade_cross.specs.legal_rules.Books.{Kind, Subentries, Sponsoring, Sponsored, View}
-use Rattle.trade_cross.specs.legal_rules.OfferIds.{offer_with, offer_with_in}
-use Rattle.trade_cross.specs.legal_rules.OfferLaws.{trade_books}
-use Rattle.trade_cross.specs.legal_rules.Owing.{Owed, nothing_owed, plus, weighed, IsEntryLegal, IsLegalOwing}
-use Rattle.trade_cross.specs.legal_rules.Ranges.{IsOfferInRange}
-use Rattle.trade_cross.proofs.legal_rules_proofs.OffersKept.{acquiring_legal, binding_legal, unbound_if}
-use Rattle.trade_cross.proofs.legal_rules_proofs.Putting.{put_legal, legal_wider}
-use Rattle.trade_cross.proofs.legal_rules_proofs.Steps.{legal_as}
-use Rattle.trade_cross.specs.Holdings.{most_given, most_taken, account_gives, account_takes, line_gives}
-use Rattle.trade_cross.specs.Holdings.{line_takes, paying}
-use Rattle.trade_cross.specs.declared.crossed.CrossEnd.{CrossEnd}
-use Rattle.trade_cross.specs.declared.crossed.CrossEnd.TheVariants.{Converted, Partial, BadPrice, CrossSelf, TooMany}
-use Rattle.trade_cross.specs.Crossing.{most_crossings, Crossing, converted, left_of as left_of_trade}
-use Rattle.op_offers.specs.Managing.{drawn}
-use Rattle.op_offers.specs.declared.fault.OfferFault.{OfferFault}
-use Rattle.op_offers.specs.Selling.{Asked, capped, source_gives_at, source_takes_at, wanted_tests, trade_of}
-use Rattle.op_offers.specs.Selling.{settled, left_of, offer_left, map_after_keeping, Sold, kept, by_end}
-use Rattle.op_offers.specs.Selling.{after_tests, sold}
-use Rattle.entry_slots.specs.Tests.{unless_fault, first_fault}
-use Rattle.trade_cross.specs.Accounts.{IsHeld, IsEased, Related, Passes}
-use Rattle.trade_cross.specs.legal_rules.OneMore.{IsOwedRightly, one_more}
-use Rattle.trade_cross.specs.CrossingLaws.{IsCrossed, kept_at, kept_in}
-use Rattle.op_offers.specs.SellingLaws.{IsAskedRightly, SellingKeeps}
-use Rattle.trade_cross.proofs.Binding.{can_sell, can_buy, given_fits}
-use Rattle.trade_cross.proofs.Binding.{taken_fits, giving_takes, selling_takes, held_paid}
-use Rattle.trade_cross.proofs.Binding.{held_bound, offer_beside, no_less}
-use Rattle.trade_cross.proofs.legal_rules_proofs.ChargesLeft.{put_beside}
-use Rattle.trade_cross.proofs.CrossedLegal.{crossing_keeps}
-use Rattle.trade_cross.proofs.legal_rules_proofs.Freed.{subentries_freed}
-use Rattle.trade_cross.proofs.legal_rules_proofs.MayOwe.{one_more_is_right}
-use Rattle.trade_cross.proofs.Passing.{IsOwnKey, holder_own}
 use Rattle.trade_cross.proofs.Paying.{CanPay, paying_legal, can_give, can_take}
-use Rattle.trade_cross.specs.legal_rules.Holdings.{IsKeyed}
-use Rattle.trade_cross.proofs.StepLegal.{at_most, abs_some}
 
 -- ---- what the taker still holds
 
@@ -122,9 +79,6 @@ module _ (base : ℕ) (x : AccountId) (m new : EntryMap) (passes : Passes base x
 
 -- ---- ids
 
-same_int : (a b : ℤ) → is_eq (int_cmp a b) ≡ true → a ≡ b
-same_int a b h = int_cmp-IsAntisymmetric a b ((Equal-is (int_cmp a b)).0 h)
-
 module _ (m : EntryMap) (keyed : IsKeyed m) (id : ℤ)
     (free : (seller : AccountId) → get m (key.Offer seller id) ≡ None) where
   not_with : (k : LedgerKey) (e : LedgerEntry) (b : LedgerEntryBody) → get m k ≡ Some e → e.body ≡ b
@@ -132,7 +86,7 @@ module _ (m : EntryMap) (keyed : IsKeyed m) (id : ℤ)
   not_with k e (body.Offer o) there is = elim (is_eq (int_cmp o.offer_id id)) as
       (λ t. is_eq (int_cmp o.offer_id id) ≡ t → (if t then pos 1 else pos 0) ≡ pos 0) [
         | true ↦ λ h. absurd (
-            let at : key.Offer o.seller_id id ≡ k = ap (key.Offer o.seller_id) (sym (same_int _ _ h))
+            let at : key.Offer o.seller_id id ≡ k = ap (key.Offer o.seller_id) (sym (int_cmp_equal _ _ h))
             ∙ sym (ap key_of_body is) ∙ keyed k e there in
             let none : get m k ≡ None = ap (get m) (sym at) ∙ free o.seller_id in
             cc)
@@ -143,16 +97,7 @@ module _ (m : EntryMap) (keyed : IsKeyed m) (id : ℤ)
   none_with : total (offer_with id) m ≡ pos 0
   none_with = total_none (offer_with id) m (λ k e there. not_with k e e.body there refl)
 
-first_with : (sum one : ℤ) → sum ≡ pos 0 → one ≤ℤ pos 1 → (sum +ℤ one) ≤ℤ pos 1
-first_with sum one none le = omega (arith, ints)
-
-other_with : (sum : ℤ) → sum ≤ℤ pos 1 → (sum +ℤ pos 0) ≤ℤ pos 1
-other_with sum le = omega (arith, ints)
-
 -- ---- an offer's entry that is put
-
-plus_zero : (n : ℕ) → n + 0 ≡ n
-plus_zero n = omega arith
 
 own_one : (x : ℤ) (t : Bool) → (neg_ℤ x +ℤ (x -ℤ (if t then pos 0 else pos 0))) ≡ pos 0
 own_one x true = omega (arith, ints)
@@ -170,18 +115,18 @@ beside_own : (x : ℤ) (t : Bool) → (pos 0 +ℤ (x -ℤ (if t then pos 0 else 
 beside_own x true = omega (arith, ints)
 beside_own x false = omega (arith, ints)
 
--- what was counted more stands, and what it binds is owed
-now_stands : (v : View) (e : LedgerEntry) (o : OfferEntry) (kind : Kind) (k : LedgerKey)
+-- what was counted in excess exists, and what it binds is owed
+now_exists : (v : View) (e : LedgerEntry) (o : OfferEntry) (kind : Kind) (k : LedgerKey)
     → plus (one_more o.seller_id (sponsor_of e)) (weighed v (record e { body = body.Offer o })) kind k
-    ≡ trade_books o kind k
-now_stands v e o Subentries k = own_one (for_account k (Some o.seller_id) 1) (is_key (key_of_body (body.Offer o)) k)
-now_stands v e o Sponsored k =
+    ≡ trade_aggregates o kind k
+now_exists v e o Subentries k = own_one (for_account k (Some o.seller_id) 1) (is_key (key_of_body (body.Offer o)) k)
+now_exists v e o Sponsored k =
     own_paid (for_account k (Some o.seller_id) (if is_there (sponsor_of e) then 1 else 0))
     (for_account k (Some o.seller_id) ((if is_there (sponsor_of e) then 1 else 0) + 0))
     (is_key (key_of_body (body.Offer o)) k)
-    (ap (λ n. for_account k (Some o.seller_id) n) (plus_zero (if is_there (sponsor_of e) then 1 else 0)))
-now_stands v e o Sponsoring k = own_payer (for_account k (sponsor_of e) 1) (is_key (key_of_body (body.Offer o)) k)
-now_stands v e o kind k = beside_own _ (is_key (key_of_body (body.Offer o)) k)
+    (ap (λ n. for_account k (Some o.seller_id) n) (add-zero (if is_there (sponsor_of e) then 1 else 0)))
+now_exists v e o Sponsoring k = own_payer (for_account k (sponsor_of e) 1) (is_key (key_of_body (body.Offer o)) k)
+now_exists v e o kind k = beside_own _ (is_key (key_of_body (body.Offer o)) k)
 
 module _ (m : EntryMap) (e : LedgerEntry) (o : OfferEntry) (is : e.body ≡ body.Offer o) where
   its_key : key_of e ≡ key.Offer o.seller_id o.offer_id
@@ -224,12 +169,6 @@ pub capped_fits : (o : Option ℕ) (used there : ℕ) → capped o used there �
 capped_fits None used there = omega arith
 capped_fits (Some n) used there = min-le_right (n - used) there
 
-taken_off : (x : ℤ) → (x +ℤ neg_ℤ x) ≡ pos 0
-taken_off x = omega (arith, ints)
-
-nothing_more : (x : ℤ) → (x +ℤ pos 0) ≡ x
-nothing_more x = omega (arith, ints)
-
 module _ (v : View) (id_pool next base : ℕ) (sum : ℤ) (asked : Asked) (m : EntryMap)
     (legal : IsLegalOwing v id_pool (one_more asked.offer.seller_id (sponsor_of asked.entry)) sum m)
     (wide : id_pool ≤ next) (n_some : pos 1 ≤ℤ asked.offer.price.n) (d_some : pos 1 ≤ℤ asked.offer.price.d)
@@ -268,10 +207,10 @@ module _ (v : View) (id_pool next base : ℕ) (sum : ℤ) (asked : Asked) (m : E
     one = subst (λ a. 1 ≤ a) (sym is) (omega arith)
 
     binds : IsBound n d send receive (adjusted n d send receive)
-    binds = adjusted_bound n d send receive (abs_some asked.offer.price.n n_some) (abs_some asked.offer.price.d d_some)
-        (at_most send (most_given base m (source_gives_at asked)) unlimited send_fits
+    binds = adjusted_bound n d send receive (unsigned_abs_positive asked.offer.price.n n_some) (unsigned_abs_positive asked.offer.price.d d_some)
+        (natural_at_most_trans send (most_given base m (source_gives_at asked)) unlimited send_fits
         (given_fits v id_pool base owed sum m legal owed_right.covered (source_gives_at asked) right.gives))
-        (at_most receive (most_taken m (source_takes_at asked)) unlimited receive_fits
+        (natural_at_most_trans receive (most_taken m (source_takes_at asked)) unlimited receive_fits
         (taken_fits v id_pool base owed sum m legal (source_takes_at asked) right.takes))
 
     wheat_is : (bound_of new).wheat ≡ adjusted n d send receive
@@ -308,37 +247,37 @@ module _ (v : View) (id_pool next base : ℕ) (sum : ℤ) (asked : Asked) (m : E
     ids_apart id = elim (is_eq (int_cmp new.offer_id id)) as
         (λ t. is_eq (int_cmp new.offer_id id) ≡ t → (total (offer_with id) m +ℤ
         (if t then pos 1 else pos 0)) ≤ℤ pos 1) [
-          | true ↦ λ h. first_with _ (pos 1)
-              (ap (λ x. total (offer_with x) m) (sym (same_int _ _ h))
+          | true ↦ λ h. add_to_zero_at_most_one _ (pos 1)
+              (ap (λ x. total (offer_with x) m) (sym (int_cmp_equal _ _ h))
               ∙ none_with m legal.keyed new.offer_id right.free)
               (omega (arith, ints))
-          | false ↦ λ h. other_with _ (legal.offers id)
+          | false ↦ λ h. add_zero_at_most _ (pos 1) (legal.offers id)
         ] refl
 
     abbrev now : EntryMap
     now = put m e
 
-    pub legal_now : IsLegalOwing v next (trade_books new) sum now
-    legal_now = legal_as v (IsEntryLegal next) _ (trade_books new) _ sum now
+    pub legal_now : IsLegalOwing v next (trade_aggregates new) sum now
+    legal_now = legal_as v (IsEntryLegal next) _ (trade_aggregates new) _ sum now
         (put_legal v (IsEntryLegal next) owed sum m (legal_wider v id_pool next owed sum m wide legal) e
         (right.free seller) entry_legal (λ id same. absurd (cc)) ids_apart)
-        (λ kind k. now_stands v asked.entry new kind k) (nothing_more sum)
+        (λ kind k. now_exists v asked.entry new kind k) (add_zero sum)
 
     pub sells_fit : (bound_of new).wheat ≤ most_given base now (source_gives_at asked)
     sells_fit = subst (λ x. x ≤ most_given base now (source_gives_at asked)) (sym wheat_is)
         (subst (λ x. adjusted n d send receive ≤ x) (sym (put_given m e new refl base (source_gives_at asked)))
-        (at_most (adjusted n d send receive) send _ (subst (λ x. x ≤ send) binds.all_selling binds.selling) send_fits))
+        (natural_at_most_trans (adjusted n d send receive) send _ (subst (λ x. x ≤ send) binds.all_selling binds.selling) send_fits))
 
     pub sells : CanBind now (source_gives_at asked) (pos (bound_of new).wheat) (pos 0)
-    sells = can_sell v next base (trade_books new) sum now legal_now (bound_of new).wheat (source_gives_at asked)
+    sells = can_sell v next base (trade_aggregates new) sum now legal_now (bound_of new).wheat (source_gives_at asked)
         (put_held m e new refl (source_gives_at asked) right.gives) sells_fit
 
     abbrev bound_now : EntryMap
     bound_now = binding (source_gives_at asked) (pos (bound_of new).wheat) (pos 0) now
 
     pub legal_bound : IsLegalOwing v next
-        (plus (trade_books new) (unbound_if (source_gives_at asked) (pos (bound_of new).wheat) (pos 0))) sum bound_now
-    legal_bound = binding_legal v next (trade_books new) sum now (source_gives_at asked) (pos (bound_of new).wheat)
+        (plus (trade_aggregates new) (unbound_if (source_gives_at asked) (pos (bound_of new).wheat) (pos 0))) sum bound_now
+    legal_bound = binding_legal v next (trade_aggregates new) sum now (source_gives_at asked) (pos (bound_of new).wheat)
         (pos 0)
         legal_now sells
 
@@ -346,18 +285,18 @@ module _ (v : View) (id_pool next base : ℕ) (sum : ℤ) (asked : Asked) (m : E
     buys = can_buy v next base _ sum bound_now legal_bound (bound_of new).sheep (source_takes_at asked)
         (held_bound now legal_now.keyed (source_gives_at asked) (pos (bound_of new).wheat) (pos 0) sells
         (source_takes_at asked) (put_held m e new refl (source_takes_at asked) right.takes))
-        (at_most (bound_of new).sheep (most_taken now (source_takes_at asked)) _
+        (natural_at_most_trans (bound_of new).sheep (most_taken now (source_takes_at asked)) _
         (subst (λ x. x ≤ most_taken now (source_takes_at asked)) (sym sheep_is)
         (subst (λ x. (liabilities n d (adjusted n d send receive)).sheep ≤ x)
         (sym (put_taken m e new refl (source_takes_at asked)))
-        (at_most (liabilities n d (adjusted n d send receive)).sheep receive _ binds.buying receive_fits)))
+        (natural_at_most_trans (liabilities n d (adjusted n d send receive)).sheep receive _ binds.buying receive_fits)))
         (selling_takes now legal_now.keyed (source_gives_at asked) (pos (bound_of new).wheat) sells
         (source_takes_at asked)))
 
     some_kept : IsLegalOwing v next nothing_owed sum (acquiring new now)
     some_kept = legal_as v (IsEntryLegal next) _ nothing_owed _ sum _
-        (acquiring_legal v next (trade_books new) sum new now legal_now (sells, buys))
-        (λ kind k. taken_off (trade_books new kind k)) refl
+        (acquiring_legal v next (trade_aggregates new) sum new now legal_now (sells, buys))
+        (λ kind k. add_neg_self (trade_aggregates new kind k)) refl
 
   by_amount : (done : Crossing) (end : CrossEnd) (amount : ℕ) → left_of base asked done end m ≡ amount
       → IsLegalOwing v (drawn id_pool next amount) nothing_owed sum (map_after_keeping asked amount m)
@@ -377,14 +316,11 @@ module _ (v : View) (id_pool next base : ℕ) (sum : ℤ) (asked : Asked) (m : E
       (kept base asked done m).entries
   keeping_legal done = by_amount done done.end (left_of base asked done done.end m) refl
 
--- ---- the whole
+-- ---- the complete sale
 
-passed : {F : Type 0} (o : Option F) (m new : EntryMap) → unless_fault o m ≡ Ok new → m ≡ new
-passed None m new is = cc
-passed (Some fault) m new is = absurd (cc)
-
-grouped : (x a b : ℤ) → ((x +ℤ a) +ℤ b) ≡ (x +ℤ (a +ℤ b))
-grouped x a b = omega (arith, ints)
+unless_fault_same : {F : Type 0} (o : Option F) (m new : EntryMap) → unless_fault o m ≡ Ok new → m ≡ new
+unless_fault_same None m new is = cc
+unless_fault_same (Some fault) m new is = absurd (cc)
 
 module _ (v : View) (id_pool next base : ℕ) (sum : ℤ) (asked : Asked) (m : EntryMap)
     (legal : IsLegalOwing v id_pool (one_more asked.offer.seller_id (sponsor_of asked.entry)) sum m)
@@ -423,8 +359,8 @@ module _ (v : View) (id_pool next base : ℕ) (sum : ℤ) (asked : Asked) (m : E
 
   pub gives_fit : c.sheep ≤ most_given base c.entries (source_gives_at asked)
   gives_fit =
-      (at_most c.sheep (capped asked.sells 0 (most_given base m (source_gives_at asked))) _ done_so.sheep
-      (at_most _ (most_given base m (source_gives_at asked)) _
+      (natural_at_most_trans c.sheep (capped asked.sells 0 (most_given base m (source_gives_at asked))) _ done_so.sheep
+      (natural_at_most_trans _ (most_given base m (source_gives_at asked)) _
       (capped_fits asked.sells 0 (most_given base m (source_gives_at asked)))
       (no_less_given base asked.offer.seller_id m c.entries done_so.passes
       (source_gives_at asked) gives_own right.gives)))
@@ -448,10 +384,10 @@ module _ (v : View) (id_pool next base : ℕ) (sum : ℤ) (asked : Asked) (m : E
       (held_paid c.entries done_so.legal.keyed (source_gives_at asked) (neg_ℤ (pos c.sheep)) gives
       (source_takes_at asked)
       takes_still)
-      (at_most c.wheat (most_taken m (source_takes_at asked)) _
-      (at_most c.wheat (capped asked.buys 0 (most_taken m (source_takes_at asked))) _ done_so.wheat
+      (natural_at_most_trans c.wheat (most_taken m (source_takes_at asked)) _
+      (natural_at_most_trans c.wheat (capped asked.buys 0 (most_taken m (source_takes_at asked))) _ done_so.wheat
       (capped_fits asked.buys 0 (most_taken m (source_takes_at asked))))
-      (at_most _ (most_taken c.entries (source_takes_at asked)) _
+      (natural_at_most_trans _ (most_taken c.entries (source_takes_at asked)) _
       (no_less_taken base asked.offer.seller_id m c.entries done_so.passes
       (source_takes_at asked) takes_own right.takes)
       (giving_takes c.entries done_so.legal.keyed (source_gives_at asked) c.sheep gives (source_takes_at asked))))
@@ -508,7 +444,7 @@ module _ (v : View) (id_pool next base : ℕ) (sum : ℤ) (asked : Asked) (m : E
 
   its_left : IsLeft (kept base asked c paid_map)
   its_left = legal_as v (IsEntryLegal ids) nothing_owed nothing_owed sum_paid _ _ kept_legal (λ kind k. refl)
-      (grouped sum_crossed _ _)
+      (add_assoc sum_crossed _ _)
 
   by_its_end : (end : CrossEnd) (done : Sold) → by_end base asked c end ≡ Ok done → kept base asked c paid_map ≡ done
   by_its_end CrossSelf done is = absurd (cc)

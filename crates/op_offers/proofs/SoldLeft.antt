@@ -1,48 +1,19 @@
 -- What an offer that is sold leaves of the accounts.
-use Rattle.std.proofs.Common.{◌≡◌, refl, sym, ap, subst, ◌∙◌, ℕ, ◌≤◌, zero, suc, None}
-use Rattle.std.proofs.Common.{Some, Ok, arith}
-use Rattle.std.proofs.lemmas.Int.{ints}
-use Rattle.std.specs.Prelude.{ℤ, pos, neg_ℤ, ◌+ℤ◌, unsigned_abs}
-use Rattle.ledger_types.specs.declared.account.AccountEntry.{AccountEntry}
-use Rattle.std.specs.FinMap.{get}
-use Rattle.ledger_types.specs.declared.offer.OfferEntry.{OfferEntry}
+use Rattle.op_offers.proofs.Prelude as prelude
+use prelude.{◌≡◌, refl, sym, ap, subst, ◌∙◌, ℕ, ◌≤◌, zero, suc, None, Some, Ok, arith, ints, ℤ, pos, neg_ℤ, ◌+ℤ◌}
+use prelude.{unsigned_abs, AccountEntry, get, OfferEntry, key_of_body, part, held_in, held_of, HoldsMore, put_same}
+use prelude.{LedgerEntry, EntryMap, put, account_at, sponsor_of, adjusted, without_subentry, bound_of, binding, View}
+use prelude.{IsLegalOwing, most_given, most_taken, paying, CrossEnd, Converted, Partial, BadPrice, CrossSelf, TooMany}
+use prelude.{most_crossings, Crossing, converted, left_of_trade, Asked, source_gives_at, source_takes_at, trade_of}
+use prelude.{settled, left_of, offer_left, map_after_keeping, Sold, kept, sold, Increase, none_more, both_more, more_at}
+use prelude.{one_more, more_in, AreTraded, IsAskedRightly, discharged_kept, crossed_legal, owner, giving_left}
+use prelude.{taking_left, selling_left, buying_left, one_more_is_right, IsKeyed, Leaves, leaves_both, leaves_as}
+use prelude.{keeps_both, accounts_kept}
 use Rattle.ledger_types.specs.declared.key.LedgerKey.TheVariants as key
-use Rattle.ledger_types.specs.Keys.{key_of_body}
-use Rattle.trade_cross.specs.entry_sums.Sums.{part}
-use Rattle.trade_cross.specs.legal_rules.Supply.{held_in, held as held_of}
-use Rattle.trade_cross.specs.legal_rules.Holdings.{HoldsMore}
-use Rattle.trade_cross.proofs.legal_rules_proofs.Holdings.{put_same}
-use Rattle.ledger_types.specs.declared.entry.LedgerEntry.{LedgerEntry}
 use Rattle.ledger_types.specs.declared.entry.LedgerEntryBody.TheVariants as body
-use Rattle.entry_map.specs.EntryMap.{EntryMap, put}
-use Rattle.entry_slots.specs.Accounts.{account_at}
-use Rattle.entry_slots.specs.EntrySponsor.{sponsor_of}
-use Rattle.offer_exchange.specs.Exchange.{adjusted}
-use Rattle.sponsor_rules.specs.Paying.{without_subentry}
-use Rattle.trade_cross.specs.legal_rules.OfferLiabilities.{bound_of}
-use Rattle.trade_cross.specs.legal_rules.Binding.{binding}
-use Rattle.trade_cross.specs.legal_rules.Books.{View}
-use Rattle.trade_cross.specs.legal_rules.Owing.{IsLegalOwing}
-use Rattle.trade_cross.specs.Holdings.{most_given, most_taken, paying}
-use Rattle.trade_cross.specs.declared.crossed.CrossEnd.{CrossEnd}
-use Rattle.trade_cross.specs.declared.crossed.CrossEnd.TheVariants.{Converted, Partial, BadPrice, CrossSelf, TooMany}
-use Rattle.trade_cross.specs.Crossing.{most_crossings, Crossing, converted, left_of as left_of_trade}
-use Rattle.op_offers.specs.Selling.{Asked, source_gives_at, source_takes_at, trade_of, settled, left_of}
-use Rattle.op_offers.specs.Selling.{offer_left, map_after_keeping, Sold, kept, sold}
-use Rattle.trade_cross.specs.legal_rules.Holdings.{Increase, none_more, both_more, more_at}
-use Rattle.trade_cross.specs.legal_rules.OneMore.{one_more}
-use Rattle.trade_cross.specs.CrossingLaws.{more_in, AreTraded}
-use Rattle.op_offers.specs.SellingLaws.{IsAskedRightly}
-use Rattle.trade_cross.proofs.legal_rules_proofs.ChargesLeft.{discharged_kept}
-use Rattle.trade_cross.proofs.CrossedLegal.{crossed_legal}
-use Rattle.trade_cross.proofs.legal_rules_proofs.Freed.{owner}
-use Rattle.trade_cross.proofs.Left.{giving_left, taking_left, selling_left, buying_left}
-use Rattle.trade_cross.proofs.legal_rules_proofs.MayOwe.{one_more_is_right}
 use Rattle.op_offers.proofs.Sold.{capped_fits, account_same, legal_now, legal_bound, sells}
 use Rattle.op_offers.proofs.Sold.{sells_fit, buys, done_so, gives, gives_fit}
 use Rattle.op_offers.proofs.Sold.{takes, legal_given, legal_paid, right_then, sold_is}
-use Rattle.trade_cross.specs.legal_rules.Holdings.{IsKeyed}
-use Rattle.trade_cross.proofs.legal_rules_proofs.Leaving.{Leaves, leaves_both, leaves_as, keeps_both, accounts_kept}
 
 -- an offer holds nothing
 offer_put_holds : (m : EntryMap) (e : LedgerEntry) (o : OfferEntry) → e.body ≡ body.Offer o
@@ -54,9 +25,9 @@ module _ (v : View) (id_pool next base : ℕ) (sum : ℤ) (asked : Asked) (m : E
     (legal : IsLegalOwing v id_pool (one_more asked.offer.seller_id (sponsor_of asked.entry)) sum m)
     (wide : id_pool ≤ next) (right : IsAskedRightly next asked m) where
   had_one : (a : AccountEntry) → account_at m asked.offer.seller_id ≡ Some a → 1 ≤ a.num_sub_entries
-  had_one a stands =
+  had_one a exists =
       let own = owner v id_pool sum m asked.offer.seller_id (sponsor_of asked.entry) legal right.paid in
-      let also = own.stands in
+      let also = own.exists in
       let same : own.account ≡ a = cc in
       subst (λ (b : AccountEntry). 1 ≤ b.num_sub_entries) same own.enough
 
@@ -118,8 +89,8 @@ module _ (v : View) (id_pool next base : ℕ) (sum : ℤ) (asked : Asked) (m : E
   kept_left : (done : Crossing) → Leaves base none_more m (kept base asked done m).entries
   kept_left done = by_amount done done.end (left_of base asked done done.end m) refl
 
-nothing_behind : (x y z : ℤ) → (((x +ℤ y) +ℤ z) +ℤ pos 0) ≡ (x +ℤ (y +ℤ z))
-nothing_behind x y z = omega (arith, ints)
+nothing_after : (x y z : ℤ) → (((x +ℤ y) +ℤ z) +ℤ pos 0) ≡ (x +ℤ (y +ℤ z))
+nothing_after x y z = omega (arith, ints)
 
 module _ (v : View) (id_pool next base : ℕ) (sum : ℤ) (asked : Asked) (m : EntryMap)
     (legal : IsLegalOwing v id_pool (one_more asked.offer.seller_id (sponsor_of asked.entry)) sum m)
@@ -164,7 +135,7 @@ module _ (v : View) (id_pool next base : ℕ) (sum : ℤ) (asked : Asked) (m : E
       (leaves_both base (both_more (both_more a b) t) none_more m (settled asked c) _
       (leaves_both base (both_more a b) t m given_map (settled asked c)
       (leaves_both base a b m c.entries given_map crossed_left its_given) its_taken) its_kept)
-      (λ k x. nothing_behind (a k x) (b k x) (t k x))
+      (λ k x. nothing_after (a k x) (b k x) (t k x))
 
   -- Each account has what the sale moves, and no less available than before, unless it is at least nothing.
   pub selling_left_so : (done : Sold) → sold base asked m ≡ Ok done

@@ -1,4 +1,4 @@
--- What the calls of this crate need of a state, and what they come to.
+-- What the calls of this crate need of a state, and what they yield.
 use Rattle.std.specs.Prelude.{◌≡◌, false, ℕ, ◌+◌, ◌≤◌, zero, suc, ℤ, pos, neg_ℤ, ◌≤ℤ◌, List, [], Option, Some, None}
 use Rattle.std.specs.Prelude.{Result, Ok, Err}
 use Rattle.ledger_types.specs.declared.ids.AccountId.{AccountId}
@@ -14,7 +14,7 @@ use Rattle.entry_slots.specs.Offers.{entry_of_offer}
 use Rattle.sponsor_rules.specs.reserve_rules.Reserve.{greatest_i64}
 use Rattle.sponsor_rules.specs.declared.context.Ctx.{Ctx}
 use Rattle.sponsor_rules.specs.declared.fault.AddFault.{AddFault}
-use Rattle.trade_cross.specs.legal_rules.Books.{View}
+use Rattle.trade_cross.specs.legal_rules.Aggregates.{View}
 use Rattle.trade_cross.specs.legal_rules.OneMore.{one_more}
 use Rattle.trade_cross.specs.legal_rules.Owing.{nothing_owed, IsLegalOwing}
 use Rattle.trade_cross.specs.legal_rules.Sponsorships.{IsSponsorReady}
@@ -43,7 +43,7 @@ IsLimitOf amount None = Unit {0}
 IsLimitOf amount (Some n) = n ≡ amount
 
 -- What the operations of this crate ask of the state in which they begin: it is legal, an id can be drawn, the source
--- stands, and so does its open sponsor, which is another account.
+-- exists, and so does its open sponsor, which is another account.
 pub record IsManageable (ctx : Ctx) (m : EntryMap) : Type 0 where
   pub view : View
   pub sum : ℤ
@@ -64,7 +64,7 @@ pub record IsSound (ask : Ask) : Type 0 where
   pub formed : IsFormed ask
   pub valid : is_malformed ask ≡ false
 
--- a state in which an offer is counted and doesn't stand, and can be sold
+-- a state in which an offer is counted and doesn't exist, and can be sold
 pub record IsSellable (asked : Asked) (m : EntryMap) : Type 0 where
   pub view : View
   pub id_pool : ℕ
@@ -122,8 +122,8 @@ pub record IsSold (answer : SoldOfCall) (old new : Undo) (done : Sold) : Type 0 
   pub amount : answer.amount ≡ pos done.amount
   pub entries : new ≡ with_current old done.entries
 
--- The call came to this, or it answered the fault that ends it; the map has to be undone then. For want of memory
--- nothing is said.
+-- The call yielded this, or it answered the fault that ends it; the map has to be undone then. Nothing is said of an
+-- allocation failure.
 abbrev pub IsSale : Result SoldOfCall OfferFault → Undo → Undo → Result Sold OfferFault → Type 0
 IsSale (Ok answer) old new (Ok done) = IsSold answer old new done
 IsSale (Ok answer) old new (Err other) = ⊥
@@ -146,7 +146,7 @@ IsCounted (Err (fault.Reserve other)) old new counted =
     (counted ≡ Err other) × (new ≡ with_current old new.current)
 IsCounted (Err other) old new counted = ⊥
 
--- what an operation on an offer comes to, with the greatest id behind it
+-- what an operation on an offer yields, with the greatest id after it
 pub record Outcome : Type 0 where
   pub atoms : List ClaimAtom
   pub effect : ManageOfferEffect

@@ -56,7 +56,7 @@ fault_answer answer fault.TooMany = ExceededWorkLimit
 fault_answer answer (fault.Reserve other) = fault_result other (Inner (answer manage.LowReserve))
 fault_answer answer other = Inner (answer (code_of other))
 
--- an offer that is kept is made or changed, and one that isn't is deleted, also where it never stood
+-- an offer that is kept is made or changed, and one that isn't is deleted, even where it never existed
 abbrev pub effect_of : Effect → Asked → ℕ → ManageOfferEffect
 effect_of kind asked zero = effect.Deleted
 effect_of Made asked (suc n) = effect.Created (offer_left asked (suc n))

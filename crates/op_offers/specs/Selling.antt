@@ -95,7 +95,7 @@ settled asked done =
 
 -- ---- what is left of it
 
--- what is still offered behind a trade that moved so much, of which its owner can give and take so much at most
+-- what is still offered after a trade that moved so much, of which its owner can give and take so much at most
 abbrev pub left_within : Asked → (sheep wheat gives takes : ℕ) → ℕ
 left_within asked sheep wheat gives takes =
     adjusted (unsigned_abs asked.offer.price.n) (unsigned_abs asked.offer.price.d) (capped asked.sells sheep gives)

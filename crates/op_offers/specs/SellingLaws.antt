@@ -7,7 +7,7 @@ use Rattle.ledger_types.specs.declared.key.LedgerKey.TheVariants as key
 use Rattle.entry_map.specs.EntryMap.{EntryMap}
 use Rattle.entry_slots.specs.EntrySponsor.{sponsor_of}
 use Rattle.valid_values.specs.Assets.{is_valid_asset}
-use Rattle.trade_cross.specs.legal_rules.Books.{View}
+use Rattle.trade_cross.specs.legal_rules.Aggregates.{View}
 use Rattle.trade_cross.specs.legal_rules.Owing.{nothing_owed, IsLegalOwing}
 use Rattle.ledger_types.specs.declared.entry.LedgerEntry.{LedgerEntry}
 use Rattle.ledger_types.specs.declared.entry.LedgerEntryBody.TheVariants as body
@@ -35,7 +35,7 @@ pub record IsAskedRightly (next : ℕ) (asked : Asked) (m : EntryMap) : Type 0 w
   pub assets : asked.offer.selling ≢ asked.offer.buying
   pub flags : asked.offer.flags ≤ 1
 
--- From a state in which the offer is counted and doesn't stand, to one in which books owe nothing.
+-- From a state in which the offer is counted and doesn't exist, to one in which aggregates owe nothing.
 abbrev pub SellingKeeps : Type 0
 SellingKeeps =
     (v : View) (id_pool next base : ℕ) (sum : ℤ) (asked : Asked) (m : EntryMap) (done : Sold)

@@ -1,4 +1,4 @@
-//! What is left of an offer behind its trade.
+//! What is left of an offer after its trade.
 
 ghost use Rattle.std.specs.Prelude.{◌≡◌, ◌≤ℤ◌, pos, unsigned_abs, IfOk, OnOk};
 ghost use Rattle.ledger_types.specs.Prices.{IsPriced};
@@ -52,7 +52,7 @@ fn left_within(asked: &Asked, sheep: i64, wheat: i64, gives: i64, takes: i64) ->
     adjust(asked.slot.offer.price, send, receive)
 }
 
-/// How much is still offered, at least 0, behind a trade that moved so much, each at least 0.
+/// How much is still offered, at least 0, after a trade that moved so much, each at least 0.
 pub fn amount_left<B: Base>(
     entries: &Entries<'_, B>,
     base_reserve: u32,

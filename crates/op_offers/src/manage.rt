@@ -134,7 +134,7 @@ fn take_out<B: Base>(entries: &mut Entries<'_, B>, old: &OfferEntry) -> Result<(
     erase_offer(entries, &old.seller_id, old.offer_id)
 }
 
-/// Changes an offer that stands.
+/// Changes an existing offer.
 fn change<B: Base>(
     entries: &mut Entries<'_, B>,
     ctx: &Ctx,
@@ -143,7 +143,7 @@ fn change<B: Base>(
 ) -> Result<Managed, OfferFault>
     requires manageable { IsManageable ctx.now entries.old.current }
     requires sound { IsSound ask.now }
-    requires stands { Some old.now ≡ offer_slot_at entries.old.current ctx.now.op_source ask.now.offer_id }
+    requires exists { Some old.now ≡ offer_slot_at entries.old.current ctx.now.op_source ask.now.offer_id }
     ensures { calls.IsManaging ctx.now result entries.old entries.new (
         spec.changed ctx.now ask.now old.now.offer (entry_of_offer old.now) entries.old.current) }
 {
@@ -154,14 +154,14 @@ fn change<B: Base>(
     Ok(changed(ctx.id_pool, &asked, sold))
 }
 
-/// Removes an offer that stands.
+/// Removes an existing offer.
 fn remove<B: Base>(
     entries: &mut Entries<'_, B>,
     ctx: &Ctx,
     old: &OfferEntry,
 ) -> Result<Managed, OfferFault>
     requires manageable { IsManageable ctx.now entries.old.current }
-    requires stands { offer_at entries.old.current old.now.seller_id old.now.offer_id ≡ Some old.now }
+    requires exists { offer_at entries.old.current old.now.seller_id old.now.offer_id ≡ Some old.now }
     ensures { calls.IsManaging ctx.now result entries.old entries.new (
         Ok (spec.Removed (map_after_cancelling old.now entries.old.current))) }
 {

@@ -20,7 +20,7 @@ use sponsor_rules::Ctx;
 use std::alloc::AllocError;
 use trade_cross::{CrossEnd, Crossed};
 
-/// What a sale came to: each offer that was crossed, in order, and how much is still offered, at least 0.
+/// What a sale yielded: each offer that was crossed, in order, and how much is still offered, at least 0.
 #[derive(Drop)]
 pub struct Sold {
     pub atoms: ItemList<ClaimAtom>,

@@ -2,27 +2,27 @@
 
 ghost use Rattle.std.specs.Prelude.{◌≡◌, pos, IfOk};
 ghost use Rattle.trade_cross.specs.Holdings as holdings;
-ghost use Rattle.trade_cross.specs.Places.{place_key};
+ghost use Rattle.trade_cross.specs.Locations.{location_key};
 ghost use Rattle.op_offers.specs.Calls.{IsSellable, asked_in};
 ghost use Rattle.op_offers.specs.Selling.{source_gives_at, source_takes_at};
 
 use crate::asked::Asked;
 use entry_map::{Base, Entries};
 use std::alloc::AllocError;
-use trade_cross::{Place, most_given, most_taken, place_of};
+use trade_cross::{Location, location_of, most_given, most_taken};
 
 /// Where the source has what it sells.
-pub fn gives_at(asked: &Asked) -> Place
-    ensures { place_key asked.now.slot.offer.seller_id result ≡ source_gives_at (asked_in asked.now) }
+pub fn gives_at(asked: &Asked) -> Location
+    ensures { location_key asked.now.slot.offer.seller_id result ≡ source_gives_at (asked_in asked.now) }
 {
-    place_of(&asked.slot.offer.seller_id, &asked.slot.offer.selling)
+    location_of(&asked.slot.offer.seller_id, &asked.slot.offer.selling)
 }
 
 /// Where the source has what it buys.
-pub fn takes_at(asked: &Asked) -> Place
-    ensures { place_key asked.now.slot.offer.seller_id result ≡ source_takes_at (asked_in asked.now) }
+pub fn takes_at(asked: &Asked) -> Location
+    ensures { location_key asked.now.slot.offer.seller_id result ≡ source_takes_at (asked_in asked.now) }
 {
-    place_of(&asked.slot.offer.seller_id, &asked.slot.offer.buying)
+    location_of(&asked.slot.offer.seller_id, &asked.slot.offer.buying)
 }
 
 /// What the source can give of what it sells, at least 0.

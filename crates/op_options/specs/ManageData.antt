@@ -49,7 +49,7 @@ added ctx name value m =
     after_charge (map_after_adding ctx ctx.op_source (new_data ctx name value) m) (answer manage.LowReserve)
     (λ after. success ctx (answer manage.Success) after [])
 
--- the source's data with this name has the value from now on: it is changed where it stands, and else added
+-- the source's data with this name has the value from now on: it is changed where it exists, and else added
 abbrev pub valued : Ctx → List ℕ → List ℕ → EntryMap → Option DataEntry → Attempt
 valued ctx name value m None = added ctx name value m
 valued ctx name value m (Some was) =

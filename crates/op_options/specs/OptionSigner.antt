@@ -9,15 +9,15 @@ use Rattle.entry_map.specs.EntryMap.{EntryMap}
 use Rattle.entry_slots.specs.Accounts.{with_account}
 use Rattle.entry_slots.specs.Tests.{Tests}
 use Rattle.sponsor_rules.specs.declared.context.Ctx.{Ctx}
-use Rattle.sponsor_rules.specs.declared.signer_place.FoundSigner.{FoundSigner}
-use Rattle.sponsor_rules.specs.SignerPlace.{found_signer}
+use Rattle.sponsor_rules.specs.declared.signer_index.FoundSigner.{FoundSigner}
+use Rattle.sponsor_rules.specs.SignerIndex.{found_signer}
 use Rattle.sponsor_rules.specs.Signers.{map_after_adding_signer, map_after_removing_signer}
 use Rattle.op_form.specs.Steps.{unless_refused, after_charge}
 use Rattle.op_options.specs.OptionTests.{answer}
 
--- an account whose signer at a place is this one, with a weight of its own
+-- an account whose signer at an index is this one, with a weight of its own
 abbrev pub with_signer_set : ℕ → Signer → AccountEntry → AccountEntry
-with_signer_set place signer account = record account { signers = slice_set account.signers place signer }
+with_signer_set index signer account = record account { signers = slice_set account.signers index signer }
 
 -- an account has 20 signers at most
 abbrev pub count_tests : AccountEntry → Tests OperationResult
@@ -34,7 +34,7 @@ abbrev pub map_after_weighing : Ctx → Signer → AccountEntry → EntryMap →
     → Result EntryMap OperationResult
 map_after_weighing ctx signer account m None = map_after_new_signer ctx signer account m
 map_after_weighing ctx signer account m (Some found) =
-    Ok (with_account m ctx.op_source (with_signer_set found.place signer))
+    Ok (with_account m ctx.op_source (with_signer_set found.index signer))
 
 -- a signer of weight 0 is removed, where it is there
 abbrev pub map_after_signer : Ctx → AccountEntry → EntryMap → Option Signer → Result EntryMap OperationResult

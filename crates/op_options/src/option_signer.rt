@@ -3,7 +3,7 @@
 ghost use Rattle.std.specs.Prelude.{◌≡◌, Some, IfOk, OnOk};
 ghost use Rattle.entry_map.specs.Undo.{with_current};
 ghost use Rattle.entry_slots.specs.Accounts as accounts;
-ghost use Rattle.sponsor_rules.specs.SignerPlace.{found_signer};
+ghost use Rattle.sponsor_rules.specs.SignerIndex.{found_signer};
 ghost use Rattle.op_form.specs.Premises.{AccountsAreReady};
 ghost use Rattle.op_form.specs.Steps.{IsStep};
 ghost use Rattle.op_options.specs.OptionSigner as spec;
@@ -42,7 +42,7 @@ pub fn change_signer<B: Base>(
     match found_signer(&signer.key, source) {
         None => add_new_signer(ctx, entries, account, *signer),
         Some(found) => {
-            weigh(entries, &ctx.op_source, found.place, *signer)?;
+            weigh(entries, &ctx.op_source, found.index, *signer)?;
             Ok(None)
         }
     }
@@ -70,24 +70,24 @@ fn add_new_signer<B: Base>(
     }
 }
 
-/// Gives the signer at a place its weight.
+/// Gives the signer at an index its weight.
 #[tactic(auto, unfolding(entry_slots::specs::Accounts::with_account))]
 fn weigh<B: Base>(
     entries: &mut Entries<'_, B>,
     id: &AccountId,
-    place: usize,
+    index: usize,
     signer: Signer,
 ) -> Result<(), AllocError>
     ensures { OnOk result (
         entries.new ≡
         with_current entries.old (
-        accounts.with_account entries.old.current id.now (spec.with_signer_set place signer))) }
+        accounts.with_account entries.old.current id.now (spec.with_signer_set index signer))) }
 {
     let Some(mut slot) = load_account(entries, id)? else {
         return Ok(());
     };
-    if place < slot.account.signers.len() {
-        slot.account.signers.set(place, signer);
+    if index < slot.account.signers.len() {
+        slot.account.signers.set(index, signer);
     }
     store_account(entries, slot)
 }

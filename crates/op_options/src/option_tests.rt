@@ -7,7 +7,7 @@ ghost use Rattle.op_options.specs.OptionTests as spec;
 use entry_map::{Base, Entries};
 use item_list::ItemList;
 use ledger_types::{AccountEntry, AccountId, Signer, SignerKey};
-use op_form::stands;
+use op_form::exists;
 use op_types::{OperationResult, OperationResultTr, SetOptionsOp, SetOptionsResult};
 use std::alloc::AllocError;
 use valid_values::is_valid_text;
@@ -110,7 +110,7 @@ pub fn given_refusal(id: &AccountId, op: &SetOptionsOp) -> Option<OperationResul
     None
 }
 
-/// Whether an account is given that doesn't stand.
+/// Whether an account is given that doesn't exist.
 pub fn is_missing<B: Base>(
     entries: &Entries<'_, B>,
     id: &Option<AccountId>,
@@ -119,7 +119,7 @@ pub fn is_missing<B: Base>(
 {
     match id {
         None => Ok(false),
-        Some(id) => Ok(!stands(entries, id)?),
+        Some(id) => Ok(!exists(entries, id)?),
     }
 }
 

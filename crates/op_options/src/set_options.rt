@@ -38,7 +38,7 @@ pub fn set_options<B: Base>(
     set_options_of(op, ctx, entries, &source)
 }
 
-/// Changes what the source is, if it stands and can have what is given.
+/// Changes what the source is, if it exists and can have what is given.
 fn set_options_of<B: Base>(
     op: &SetOptionsOp,
     ctx: &Ctx,

@@ -1,41 +1,27 @@
 -- Amounts of any asset that accounts give and take.
-use Rattle.std.proofs.Common.{◌≡◌, refl, ap, subst, ℕ, Bool, true, false, not, ◌∷◌, [], Option, Some, None}
-use Rattle.std.proofs.Common.{Ok, arith}
-use Rattle.std.proofs.lemmas.Int.{ints}
-use Rattle.std.specs.Prelude.{ℤ, pos, neg_ℤ, int_lt, ◌+ℤ◌, ◌-ℤ◌, ◌≤ℤ◌, if◌then◌else◌}
+use Rattle.op_payment.proofs.Prelude as prelude
+use prelude.{◌≡◌, refl, ap, subst, ℕ, Bool, true, false, not, ◌∷◌, [], Option, Some, None, Ok, arith, ints, ℤ, pos}
+use prelude.{neg_ℤ, int_lt, ◌+ℤ◌, ◌-ℤ◌, ◌≤ℤ◌, if◌then◌else◌, AccountId, Asset, TrustLineEntry, EntryMap}
+use prelude.{line_liabilities, line_at, with_line, IsLineInRange, line_available, line_room, Ctx, view, nothing_owed}
+use prelude.{AreEntriesLegal, of_asset, CreditFault, DebitFault, with_less, with_more, line_debit_tests}
+use prelude.{line_credit_tests, map_after_debit, map_after_issued_debit, map_after_line_debit_of, map_after_credit}
+use prelude.{map_after_issued_credit, map_after_line_credit_of, is_native, is_issued_by, line_asset_of}
+use prelude.{map_after_lumens_credit, map_after_lumens_debit, line_legal, IsKeyed, Increase, none_more, under_key}
+use prelude.{for_one, Leaves, leaves_itself, leaves_as, add_sub_first, int_lt_false}
 use Rattle.std.specs.Option.{ok_or}
-use Rattle.ledger_types.specs.declared.ids.AccountId.{AccountId}
-use Rattle.ledger_types.specs.declared.asset.Asset.{Asset}
 use Rattle.ledger_types.specs.declared.asset.Asset.TheVariants as asset
 use Rattle.ledger_types.specs.declared.key.LedgerKey.TheVariants as key
-use Rattle.ledger_types.specs.declared.trust_line.TrustLineEntry.{TrustLineEntry}
-use Rattle.entry_map.specs.EntryMap.{EntryMap}
-use Rattle.sponsor_rules.specs.entry_slots.LineExtensions.{line_liabilities}
-use Rattle.sponsor_rules.specs.entry_slots.Lines.{line_at, with_line}
 use Rattle.sponsor_rules.specs.entry_slots.Tests.{Tests}
-use Rattle.sponsor_rules.specs.reserve_rules.Reserve.{IsLineInRange, line_available, line_room}
-use Rattle.sponsor_rules.specs.declared.context.Ctx.{Ctx}
-use Rattle.trade_cross.specs.legal_rules.Legal.{view}
-use Rattle.trade_cross.specs.legal_rules.Owing.{nothing_owed, AreEntriesLegal}
-use Rattle.trade_cross.specs.legal_rules.Supply.{of_asset}
-use Rattle.op_form.specs.declared.amounts.CreditFault.{CreditFault}
 use Rattle.op_form.specs.declared.amounts.CreditFault.TheVariants as credit
-use Rattle.op_form.specs.declared.amounts.DebitFault.{DebitFault}
 use Rattle.op_form.specs.declared.amounts.DebitFault.TheVariants as debit
-use Rattle.op_form.specs.Amounts.{with_less, with_more, line_debit_tests, line_credit_tests, map_after_debit}
-use Rattle.op_form.specs.Amounts.{map_after_issued_debit, map_after_line_debit_of, map_after_credit}
-use Rattle.op_form.specs.Amounts.{map_after_issued_credit, map_after_line_credit_of}
-use Rattle.op_form.specs.Assets.{is_native, is_issued_by, line_asset_of}
 use Rattle.op_form.specs.Flags.{is_authorized}
-use Rattle.op_form.specs.Lumens.{map_after_lumens_credit, map_after_lumens_debit}
 use Rattle.op_form.proofs.Balances.{line_more_in_range}
-use Rattle.trade_cross.proofs.legal_rules_proofs.LinesLeft.{line_legal}
 use Rattle.op_payment.proofs.LineChanges.{line_shifted, line_left}
-use Rattle.op_payment.proofs.Paying.{taken, given, taken_legal, taken_left, given_legal, given_left}
-use Rattle.trade_cross.specs.legal_rules.Holdings.{IsKeyed, Increase, none_more, under_key, for_one}
-use Rattle.trade_cross.proofs.legal_rules_proofs.Leaving.{Leaves, leaves_itself, leaves_as}
-use Rattle.trade_cross.proofs.legal_rules_proofs.Passed.{passed, first_passed}
+use Rattle.op_payment.proofs.Paying.{taken_legal, taken_left, given_legal, given_left}
+use Rattle.trade_cross.proofs.legal_rules_proofs.Passed.{first_passed}
 use Rattle.op_payment.proofs.Shifts.{ShiftsLegal, shifts_as, shifts_nothing, unless_issuer}
+use Rattle.op_payment.proofs.Paying.{credit_is_taken, debit_is_given}
+use Rattle.trade_cross.proofs.legal_rules_proofs.Passed.{unless_first_ok}
 
 -- ---- what a change moves
 
@@ -57,12 +43,9 @@ abbrev pub more_of : Asset → AccountId → ℤ → Increase
 more_of asset.Native id n = for_one id n
 more_of issued id n = unless_issued issued id n
 
-still : (id_pool base : ℕ) (m : EntryMap) → IsKeyed m → IsMoved id_pool base (λ x. pos 0) none_more m m
-still id_pool base m keyed =
+unmoved : (id_pool base : ℕ) (m : EntryMap) → IsKeyed m → IsMoved id_pool base (λ x. pos 0) none_more m m
+unmoved id_pool base m keyed =
     record { shifts = shifts_nothing id_pool m; left = leaves_itself base m keyed }
-
-not_less : (x y : ℤ) → int_lt x y ≡ false → y ≤ℤ x
-not_less x y h = grind (arith, ints)
 
 pub ok_of : {F : Type 0} (o : Option EntryMap) (fault : F) (new : EntryMap) → ok_or o fault ≡ Ok new → o ≡ Some new
 ok_of None fault new is = absurd (cc)
@@ -92,24 +75,21 @@ less_in_range t n range low enough = record {
 less_is : (b n : ℤ) → ((b -ℤ n) -ℤ b) ≡ neg_ℤ n
 less_is b n = omega (arith, ints)
 
-more_is : (b n : ℤ) → ((b +ℤ n) -ℤ b) ≡ n
-more_is b n = omega (arith, ints)
-
 module _ (id_pool base : ℕ) (m : EntryMap) (legal : AreEntriesLegal id_pool m) (id : AccountId) (held : Asset)
-    (issued : is_native held ≡ false) (t : TrustLineEntry) (stands : line_at m id (line_asset_of held) ≡ Some t) (n : ℤ)
+    (issued : is_native held ≡ false) (t : TrustLineEntry) (exists : line_at m id (line_asset_of held) ≡ Some t) (n : ℤ)
     (low : pos 0 ≤ℤ n) where
   -- a line gives what is available
   pub line_given : n ≤ℤ line_available t
       → IsMoved id_pool base (λ x. of_asset x held (neg_ℤ n)) (in_line id held (neg_ℤ n)) m
       (with_line m id (line_asset_of held) (with_less n))
   line_given enough =
-      let its = line_legal (view m) id_pool nothing_owed _ m id (line_asset_of held) t legal stands in
+      let its = line_legal (view m) id_pool nothing_owed _ m id (line_asset_of held) t legal exists in
       let new = with_line m id (line_asset_of held) (with_less n) in
       record {
         shifts = shifts_as id_pool (λ x. of_asset x held ((t.balance -ℤ n) -ℤ t.balance))
             (λ x. of_asset x held (neg_ℤ n))
             m new (λ x. ap (λ k. of_asset x held k) (less_is t.balance n))
-            (line_shifted id_pool m id held issued (with_less n) t stands
+            (line_shifted id_pool m id held issued (with_less n) t exists
             (record { id = refl; asset = refl; liabilities = refl; uses = refl })
             (record {
               range = less_in_range t n its.range.range low enough;
@@ -120,7 +100,7 @@ module _ (id_pool base : ℕ) (m : EntryMap) (legal : AreEntriesLegal id_pool m)
               uses = its.range.uses;
             }) its.bound);
         left = leaves_as base (in_line id held ((t.balance -ℤ n) -ℤ t.balance)) (in_line id held (neg_ℤ n)) m new
-            (line_left id_pool m id held issued (with_less n) t stands
+            (line_left id_pool m id held issued (with_less n) t exists
             (record { id = refl; asset = refl; liabilities = refl; uses = refl }) base legal.keyed)
             (λ k x. ap (λ j. in_line id held j k x) (less_is t.balance n));
       }
@@ -129,12 +109,12 @@ module _ (id_pool base : ℕ) (m : EntryMap) (legal : AreEntriesLegal id_pool m)
   pub line_taken : n ≤ℤ line_room t → IsMoved id_pool base (λ x. of_asset x held n) (in_line id held n) m
       (with_line m id (line_asset_of held) (with_more n))
   line_taken fits =
-      let its = line_legal (view m) id_pool nothing_owed _ m id (line_asset_of held) t legal stands in
+      let its = line_legal (view m) id_pool nothing_owed _ m id (line_asset_of held) t legal exists in
       let new = with_line m id (line_asset_of held) (with_more n) in
       record {
         shifts = shifts_as id_pool (λ x. of_asset x held ((t.balance +ℤ n) -ℤ t.balance)) (λ x. of_asset x held n) m new
-            (λ x. ap (λ k. of_asset x held k) (more_is t.balance n))
-            (line_shifted id_pool m id held issued (with_more n) t stands
+            (λ x. ap (λ k. of_asset x held k) (add_sub_first t.balance n))
+            (line_shifted id_pool m id held issued (with_more n) t exists
             (record { id = refl; asset = refl; liabilities = refl; uses = refl })
             (record {
               range = line_more_in_range t n its.range.range low fits;
@@ -145,9 +125,9 @@ module _ (id_pool base : ℕ) (m : EntryMap) (legal : AreEntriesLegal id_pool m)
               uses = its.range.uses;
             }) its.bound);
         left = leaves_as base (in_line id held ((t.balance +ℤ n) -ℤ t.balance)) (in_line id held n) m new
-            (line_left id_pool m id held issued (with_more n) t stands
+            (line_left id_pool m id held issued (with_more n) t exists
             (record { id = refl; asset = refl; liabilities = refl; uses = refl }) base legal.keyed)
-            (λ k x. ap (λ j. in_line id held j k x) (more_is t.balance n));
+            (λ k x. ap (λ j. in_line id held j k x) (add_sub_first t.balance n));
       }
 
 -- ---- issued assets
@@ -157,14 +137,14 @@ module _ (id_pool base : ℕ) (m : EntryMap) (legal : AreEntriesLegal id_pool m)
   given_line : (o : Option TrustLineEntry) → line_at m id (line_asset_of held) ≡ o
       → map_after_line_debit_of id (line_asset_of held) n m o ≡ Ok new
       → IsMoved id_pool base (λ x. of_asset x held (neg_ℤ n)) (in_line id held (neg_ℤ n)) m new
-  given_line None stands is = absurd (cc)
-  given_line (Some t) stands is =
+  given_line None exists is = absurd (cc)
+  given_line (Some t) exists is =
       let short : Tests DebitFault = (int_lt (line_available t) n, debit.Short) ∷ [] in
-      let tests = passed (line_debit_tests n t) (with_line m id (line_asset_of held) (with_less n)) new is in
+      let tests = unless_first_ok (line_debit_tests n t) (with_line m id (line_asset_of held) (with_less n)) new is in
       let first = first_passed (not (is_authorized t)) debit.NotAuthorized short tests.0 in
       let second = first_passed (int_lt (line_available t) n) debit.Short [] first.1 in
       subst (IsMoved id_pool base (λ x. of_asset x held (neg_ℤ n)) (in_line id held (neg_ℤ n)) m) tests.1
-      (line_given id_pool base m legal id held issued t stands n low (not_less (line_available t) n second.0))
+      (line_given id_pool base m legal id held issued t exists n low (int_lt_false (line_available t) n second.0))
 
   given_by : (b : Bool) → is_issued_by held id ≡ b
       → (if b then Ok m else map_after_line_debit_of id (line_asset_of held) n m (line_at m id (line_asset_of held)))
@@ -172,7 +152,7 @@ module _ (id_pool base : ℕ) (m : EntryMap) (legal : AreEntriesLegal id_pool m)
       (λ k x. if b then pos 0 else in_line id held (neg_ℤ n) k x) m new
   given_by true issuer is =
       let same : m ≡ new = cc in
-      subst (IsMoved id_pool base (λ x. pos 0) none_more m) same (still id_pool base m legal.keyed)
+      subst (IsMoved id_pool base (λ x. pos 0) none_more m) same (unmoved id_pool base m legal.keyed)
   given_by false other is = given_line (line_at m id (line_asset_of held)) refl is
 
   issued_given : map_after_issued_debit id held n m ≡ Ok new
@@ -182,14 +162,14 @@ module _ (id_pool base : ℕ) (m : EntryMap) (legal : AreEntriesLegal id_pool m)
   taken_line : (o : Option TrustLineEntry) → line_at m id (line_asset_of held) ≡ o
       → map_after_line_credit_of id (line_asset_of held) n m o ≡ Ok new
       → IsMoved id_pool base (λ x. of_asset x held n) (in_line id held n) m new
-  taken_line None stands is = absurd (cc)
-  taken_line (Some t) stands is =
+  taken_line None exists is = absurd (cc)
+  taken_line (Some t) exists is =
       let full : Tests CreditFault = (int_lt (line_room t) n, credit.Full) ∷ [] in
-      let tests = passed (line_credit_tests n t) (with_line m id (line_asset_of held) (with_more n)) new is in
+      let tests = unless_first_ok (line_credit_tests n t) (with_line m id (line_asset_of held) (with_more n)) new is in
       let first = first_passed (not (is_authorized t)) credit.NotAuthorized full tests.0 in
       let second = first_passed (int_lt (line_room t) n) credit.Full [] first.1 in
       subst (IsMoved id_pool base (λ x. of_asset x held n) (in_line id held n) m) tests.1
-      (line_taken id_pool base m legal id held issued t stands n low (not_less (line_room t) n second.0))
+      (line_taken id_pool base m legal id held issued t exists n low (int_lt_false (line_room t) n second.0))
 
   taken_by : (b : Bool) → is_issued_by held id ≡ b
       → (if b then Ok m else map_after_line_credit_of id (line_asset_of held) n m (line_at m id (line_asset_of held)))
@@ -197,7 +177,7 @@ module _ (id_pool base : ℕ) (m : EntryMap) (legal : AreEntriesLegal id_pool m)
       (λ k x. if b then pos 0 else in_line id held n k x) m new
   taken_by true issuer is =
       let same : m ≡ new = cc in
-      subst (IsMoved id_pool base (λ x. pos 0) none_more m) same (still id_pool base m legal.keyed)
+      subst (IsMoved id_pool base (λ x. pos 0) none_more m) same (unmoved id_pool base m legal.keyed)
   taken_by false other is = taken_line (line_at m id (line_asset_of held)) refl is
 
   issued_taken : map_after_issued_credit id held n m ≡ Ok new
@@ -212,7 +192,7 @@ module _ (ctx : Ctx) (id_pool : ℕ) (m : EntryMap) (legal : AreEntriesLegal id_
       → IsMoved id_pool ctx.base_reserve (λ x. unless_issuer x held id (neg_ℤ n))
       (more_of held id (neg_ℤ n)) m new
   amount_given asset.Native is =
-      let h = given ctx id n m new (ok_of (map_after_lumens_debit ctx id n m) debit.Short new is) in
+      let h = debit_is_given ctx id n m new (ok_of (map_after_lumens_debit ctx id n m) debit.Short new is) in
       record {
         shifts = λ v sum also. given_legal v id_pool ctx.base_reserve sum id n m new h low also;
         left = given_left ctx.base_reserve id n m new h legal.keyed;
@@ -225,7 +205,7 @@ module _ (ctx : Ctx) (id_pool : ℕ) (m : EntryMap) (legal : AreEntriesLegal id_
   pub amount_taken : (held : Asset) → map_after_credit id held n m ≡ Ok new
       → IsMoved id_pool ctx.base_reserve (λ x. unless_issuer x held id n) (more_of held id n) m new
   amount_taken asset.Native is =
-      let h = taken id n m new (ok_of (map_after_lumens_credit id n m) credit.Full new is) in
+      let h = credit_is_taken id n m new (ok_of (map_after_lumens_credit id n m) credit.Full new is) in
       record {
         shifts = λ v sum also. taken_legal v id_pool sum id n m new h low also;
         left = taken_left ctx.base_reserve id n m new h low legal.keyed;

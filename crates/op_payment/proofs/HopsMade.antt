@@ -1,46 +1,34 @@
--- What a hop of a call comes to: how many offers it crosses, by the law of hops, and how far it carries an amount.
-use Rattle.std.proofs.Common.{◌≡◌, ◌≢◌, refl, sym, ap, subst, ◌∙◌, ℕ, ◌≤◌, Bool, true, false, Result, Ok, Err}
-use Rattle.std.specs.Prelude.{ℤ, pos, ◌≤ℤ◌, unsigned_abs, ◌-◌, ◌++◌, if◌then◌else◌}
-use Rattle.ledger_types.specs.declared.asset.Asset.{Asset}
-use Rattle.entry_map.specs.EntryMap.{EntryMap}
-use Rattle.entry_map.specs.Undo.{Undo, with_current}
-use Rattle.entry_map.proofs.Pairs.{tie}
-use Rattle.sponsor_rules.specs.declared.context.Ctx.{Ctx}
-use Rattle.offer_exchange.specs.Exchange.{unlimited}
-use Rattle.trade_cross.proofs.legal_rules_proofs.Lows.{natural_low}
+-- What a hop of a call yields: how many offers it crosses, by the law of hops, and how far it carries an amount.
+use Rattle.op_payment.proofs.Prelude.{◌≡◌, ◌≢◌, refl, sym, ap, subst, ◌∙◌, ◌≤◌, Bool, true, false, Result, Ok, Err}
+use Rattle.op_payment.proofs.Prelude.{unsigned_abs, ◌-◌, ◌++◌, if◌then◌else◌, Asset, EntryMap, Undo, with_current, Ctx}
+use Rattle.op_payment.proofs.Prelude.{unlimited, IsCrossable, Crossing, hop, is_served, AreTradeBounds, IsCrossing}
+use Rattle.op_payment.proofs.Prelude.{CarriedOfCall, PathFault, carried_of, needed_before_of, carried_on_of}
+use Rattle.op_payment.proofs.Prelude.{DoCrossingsFit, IsReceiving, IsSending, IsHopped, IsCarriedSo, Carried, by_end}
+use Rattle.op_payment.proofs.Prelude.{hopped, after_hop, receiving, sending, needed_before, carried_on, is_same_asset}
+use Rattle.op_payment.proofs.Prelude.{received_hop, sent_hop, natural_nonnegative, nonnegative_from_natural}
 use Rattle.trade_cross.specs.declared.crossed.Crossed.{Crossed}
 use Rattle.trade_cross.specs.declared.crossed.CrossEnd.{CrossEnd}
 use Rattle.trade_cross.specs.declared.crossed.CrossEnd.TheVariants.{CrossSelf, TooMany}
 use Rattle.trade_cross.specs.declared.trade.Trade.{Trade}
-use Rattle.trade_cross.specs.Crossable.{IsCrossable}
-use Rattle.trade_cross.specs.Crossing.{Crossing}
-use Rattle.trade_cross.specs.Hop.{hop, is_served}
 use Rattle.trade_cross.specs.HopLaws.{crossings_in, IsHopTrade}
-use Rattle.trade_cross.specs.Progressing.{AreTradeBounds, IsCrossing}
 use Rattle.trade_cross.proofs.HopsKeep.{hop_keeps}
-use Rattle.op_payment.specs.declared.carried.Carried.{Carried as CarriedOfCall}
-use Rattle.op_payment.specs.declared.path_fault.PathFault.{PathFault}
 use Rattle.op_payment.specs.declared.path_fault.PathFault.TheVariants as fault
-use Rattle.op_payment.specs.PathCalls.{carried_of, needed_before_of, carried_on_of, DoCrossingsFit}
-use Rattle.op_payment.specs.PathCalls.{IsReceiving, IsSending}
-use Rattle.op_payment.specs.PathCalls.{IsHopped, IsCarriedSo}
-use Rattle.op_payment.specs.Paths.{Carried, by_end, hopped, after_hop, receiving, sending, needed_before, carried_on}
-use Rattle.op_payment.specs.Paths.{is_same_asset, received_hop, sent_hop}
+use Rattle.entry_map.proofs.Pairs.{same_assets_tied}
 
 -- ---- the trades
 
 apart : (sheep wheat : Asset) → is_same_asset sheep wheat ≡ false → sheep ≢ wheat
-apart sheep wheat other = λ same. let tied = tie sheep wheat same in absurd (cc)
+apart sheep wheat other = λ same. let tied = same_assets_tied sheep wheat same in absurd (cc)
 
 pub receiving_bounds : (ctx : Ctx) (sheep wheat : Asset) (carried : Carried)
     → AreTradeBounds (receiving ctx sheep wheat carried)
 receiving_bounds ctx sheep wheat carried =
-    record { sheep_send = natural_low unlimited; wheat_receive = natural_low carried.amount }
+    record { sheep_send = natural_nonnegative unlimited; wheat_receive = natural_nonnegative carried.amount }
 
 pub sending_bounds : (ctx : Ctx) (sheep wheat : Asset) (carried : Carried)
     → AreTradeBounds (sending ctx sheep wheat carried)
 sending_bounds ctx sheep wheat carried =
-    record { sheep_send = natural_low carried.amount; wheat_receive = natural_low unlimited }
+    record { sheep_send = natural_nonnegative carried.amount; wheat_receive = natural_nonnegative unlimited }
 
 pub receiving_asks : (ctx : Ctx) (sheep wheat : Asset) (carried : Carried) → is_same_asset sheep wheat ≡ false
     → IsHopTrade (receiving ctx sheep wheat carried)
@@ -70,7 +58,7 @@ crossings_few ctx trade m k asks done is =
     subst (λ (y : Crossing). crossings_in y.atoms ≤ trade.crossings) (by_end_is trade x done x.end is)
     (hop_keeps k.view k.id_pool k.owed k.sum ctx trade m asks k.legal k.right).atoms.crossings
 
--- ---- what a call's hop came to
+-- ---- what a call's hop yielded
 
 record IsServed (answer : Crossed) (old new : Undo) (hop : Result Crossing PathFault) : Type 0 where
   pub done : Crossing
@@ -104,9 +92,6 @@ current_is old new m is = ap (λ (u : Undo). u.current) is
 
 kept : (old new : Undo) (m : EntryMap) → new ≡ with_current old m → new ≡ with_current old new.current
 kept old new m is = is ∙ ap (with_current old) (sym (current_is old new m is))
-
-low : (n : ℤ) (amount : ℕ) → n ≡ pos amount → pos 0 ≤ℤ n
-low n amount is = subst (λ x. pos 0 ≤ℤ x) (sym is) (natural_low amount)
 
 -- ---- one hop, as calls make it
 
@@ -149,7 +134,7 @@ module _ (ctx : Ctx) (sheep wheat : Asset) (carried : CarriedOfCall) (trade : Tr
         subst (λ x. IsCarriedSo (Ok x) old new (received_hop ctx sheep wheat so_far)) (sym next_is) (
           hop_on (is_same_asset sheep wheat) (Ok so_far) back (needed_before so_far) s.done other s.is ∙ ap Ok same,
           kept old new s.done.entries s.entries,
-          low answer.sheep s.done.sheep of.sheep,
+          nonnegative_from_natural answer.sheep s.done.sheep of.sheep,
           k,
         )
 
@@ -191,7 +176,7 @@ module _ (ctx : Ctx) (sheep wheat : Asset) (carried : CarriedOfCall) (trade : Tr
         subst (λ x. IsCarriedSo (Ok x) old new (sent_hop ctx sheep wheat so_far)) (sym next_is) (
           hop_on (is_same_asset sheep wheat) (Ok so_far) on (carried_on so_far) s.done other s.is ∙ ap Ok same,
           kept old new s.done.entries s.entries,
-          low answer.wheat s.done.wheat of.wheat,
+          nonnegative_from_natural answer.wheat s.done.wheat of.wheat,
           k,
         )
 

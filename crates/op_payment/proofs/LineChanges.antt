@@ -1,33 +1,17 @@
 -- What a change of a line leaves: legal entries, the supply of its asset, and the accounts.
-use Rattle.std.proofs.Common.{◌≡◌, refl, ap, ◌∙◌, ℕ, Bool, true, false, Some}
-use Rattle.std.specs.Prelude.{ℤ, pos, ◌+ℤ◌, ◌-ℤ◌, if◌then◌else◌}
-use Rattle.std.specs.Ordering.{is_eq}
-use Rattle.ledger_types.specs.declared.ids.AccountId.{AccountId}
-use Rattle.ledger_types.specs.declared.asset.Asset.{Asset}
+use Rattle.op_payment.proofs.Prelude as prelude
+use prelude.{◌≡◌, refl, ap, ◌∙◌, ℕ, Bool, true, false, Some, ℤ, pos, ◌+ℤ◌, ◌-ℤ◌, if◌then◌else◌, is_eq, AccountId, Asset}
+use prelude.{TrustLineEntry, asset_cmp, EntryMap, line_at, with_line, Kind, Shares, in_shares, nothing_owed}
+use prelude.{IsBoundRightly, IsEntryLegal, of_asset, of_line, line_changed, legal_as, is_native, line_asset_of, IsKeyed}
+use prelude.{none_more, under_key, Leaves, leaves_as, line_legal, line_of_any_left, line_of_any_kept, is_key}
 use Rattle.ledger_types.specs.declared.asset.Asset.TheVariants as asset
 use Rattle.ledger_types.specs.declared.asset.TrustLineAsset.{TrustLineAsset}
-use Rattle.ledger_types.specs.declared.trust_line.TrustLineEntry.{TrustLineEntry}
 use Rattle.ledger_types.specs.declared.entry.LedgerEntryBody.TheVariants as body
 use Rattle.ledger_types.specs.declared.key.LedgerKey.{LedgerKey}
 use Rattle.ledger_types.specs.declared.key.LedgerKey.TheVariants as key
-use Rattle.ledger_types.specs.KeyOrder.{asset_cmp}
-use Rattle.entry_map.specs.EntryMap.{EntryMap}
-use Rattle.sponsor_rules.specs.entry_slots.Lines.{line_at, with_line}
-use Rattle.trade_cross.specs.legal_rules.Books.{Kind, Shares}
-use Rattle.trade_cross.specs.legal_rules.ChangeLaws.{KeepsLineBooks, in_shares}
-use Rattle.trade_cross.specs.legal_rules.Owing.{nothing_owed, IsBoundRightly, IsEntryLegal}
+use Rattle.trade_cross.specs.legal_rules.ChangeLaws.{KeepsLineAggregates}
 use Rattle.trade_cross.specs.legal_rules.Ranges.{IsTrustLineInRange}
-use Rattle.trade_cross.specs.legal_rules.Supply.{of_asset, of_line}
-use Rattle.trade_cross.proofs.legal_rules_proofs.Changed.{line_changed}
-use Rattle.trade_cross.proofs.legal_rules_proofs.Steps.{legal_as}
-use Rattle.op_form.specs.Assets.{is_native, line_asset_of}
 use Rattle.op_payment.proofs.Shifts.{ShiftsLegal}
-use Rattle.trade_cross.specs.legal_rules.Holdings.{IsKeyed, none_more, under_key}
-use Rattle.trade_cross.proofs.legal_rules_proofs.Leaving.{Leaves, leaves_as}
-use Rattle.trade_cross.proofs.legal_rules_proofs.LinesLeft.{line_legal}
-use Rattle.trade_cross.proofs.legal_rules_proofs.LinesLeft.{line_left as line_of_any_left}
-use Rattle.trade_cross.proofs.legal_rules_proofs.LinesLeft.{line_kept as line_of_any_kept}
-use Rattle.trade_cross.specs.legal_rules.EntryKeys.{is_key}
 
 -- ---- a line that is changed
 
@@ -60,35 +44,35 @@ difference_of x held issued a is new old =
     ∙ difference (is_eq (asset_cmp x held)) new old
 
 module _ (id_pool : ℕ) (m : EntryMap) (id : AccountId) (held : Asset) (issued : is_native held ≡ false)
-    (f : TrustLineEntry → TrustLineEntry) (t : TrustLineEntry) (stands : line_at m id (line_asset_of held) ≡ Some t)
+    (f : TrustLineEntry → TrustLineEntry) (t : TrustLineEntry) (exists : line_at m id (line_asset_of held) ≡ Some t)
   where
     abbrev new : EntryMap
     new = with_line m id (line_asset_of held) f
 
     -- A line keeps what books say of it, and its own rules.
-    pub line_shifted : KeepsLineBooks t (f t) → IsTrustLineInRange (f t) → IsBoundRightly (body.TrustLine (f t))
+    pub line_shifted : KeepsLineAggregates t (f t) → IsTrustLineInRange (f t) → IsBoundRightly (body.TrustLine (f t))
         → ShiftsLegal id_pool (λ x. of_asset x held ((f t).balance -ℤ t.balance)) m new
     line_shifted keeps range bound v sum legal =
-        let its = (line_legal v id_pool nothing_owed sum m id (line_asset_of held) t legal stands).asset in
+        let its = (line_legal v id_pool nothing_owed sum m id (line_asset_of held) t legal exists).asset in
         legal_as v (IsEntryLegal id_pool) _ nothing_owed _ (sum +ℤ of_asset v.asset held ((f t).balance -ℤ t.balance))
         new
-        (line_changed v id_pool nothing_owed sum m id (line_asset_of held) f t legal stands keeps range bound)
+        (line_changed v id_pool nothing_owed sum m id (line_asset_of held) f t legal exists keeps range bound)
         (λ kind k. ap (λ (a : TrustLineAsset). pos 0 +ℤ in_shares a ((f t).balance -ℤ t.balance) kind k) its
         ∙ no_shares held ((f t).balance -ℤ t.balance) kind k)
         (ap (λ n. sum +ℤ n) (difference_of v.asset held issued t.asset its (f t).balance t.balance))
 
     -- No account changes, and the line holds so much more.
-    module _ (keeps : KeepsLineBooks t (f t)) (base : ℕ) (keyed : IsKeyed m) where
+    module _ (keeps : KeepsLineAggregates t (f t)) (base : ℕ) (keyed : IsKeyed m) where
       abbrev at : LedgerKey
       at = key.TrustLine id (line_asset_of held)
 
       pub line_left : Leaves base (under_key at (λ x. of_asset x held ((f t).balance -ℤ t.balance))) m new
       line_left = leaves_as base (under_key at (λ x. of_line x (line_asset_of held) ((f t).balance -ℤ t.balance)))
           (under_key at (λ x. of_asset x held ((f t).balance -ℤ t.balance))) m new
-          (line_of_any_left m id (line_asset_of held) f t stands keeps.id keeps.asset base keyed)
+          (line_of_any_left m id (line_asset_of held) f t exists keeps.id keeps.asset base keyed)
           (λ k x. ap (λ n. if is_key k at then n else pos 0)
           (of_its_asset x held issued ((f t).balance -ℤ t.balance)))
 
       -- the same of a line with the balance that it had
       pub line_kept : (f t).balance ≡ t.balance → Leaves base none_more m new
-      line_kept = line_of_any_kept m id (line_asset_of held) f t stands keeps.id keeps.asset base keyed
+      line_kept = line_of_any_kept m id (line_asset_of held) f t exists keeps.id keeps.asset base keyed

@@ -1,43 +1,29 @@
 -- How payments along paths end: the source gives what the path costs, or the destination takes what came of it.
-use Rattle.std.proofs.Common.{◌≡◌, refl, sym, ap, subst, ◌∙◌, false, ◌∷◌, [], Option, None, Result, Ok, Err, arith}
-use Rattle.std.proofs.lemmas.Int.{ints}
+use Rattle.op_payment.proofs.Prelude as prelude
+use prelude.{◌≡◌, refl, sym, ap, subst, ◌∙◌, false, ◌∷◌, [], Option, None, Result, Ok, Err, pos, ◌≤ℤ◌, int_lt, IfOk}
+use prelude.{AccountId, Undo, with_current, Ctx, CreditFault, DebitFault, map_after_credit, map_after_debit}
+use prelude.{BalancesAreInRange, IsStep, unless_refused, after_step, CarriedOfCall, PathFault, Carried, set_out}
+use prelude.{received, sent, carried_of, IsCarriedSo, IsTried, arrived, path_moves, unsigned_abs_nonnegative}
 use Rattle.std.proofs.lemmas.Result.{IfOk-weaker}
-use Rattle.std.specs.Prelude.{ℤ, pos, ◌≤ℤ◌, unsigned_abs, int_lt, IfOk}
-use Rattle.ledger_types.specs.declared.ids.AccountId.{AccountId}
 use Rattle.ledger_types.specs.Ids.{account_of}
 use Rattle.op_types.specs.declared.operation_result.OperationResult.{OperationResult}
 use Rattle.op_types.specs.declared.payment_ops.PathPaymentStrictReceiveOp.{PathPaymentStrictReceiveOp}
 use Rattle.op_types.specs.declared.payment_ops.PathPaymentStrictSendOp.{PathPaymentStrictSendOp}
 use Rattle.op_types.specs.declared.payment_results.PathPaymentStrictReceiveResult.TheVariants as received_code
 use Rattle.op_types.specs.declared.payment_results.PathPaymentStrictSendResult.TheVariants as sent_code
-use Rattle.entry_map.specs.Undo.{Undo, with_current}
-use Rattle.sponsor_rules.specs.declared.context.Ctx.{Ctx}
-use Rattle.op_form.specs.declared.amounts.CreditFault.{CreditFault}
-use Rattle.op_form.specs.declared.amounts.DebitFault.{DebitFault}
-use Rattle.op_form.specs.Amounts.{map_after_credit, map_after_debit}
 use Rattle.op_form.specs.Done.{Attempt}
-use Rattle.op_form.specs.Premises.{BalancesAreInRange}
-use Rattle.op_form.specs.Steps.{IsStep, unless_refused, after_step}
-use Rattle.op_payment.specs.declared.carried.Carried.{Carried as CarriedOfCall}
-use Rattle.op_payment.specs.declared.path_fault.PathFault.{PathFault}
-use Rattle.op_payment.specs.Paths.{Carried, set_out, received, sent}
-use Rattle.op_payment.specs.PathCalls.{carried_of, IsCarriedSo, IsTried}
-use Rattle.op_payment.specs.PathPayment.{arrived, path_moves}
 use Rattle.op_payment.specs.PathReceive as receiving
 use Rattle.op_payment.specs.PathSend as sending
 use Rattle.op_payment.proofs.PathLegality.{crossable_in_range}
 
-number_is : (n : ℤ) → pos 0 ≤ℤ n → pos (unsigned_abs n) ≡ n
-number_is n low = omega (arith, ints)
-
 -- ---- what was carried so far
 
-pub in_range_behind : (r : Result CarriedOfCall PathFault) (carried : CarriedOfCall) → r ≡ Ok carried → (old new : Undo)
+pub in_range_after : (r : Result CarriedOfCall PathFault) (carried : CarriedOfCall) → r ≡ Ok carried → (old new : Undo)
     (step : Result Carried PathFault) → IsCarriedSo r old new step → BalancesAreInRange new.current
-in_range_behind r carried is old new step its =
+in_range_after r carried is old new step its =
     crossable_in_range new.current (subst (λ x. IsCarriedSo x old new step) is its).3
 
--- what is tried behind what left only another map
+-- what is tried after what left only another map
 tried_on : (ctx : Ctx) (old now new : Undo) (attempt : Attempt) → now ≡ with_current old now.current
     → (r : Result OperationResult OperationResult) → IsTried r ctx now new attempt → IsTried r ctx old new attempt
 tried_on ctx old now new attempt kept (Ok result) its =
@@ -45,13 +31,13 @@ tried_on ctx old now new attempt kept (Ok result) its =
 tried_on ctx old now new attempt kept (Err result) its =
     (its.0, its.1 ∙ ap (λ (u : Undo). with_current u new.current) kept)
 
-tried_behind : {E : Type 0} (ctx : Ctx) (old now new : Undo) (first whole : Attempt)
+tried_after : {E : Type 0} (ctx : Ctx) (old now new : Undo) (first entire : Attempt)
     → now ≡ with_current old now.current
-    → whole ≡ first → (r : Result (Result OperationResult OperationResult) E)
+    → entire ≡ first → (r : Result (Result OperationResult OperationResult) E)
     → IfOk r (λ x. IsTried x ctx now new first)
-    → IfOk r (λ x. IsTried x ctx old new whole)
-tried_behind ctx old now new first whole kept is r its =
-    IfOk-weaker r (λ x. IsTried x ctx now new first) (λ x. IsTried x ctx old new whole)
+    → IfOk r (λ x. IsTried x ctx old new entire)
+tried_after ctx old now new first entire kept is r its =
+    IfOk-weaker r (λ x. IsTried x ctx now new first) (λ x. IsTried x ctx old new entire)
     (λ x h. subst (IsTried x ctx old new) (sym is) (tried_on ctx old now new first kept x h)) its
 
 kept_both : (old now new : Undo) → now ≡ with_current old now.current → new ≡ with_current now new.current
@@ -70,7 +56,7 @@ module _ (ctx : Ctx) (op : PathPaymentStrictReceiveOp) where
       ctx old new (receiving.given ctx op (carried_of carried old.current))
   given_so carried old new low enough fault none its id id_is =
       let from = carried_of carried old.current in
-      let n = number_is carried.amount low in
+      let n = unsigned_abs_nonnegative carried.amount low in
       let step = subst (λ o. IsStep o old new
       (map_after_debit ctx ctx.op_source op.send_asset carried.amount old.current)) none its in (
         record {
@@ -120,7 +106,7 @@ module _ (ctx : Ctx) (op : PathPaymentStrictReceiveOp) where
       in
       let way = subst (λ x. IsCarriedSo x taken now
       (received ctx op.send_asset op.path op.dest_asset (set_out op.dest_amount taken.current))) ok path in
-      tried_behind ctx old now new (receiving.given ctx op (carried_of carried now.current))
+      tried_after ctx old now new (receiving.given ctx op (carried_of carried now.current))
       (receiving.taken_and_given ctx op old.current) (kept_both old taken now step.1 way.1)
       (taken_then old taken now (carried_of carried now.current) step.0 way.0) given its
 
@@ -137,7 +123,7 @@ module _ (ctx : Ctx) (op : PathPaymentStrictSendOp) where
       new (sending.taken ctx op (carried_of carried old.current))
   taken_so carried old new low enough fault none id id_is its =
       let from = carried_of carried old.current in
-      let n = number_is carried.amount low in
+      let n = unsigned_abs_nonnegative carried.amount low in
       let step : IsStep None old new
       (map_after_credit (account_of op.destination) op.dest_asset carried.amount old.current) =
       subst (λ o. IsStep o old new
@@ -185,6 +171,6 @@ module _ (ctx : Ctx) (op : PathPaymentStrictSendOp) where
       (map_after_debit ctx ctx.op_source op.send_asset op.send_amount old.current)) none debit in
       let way = subst (λ x. IsCarriedSo x given now
       (sent ctx op.send_asset op.path op.dest_asset (set_out op.send_amount given.current))) ok path in
-      tried_behind ctx old now new (sending.taken ctx op (carried_of carried now.current))
+      tried_after ctx old now new (sending.taken ctx op (carried_of carried now.current))
       (sending.given_and_taken ctx op old.current) (kept_both old given now step.1 way.1)
       (given_then old given now (carried_of carried now.current) step.0 way.0) taken its

@@ -1,31 +1,17 @@
 -- Where paths may go: legal entries can be crossed once an account took or gave an amount, and balances are in their
 -- ranges wherever books can be crossed.
-use Rattle.std.proofs.Common.{◌≡◌, subst, ℕ, Option, None}
-use Rattle.std.specs.Prelude.{ℤ, pos, ◌≤ℤ◌}
-use Rattle.ledger_types.specs.declared.ids.AccountId.{AccountId}
-use Rattle.ledger_types.specs.declared.asset.Asset.{Asset}
-use Rattle.entry_map.specs.EntryMap.{EntryMap}
-use Rattle.entry_map.specs.Undo.{Undo}
-use Rattle.sponsor_rules.specs.declared.context.Ctx.{Ctx}
-use Rattle.trade_cross.specs.legal_rules.Legal.{view}
-use Rattle.trade_cross.specs.legal_rules.Owing.{AreEntriesLegal}
-use Rattle.trade_cross.proofs.legal_rules_proofs.Bounded.{account_legal}
-use Rattle.trade_cross.proofs.legal_rules_proofs.LinesLeft.{line_legal}
-use Rattle.trade_cross.specs.Crossable.{IsCrossable}
+use Rattle.op_payment.proofs.Prelude.{◌≡◌, subst, ℕ, Option, None, ℤ, pos, ◌≤ℤ◌, AccountId, Asset, EntryMap, Undo, Ctx}
+use Rattle.op_payment.proofs.Prelude.{view, AreEntriesLegal, account_legal, line_legal, IsCrossable, CreditFault}
+use Rattle.op_payment.proofs.Prelude.{DebitFault, map_after_credit, map_after_debit, BalancesAreInRange, IsStep}
 use Rattle.trade_cross.proofs.Crossables.{crossable_of}
-use Rattle.op_form.specs.declared.amounts.CreditFault.{CreditFault}
-use Rattle.op_form.specs.declared.amounts.DebitFault.{DebitFault}
-use Rattle.op_form.specs.Amounts.{map_after_credit, map_after_debit}
-use Rattle.op_form.specs.Premises.{BalancesAreInRange}
-use Rattle.op_form.specs.Steps.{IsStep}
 use Rattle.op_payment.proofs.Amounts.{amount_given, amount_taken}
 
 pub crossable_in_range : (m : EntryMap) → IsCrossable m → BalancesAreInRange m
 crossable_in_range m k = record {
   accounts = record {
-    in_range = λ id a stands. (account_legal k.view k.id_pool k.owed k.sum m id a k.legal stands).range.range;
+    in_range = λ id a exists. (account_legal k.view k.id_pool k.owed k.sum m id a k.legal exists).range.range;
   };
-  lines = λ id held t stands. (line_legal k.view k.id_pool k.owed k.sum m id held t k.legal stands).range.range;
+  lines = λ id held t exists. (line_legal k.view k.id_pool k.owed k.sum m id held t k.legal exists).range.range;
 }
 
 module _ (ctx : Ctx) (old new : Undo) (legal : AreEntriesLegal ctx.id_pool old.current) (id : AccountId) (held : Asset)

@@ -1,28 +1,13 @@
 -- Lumens that an account gives and takes.
-use Rattle.std.proofs.Common.{◌≡◌, refl, subst, ℕ, Bool, true, false, Option, Some, None, inl, inr, arith}
-use Rattle.std.proofs.lemmas.Int.{ints}
-use Rattle.std.specs.Prelude.{ℤ, pos, neg_ℤ, ◌+ℤ◌, ◌-ℤ◌, ◌≤ℤ◌, if◌then◌else◌}
-use Rattle.std.specs.Ordering.{is_lt, int_cmp}
-use Rattle.ledger_types.specs.declared.ids.AccountId.{AccountId}
+use Rattle.op_payment.proofs.Prelude as prelude
+use prelude.{◌≡◌, refl, subst, ℕ, Bool, true, false, Option, Some, None, inl, inr, arith, ints, ℤ, pos, neg_ℤ, ◌+ℤ◌}
+use prelude.{◌-ℤ◌, ◌≤ℤ◌, if◌then◌else◌, is_lt, int_cmp, AccountId, EntryMap, account_at, with_account}
+use prelude.{account_liabilities, available, room, min_balance, Ctx, View, nothing_owed, IsLegalOwing, lumens_of}
+use prelude.{account_legal, not_above_balance, with_less_lumens, map_after_lumens_debit_of, map_after_lumens_debit}
+use prelude.{with_more_lumens, map_after_lumens_credit_of, map_after_lumens_credit, IsKeyed, for_one, Leaves}
+use prelude.{account_changed, add_nonnegative, int_cmp_not_less}
 use Rattle.ledger_types.specs.declared.account.AccountEntry.{AccountEntry}
-use Rattle.entry_map.specs.EntryMap.{EntryMap}
-use Rattle.sponsor_rules.specs.entry_slots.Accounts.{account_at, with_account}
-use Rattle.sponsor_rules.specs.entry_slots.AccountExtensions.{account_liabilities}
-use Rattle.sponsor_rules.specs.reserve_rules.Reserve.{available, room, min_balance}
-use Rattle.sponsor_rules.specs.declared.context.Ctx.{Ctx}
-use Rattle.trade_cross.specs.legal_rules.Books.{View}
-use Rattle.trade_cross.specs.legal_rules.Owing.{nothing_owed, IsLegalOwing}
-use Rattle.trade_cross.specs.legal_rules.Supply.{lumens_of}
-use Rattle.trade_cross.proofs.legal_rules_proofs.Bounded.{account_legal}
-use Rattle.trade_cross.proofs.legal_rules_proofs.Covered.{not_above_balance}
 use Rattle.trade_cross.proofs.legal_rules_proofs.Paid.{paid_legal, debit_legal}
-use Rattle.op_form.specs.Lumens.{with_less_lumens, map_after_lumens_debit_of, map_after_lumens_debit, with_more_lumens}
-use Rattle.op_form.specs.Lumens.{map_after_lumens_credit_of, map_after_lumens_credit}
-use Rattle.trade_cross.specs.legal_rules.Holdings.{IsKeyed, for_one}
-use Rattle.trade_cross.proofs.legal_rules_proofs.Leaving.{Leaves, account_changed}
-
-pub not_less : (x y : ℤ) → is_lt (int_cmp x y) ≡ false → y ≤ℤ x
-not_less x y h = grind (arith, ints)
 
 -- a change of a map that is made where a test passes
 passed_some : {X : Type 0} (b : Bool) (x y : X) → (if b then None else Some x) ≡ Some y → (b ≡ false) × (x ≡ y)
@@ -33,32 +18,29 @@ passed_some false x y is = (refl, cc)
 
 pub record IsTaken (id : AccountId) (amount : ℤ) (m new : EntryMap) : Type 0 where
   pub account : AccountEntry
-  pub stands : account_at m id ≡ Some account
+  pub exists : account_at m id ≡ Some account
   pub fits : amount ≤ℤ room account
   pub is : with_account m id (with_more_lumens amount) ≡ new
 
 taken_of : (id : AccountId) (amount : ℤ) (m new : EntryMap) (o : Option AccountEntry) → account_at m id ≡ o
     → map_after_lumens_credit_of id amount m o ≡ Some new → IsTaken id amount m new
-taken_of id amount m new None stands is = absurd (cc)
-taken_of id amount m new (Some a) stands is =
+taken_of id amount m new None exists is = absurd (cc)
+taken_of id amount m new (Some a) exists is =
     let test = passed_some (is_lt (int_cmp (room a) amount)) (with_account m id (with_more_lumens amount)) new is in
-    record { account = a; stands = stands; fits = not_less (room a) amount test.0; is = test.1 }
+    record { account = a; exists = exists; fits = int_cmp_not_less (room a) amount test.0; is = test.1 }
 
-pub taken : (id : AccountId) (amount : ℤ) (m new : EntryMap) → map_after_lumens_credit id amount m ≡ Some new
+pub credit_is_taken : (id : AccountId) (amount : ℤ) (m new : EntryMap) → map_after_lumens_credit id amount m ≡ Some new
     → IsTaken id amount m new
-taken id amount m new is = taken_of id amount m new (account_at m id) refl is
-
-sum_low : (b n : ℤ) → pos 0 ≤ℤ b → pos 0 ≤ℤ n → pos 0 ≤ℤ (b +ℤ n)
-sum_low b n low also = omega (arith, ints)
+credit_is_taken id amount m new is = taken_of id amount m new (account_at m id) refl is
 
 pub taken_legal : (v : View) (id_pool : ℕ) (sum : ℤ) (id : AccountId) (amount : ℤ) (m new : EntryMap)
     → IsTaken id amount m new → pos 0 ≤ℤ amount → IsLegalOwing v id_pool nothing_owed sum m
     → IsLegalOwing v id_pool nothing_owed (sum +ℤ lumens_of v.asset amount) new
 taken_legal v id_pool sum id amount m new h low legal =
     subst (IsLegalOwing v id_pool nothing_owed (sum +ℤ lumens_of v.asset amount)) h.is
-    (paid_legal v id_pool nothing_owed sum m id amount h.account legal h.stands
-    (sum_low h.account.balance amount
-    (account_legal v id_pool nothing_owed sum m id h.account legal h.stands).range.range.balance low) h.fits)
+    (paid_legal v id_pool nothing_owed sum m id amount h.account legal h.exists
+    (add_nonnegative h.account.balance amount
+    (account_legal v id_pool nothing_owed sum m id h.account legal h.exists).range.range.balance low) h.fits)
 
 no_less : (b n p s : ℤ) → pos 0 ≤ℤ n → (b -ℤ p -ℤ s) ≤ℤ ((b +ℤ n) -ℤ p -ℤ s)
 no_less b n p s low = omega (arith, ints)
@@ -68,7 +50,7 @@ pub taken_left : (base : ℕ) (id : AccountId) (amount : ℤ) (m new : EntryMap)
 taken_left base id amount m new h low keyed =
     let a = h.account in
     subst (Leaves base (for_one id amount) m) h.is
-    (account_changed base amount m keyed id (with_more_lumens amount) a h.stands (record {
+    (account_changed base amount m keyed id (with_more_lumens amount) a h.exists (record {
       id = refl;
       balance = refl;
       covered = inr (no_less a.balance amount (min_balance a base) (account_liabilities a).selling low);
@@ -78,30 +60,30 @@ taken_left base id amount m new h low keyed =
 
 pub record IsGiven (base : ℕ) (id : AccountId) (amount : ℤ) (m new : EntryMap) : Type 0 where
   pub account : AccountEntry
-  pub stands : account_at m id ≡ Some account
+  pub exists : account_at m id ≡ Some account
   pub enough : amount ≤ℤ available account base
   pub is : with_account m id (with_less_lumens amount) ≡ new
 
 given_of : (ctx : Ctx) (id : AccountId) (amount : ℤ) (m new : EntryMap) (o : Option AccountEntry) → account_at m id ≡ o
     → map_after_lumens_debit_of ctx id amount m o ≡ Some new → IsGiven ctx.base_reserve id amount m new
-given_of ctx id amount m new None stands is = absurd (cc)
-given_of ctx id amount m new (Some a) stands is =
+given_of ctx id amount m new None exists is = absurd (cc)
+given_of ctx id amount m new (Some a) exists is =
     let test = passed_some (is_lt (int_cmp (available a ctx.base_reserve) amount))
     (with_account m id (with_less_lumens amount)) new is in
-    record { account = a; stands = stands; enough = not_less (available a ctx.base_reserve) amount test.0; is = test.1 }
+    record { account = a; exists = exists; enough = int_cmp_not_less (available a ctx.base_reserve) amount test.0; is = test.1 }
 
-pub given : (ctx : Ctx) (id : AccountId) (amount : ℤ) (m new : EntryMap)
+pub debit_is_given : (ctx : Ctx) (id : AccountId) (amount : ℤ) (m new : EntryMap)
     → map_after_lumens_debit ctx id amount m ≡ Some new
     → IsGiven ctx.base_reserve id amount m new
-given ctx id amount m new is = given_of ctx id amount m new (account_at m id) refl is
+debit_is_given ctx id amount m new is = given_of ctx id amount m new (account_at m id) refl is
 
 pub given_legal : (v : View) (id_pool base : ℕ) (sum : ℤ) (id : AccountId) (amount : ℤ) (m new : EntryMap)
     → IsGiven base id amount m new → pos 0 ≤ℤ amount → IsLegalOwing v id_pool nothing_owed sum m
     → IsLegalOwing v id_pool nothing_owed (sum +ℤ lumens_of v.asset (neg_ℤ amount)) new
 given_legal v id_pool base sum id amount m new h low legal =
     subst (IsLegalOwing v id_pool nothing_owed (sum +ℤ lumens_of v.asset (neg_ℤ amount))) h.is
-    (debit_legal v id_pool nothing_owed sum m id amount h.account legal h.stands low
-    (not_above_balance v id_pool nothing_owed sum m id h.account base amount legal (omega (arith, ints)) h.stands
+    (debit_legal v id_pool nothing_owed sum m id amount h.account legal h.exists low
+    (not_above_balance v id_pool nothing_owed sum m id h.account base amount legal (omega (arith, ints)) h.exists
     h.enough))
 
 still_covered : (b n p s : ℤ) → n ≤ℤ (b -ℤ p -ℤ s) → pos 0 ≤ℤ ((b -ℤ n) -ℤ p -ℤ s)
@@ -112,7 +94,7 @@ pub given_left : (base : ℕ) (id : AccountId) (amount : ℤ) (m new : EntryMap)
 given_left base id amount m new h keyed =
     let a = h.account in
     subst (Leaves base (for_one id (neg_ℤ amount)) m) h.is
-    (account_changed base (neg_ℤ amount) m keyed id (with_less_lumens amount) a h.stands (record {
+    (account_changed base (neg_ℤ amount) m keyed id (with_less_lumens amount) a h.exists (record {
       id = refl;
       balance = refl;
       covered = inl (still_covered a.balance amount (min_balance a base) (account_liabilities a).selling h.enough);

@@ -1,14 +1,6 @@
 -- Changes that shift the supply of an asset, and keep a state legal.
-use Rattle.std.proofs.Common.{◌≡◌, ap, subst, ℕ, arith}
-use Rattle.std.proofs.lemmas.Int.{ints}
-use Rattle.std.specs.Prelude.{ℤ, pos, ◌+ℤ◌, if◌then◌else◌}
-use Rattle.ledger_types.specs.declared.ids.AccountId.{AccountId}
-use Rattle.ledger_types.specs.declared.asset.Asset.{Asset}
-use Rattle.entry_map.specs.EntryMap.{EntryMap}
-use Rattle.trade_cross.specs.legal_rules.Books.{View}
-use Rattle.trade_cross.specs.legal_rules.Owing.{nothing_owed, IsLegalOwing}
-use Rattle.trade_cross.specs.legal_rules.Supply.{of_asset}
-use Rattle.op_form.specs.Assets.{is_issued_by}
+use Rattle.op_payment.proofs.Prelude.{◌≡◌, ap, subst, ℕ, ℤ, pos, ◌+ℤ◌, if◌then◌else◌, AccountId, Asset, EntryMap, View}
+use Rattle.op_payment.proofs.Prelude.{nothing_owed, IsLegalOwing, of_asset, is_issued_by, add_assoc, add_zero, sym}
 
 -- A change keeps a state legal, and shifts the supply of the asset at hand, by whatever it is viewed.
 abbrev pub ShiftsLegal : ℕ → (Asset → ℤ) → (old new : EntryMap) → Type 0
@@ -24,17 +16,11 @@ pub shifts_as : (id_pool : ℕ) (shift other : Asset → ℤ) (old new : EntryMa
 shifts_as id_pool shift other old new same shifts v sum legal =
     subst (λ n. IsLegalOwing v id_pool nothing_owed n new) (ap (λ n. sum +ℤ n) (same v.asset)) (shifts v sum legal)
 
-shift_twice : (sum d e : ℤ) → ((sum +ℤ d) +ℤ e) ≡ (sum +ℤ (d +ℤ e))
-shift_twice sum d e = omega (arith, ints)
-
 pub shifts_both : (id_pool : ℕ) (d e : Asset → ℤ) (old now new : EntryMap) → ShiftsLegal id_pool d old now
     → ShiftsLegal id_pool e now new → ShiftsLegal id_pool (λ x. d x +ℤ e x) old new
 shifts_both id_pool d e old now new first second v sum legal =
-    subst (λ n. IsLegalOwing v id_pool nothing_owed n new) (shift_twice sum (d v.asset) (e v.asset))
+    subst (λ n. IsLegalOwing v id_pool nothing_owed n new) (add_assoc sum (d v.asset) (e v.asset))
     (second v (sum +ℤ d v.asset) (first v sum legal))
 
-no_shift : (sum : ℤ) → sum ≡ (sum +ℤ pos 0)
-no_shift sum = omega (arith, ints)
-
 pub shifts_nothing : (id_pool : ℕ) (m : EntryMap) → ShiftsLegal id_pool (λ x. pos 0) m m
-shifts_nothing id_pool m v sum legal = subst (λ n. IsLegalOwing v id_pool nothing_owed n m) (no_shift sum) legal
+shifts_nothing id_pool m v sum legal = subst (λ n. IsLegalOwing v id_pool nothing_owed n m) (sym (add_zero sum)) legal

@@ -62,7 +62,7 @@ abbrev pub IsEndFault : Option PathFault → Trade → Crossed → Type 0
 IsEndFault fault trade answer =
     (done : Crossing) → IsCrossing answer done → IsEnd fault done (by_end trade done done.end)
 
--- what the hop of a call came to
+-- what the hop of a call yielded
 abbrev pub IsHopped : Result Crossed PathFault → Undo → Undo → Result Crossing PathFault → Type 0
 IsHopped (Ok answer) old new (Ok done) = IsCrossing answer done × (new ≡ with_current old done.entries)
 IsHopped (Err fault) old new hop = (hop ≡ Err fault) × (new ≡ with_current old new.current)

@@ -57,7 +57,7 @@ impl Carried {
     }
 }
 
-/// Two lists of atoms, one behind the other.
+/// Two lists of atoms, one after the other.
 fn joined(
     first: ItemList<ClaimAtom>,
     second: &[ClaimAtom],

@@ -6,7 +6,7 @@ ghost use Rattle.op_payment.specs.PathPayment as spec;
 use entry_map::{Base, Entries};
 use item_list::ItemList;
 use ledger_types::{AccountId, Asset, ClaimAtom};
-use op_form::{is_issued_by, stands};
+use op_form::{exists, is_issued_by};
 use op_types::{PathPaymentSuccess, SimplePaymentResult};
 use std::alloc::AllocError;
 use valid_values::is_valid_asset;
@@ -43,7 +43,7 @@ pub fn is_nobody<B: Base>(
     if is_issued_by(last, destination) && first.is_same(last) && path.is_empty() {
         return Ok(false);
     }
-    Ok(!stands(entries, destination)?)
+    Ok(!exists(entries, destination)?)
 }
 
 /// What was traded, and what arrived.

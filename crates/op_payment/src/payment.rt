@@ -6,7 +6,7 @@ ghost use Rattle.op_form.specs.Premises.{BalancesAreInRange};
 ghost use Rattle.op_payment.specs.Payment as spec;
 
 use entry_map::{Base, Entries};
-use op_form::{CreditFault, DebitFault, credit, debit, is_issued_by, is_native, stands};
+use op_form::{CreditFault, DebitFault, credit, debit, exists, is_issued_by, is_native};
 use op_types::{OperationResult, OperationResultTr, PaymentOp, PaymentResult};
 use sponsor_rules::Ctx;
 use std::alloc::AllocError;
@@ -29,7 +29,7 @@ pub fn payment<B: Base>(
         return Ok(answer(PaymentResult::Success));
     }
     let destination = op.destination.account_id();
-    if !is_issued_by(&op.asset, &destination) && !stands(entries, &destination)? {
+    if !is_issued_by(&op.asset, &destination) && !exists(entries, &destination)? {
         return Ok(answer(PaymentResult::NoDestination));
     }
     take_and_give(op, ctx, entries)

@@ -1,54 +1,34 @@
--- What a deposit comes to, and that its sums fit.
-use Rattle.std.proofs.Common.{◌≡◌, refl, sym, ap, subst, ◌∙◌, ℕ, ◌<◌, ◌≤◌, Bool, true, false, List, Option, Some, None}
-use Rattle.std.proofs.Common.{arith, inl, inr}
-use Rattle.std.proofs.lemmas.Int.{ints}
-use Rattle.std.proofs.lemmas.Bool.{ltb-true, ltb-false}
-use Rattle.std.specs.Prelude.{◌&&◌, ◌||◌, ℤ, pos, neg_ℤ, ◌+ℤ◌, ◌-ℤ◌, ◌≤ℤ◌, ◌<ℤ◌, ◌∷◌, [], unsigned_abs}
-use Rattle.std.specs.Prelude.{int_lt, nat_lt}
+-- What a deposit yields, and that its sums fit.
+use Rattle.op_pool.proofs.Prelude as prelude
+use prelude.{◌≡◌, refl, sym, ap, subst, ◌∙◌, ℕ, ◌<◌, ◌≤◌, Bool, true, false, List, Option, Some, None, arith, inl, inr}
+use prelude.{ints, ltb-true, ltb-false, ◌&&◌, ◌||◌, ℤ, pos, neg_ℤ, ◌+ℤ◌, ◌-ℤ◌, ◌≤ℤ◌, ◌<ℤ◌, ◌∷◌, [], unsigned_abs}
+use prelude.{int_lt, nat_lt, TrustLineEntry, LiquidityPoolEntry, OperationResult, EntryMap, LineSlot, PoolSlot, line_at}
+use prelude.{line_slot_at, line_liabilities, pool_at, pool_slot_at, Tests, first_fault, greatest_i64, line_room, Ctx}
+use prelude.{numbers_of, AnswersDeposit, IsUnsigned, greatest, IsFilledOrEmpty, IsPoolInRange, holder, is_short_of}
+use prelude.{has_at, DoesFit, BalancesAreInRange, IsDepositBy, is_either_unusable, does_pass, amount_tests}
+use prelude.{map_after_putting, is_price_wrong, is_pool_full, DoesDepositFit, ArePoolsSound, line_loaded, pool_loaded}
+use prelude.{int_lt_false, natural_nonnegative, or_parts}
 use Rattle.ledger_types.specs.declared.asset.TrustLineAsset.TheVariants as line
-use Rattle.ledger_types.specs.declared.trust_line.TrustLineEntry.{TrustLineEntry}
-use Rattle.ledger_types.specs.declared.liquidity_pool.LiquidityPoolEntry.{LiquidityPoolEntry}
 use Rattle.ledger_types.specs.declared.entry.LedgerEntryBody.TheVariants as body
-use Rattle.op_types.specs.declared.operation_result.OperationResult.{OperationResult}
 use Rattle.op_types.specs.declared.pool_results.LiquidityPoolDepositResult.TheVariants as depositing
 use Rattle.op_types.specs.declared.pool_ops.LiquidityPoolDepositOp.{LiquidityPoolDepositOp}
-use Rattle.entry_map.specs.EntryMap.{EntryMap}
-use Rattle.entry_slots.specs.declared.lines.LineSlot.{LineSlot}
-use Rattle.entry_slots.specs.declared.pools.PoolSlot.{PoolSlot}
-use Rattle.entry_slots.specs.Lines.{line_at, line_slot_at}
-use Rattle.entry_slots.specs.LineExtensions.{line_liabilities}
-use Rattle.entry_slots.specs.Pools.{pool_at, pool_slot_at}
-use Rattle.entry_slots.specs.Tests.{Tests, first_fault}
-use Rattle.reserve_rules.specs.Reserve.{greatest_i64, line_room}
-use Rattle.sponsor_rules.specs.declared.context.Ctx.{Ctx}
 use Rattle.pool_math.specs.declared.deposits.Deposited.{Deposited}
-use Rattle.pool_math.specs.Calls.{numbers_of, AnswersDeposit, IsUnsigned}
 use Rattle.pool_math.specs.Parts.{signed}
-use Rattle.pool_math.specs.Pools.{Deposit, greatest, IsWhole}
-use Rattle.trade_cross.specs.legal_rules.Bounds.{IsFilledOrEmpty}
-use Rattle.trade_cross.specs.legal_rules.Ranges.{IsPoolInRange}
-use Rattle.trade_cross.specs.legal_rules.Trades.{holder}
-use Rattle.trade_cross.specs.Holdings.{is_short_of, has_at}
-use Rattle.trade_cross.specs.Places.{DoesFit}
+use Rattle.pool_math.specs.Pools.{Deposit, AreFilledOrEmpty}
 use Rattle.op_form.specs.Done.{Attempt, Move}
-use Rattle.op_form.specs.Premises.{BalancesAreInRange}
 use Rattle.op_form.specs.Steps.{unless_result, success}
-use Rattle.op_pool.specs.Calls.{IsDepositBy, is_either_unusable, does_pass, amount_tests, map_after_putting}
-use Rattle.op_pool.specs.Calls.{is_price_wrong, is_pool_full, DoesDepositFit}
 use Rattle.op_pool.specs.Deposit.{answer, do_shares_pass, deposit_by, map_after_depositing, move_of_a}
 use Rattle.op_pool.specs.Deposit.{move_of_b, put_in}
-use Rattle.pool_shares.specs.Premises.{ArePoolsSound}
-use Rattle.op_pool.proofs.Fitting.{not_less, neither, rises, given_fits, payments_fit}
-use Rattle.pool_shares.proofs.Loaded.{line_loaded, pool_loaded}
+use Rattle.op_pool.proofs.Fitting.{rises, given_fits, payments_fit}
 
 -- ---- what is put in
 
 some_number : (x : ℤ) → pos 0 <ℤ x → unsigned_abs x ≡ 0 → ⊥
 some_number x some none = omega (arith, ints)
 
-pub whole_of : (p : LiquidityPoolEntry) → IsFilledOrEmpty (body.LiquidityPool p)
-    → IsWhole (unsigned_abs p.reserve_a) (unsigned_abs p.reserve_b) (unsigned_abs p.total_pool_shares)
-whole_of p (inl full) = record {
+pub filled_of : (p : LiquidityPoolEntry) → IsFilledOrEmpty (body.LiquidityPool p)
+    → AreFilledOrEmpty (unsigned_abs p.reserve_a) (unsigned_abs p.reserve_b) (unsigned_abs p.total_pool_shares)
+filled_of p (inl full) = record {
   a = (
     (λ none. absurd (some_number p.reserve_a full.0 none)),
     λ none. absurd (some_number p.total_pool_shares full.2 none),
@@ -58,7 +38,7 @@ whole_of p (inl full) = record {
     λ none. absurd (some_number p.total_pool_shares full.2 none),
   );
 }
-whole_of p (inr none) = record {
+filled_of p (inr none) = record {
   a = ((λ is. ap unsigned_abs none.2), λ is. ap unsigned_abs none.0);
   b = ((λ is. ap unsigned_abs none.2), λ is. ap unsigned_abs none.1);
 }
@@ -109,55 +89,52 @@ deposit_is op pool (Some d) is =
 
 -- ---- sums
 
-passed : (a b c d : Bool) (w x y z : OperationResult)
+no_fault_tests_false : (a b c d : Bool) (w x y z : OperationResult)
     → first_fault ((a, w) ∷ (b, x) ∷ (c, y) ∷ (d, z) ∷ []) ≡ None
     → (a ≡ false) × (b ≡ false) × (c ≡ false) × (d ≡ false)
-passed true b c d w x y z h = absurd (cc)
-passed false true c d w x y z h = absurd (cc)
-passed false false true d w x y z h = absurd (cc)
-passed false false false true w x y z h = absurd (cc)
-passed false false false false w x y z h = (refl, refl, refl, refl)
+no_fault_tests_false true b c d w x y z h = absurd (cc)
+no_fault_tests_false false true c d w x y z h = absurd (cc)
+no_fault_tests_false false false true d w x y z h = absurd (cc)
+no_fault_tests_false false false false true w x y z h = absurd (cc)
+no_fault_tests_false false false false false w x y z h = (refl, refl, refl, refl)
 
 -- what doesn't pass 64 bits fits
 joins : (there : ℤ) (n : ℕ) → pos 0 ≤ℤ there → does_pass there (pos n) ≡ false → DoesFit there (pos n)
-joins there n low fits = rises there n low (λ more. not_less greatest_i64 (there +ℤ pos n) fits)
+joins there n low fits = rises there n low (λ more. int_lt_false greatest_i64 (there +ℤ pos n) fits)
 
 in_limit : (b buying limit g shares : ℤ) → shares ≤ℤ (limit -ℤ b -ℤ buying) → pos 0 ≤ℤ buying → limit ≤ℤ g
     → (b +ℤ shares) ≤ℤ g
 in_limit b buying limit g shares room low most = omega (arith, ints)
 
-least : (n : ℕ) → pos 0 ≤ℤ pos n
-least n = omega (arith, ints)
-
 module _ (ctx : Ctx) (op : LiquidityPoolDepositOp) (share : TrustLineEntry) (pool : LiquidityPoolEntry) (d : Deposit)
     (m : EntryMap) (range : BalancesAreInRange m) (sound : ArePoolsSound m)
-    (share_stands : line_at m ctx.op_source (line.PoolShare op.pool_id) ≡ Some share)
-    (pool_stands : pool_at m op.pool_id ≡ Some pool)
+    (share_exists : line_at m ctx.op_source (line.PoolShare op.pool_id) ≡ Some share)
+    (pool_exists : pool_at m op.pool_id ≡ Some pool)
     (tested : first_fault (amount_tests ctx op share pool (signed d) m) ≡ None) where
   its : IsPoolInRange pool
-  its = sound.ranges op.pool_id pool pool_stands
+  its = sound.ranges op.pool_id pool pool_exists
 
   deposit_fits : DoesDepositFit ctx.op_source op share pool (signed d) m
   deposit_fits =
-      let line_range = range.lines ctx.op_source (line.PoolShare op.pool_id) share share_stands in
+      let line_range = range.lines ctx.op_source (line.PoolShare op.pool_id) share share_exists in
       let short_a = is_short_of (pos d.a) (has_at ctx.base_reserve m (holder ctx.op_source pool.params.asset_a)) in
       let short_b = is_short_of (pos d.b) (has_at ctx.base_reserve m (holder ctx.op_source pool.params.asset_b)) in
       let pass_a = does_pass pool.reserve_a (pos d.a) in
       let pass_b = does_pass pool.reserve_b (pos d.b) in
       let pass_shares = does_pass pool.total_pool_shares (pos d.shares) in
-      let all = passed (short_a || short_b) (is_price_wrong op (pos d.a) (pos d.b))
+      let all = no_fault_tests_false (short_a || short_b) (is_price_wrong op (pos d.a) (pos d.b))
       (int_lt (line_room share) (pos d.shares)) (is_pool_full pool (pos d.a) (pos d.b) (pos d.shares))
       (answer depositing.Underfunded) (answer depositing.BadPrice) (answer depositing.LineFull)
       (answer depositing.PoolFull) tested in
-      let enough = neither short_a short_b all.0 in
-      let fits = neither (pass_a || pass_b) pass_shares all.3 in
-      let both_fit = neither pass_a pass_b fits.0 in
+      let enough = or_parts short_a short_b all.0 in
+      let fits = or_parts (pass_a || pass_b) pass_shares all.3 in
+      let both_fit = or_parts pass_a pass_b fits.0 in
       record {
-        unsigned = record { shares = least d.shares; a = least d.a; b = least d.b };
+        unsigned = record { shares = natural_nonnegative d.shares; a = natural_nonnegative d.a; b = natural_nonnegative d.b };
         balance = rises share.balance d.shares line_range.balance
             (λ more. in_limit share.balance (line_liabilities share).buying share.limit greatest_i64 (pos d.shares)
-            (not_less (line_room share) (pos d.shares) all.2) line_range.buying
-            (sound.limits ctx.op_source (line.PoolShare op.pool_id) share share_stands));
+            (int_lt_false (line_room share) (pos d.shares) all.2) line_range.buying
+            (sound.limits ctx.op_source (line.PoolShare op.pool_id) share share_exists));
         reserves = record {
           a = joins pool.reserve_a d.a its.reserve_a both_fit.0;
           b = joins pool.reserve_b d.b its.reserve_b both_fit.1;
@@ -166,9 +143,9 @@ module _ (ctx : Ctx) (op : LiquidityPoolDepositOp) (share : TrustLineEntry) (poo
         payments = payments_fit m sound.keyed ctx.op_source op.pool_id pool.params its.assets (pos d.a) (pos d.b)
             (pos d.shares) (neg_ℤ (pos d.a)) (neg_ℤ (pos d.b))
             (given_fits m range sound ctx.base_reserve (holder ctx.op_source pool.params.asset_a) (pos d.a)
-            (least d.a) enough.0)
+            (natural_nonnegative d.a) enough.0)
             (given_fits m range sound ctx.base_reserve (holder ctx.op_source pool.params.asset_b) (pos d.b)
-            (least d.b) enough.1);
+            (natural_nonnegative d.b) enough.1);
       }
 
 -- ---- by what calls answer
@@ -176,7 +153,7 @@ module _ (ctx : Ctx) (op : LiquidityPoolDepositOp) (share : TrustLineEntry) (poo
 -- what is worked out is unsigned
 pub unsigned_of : (d : Deposited) (amounts : Deposit) → d ≡ signed amounts → IsUnsigned d
 unsigned_of d amounts is = subst IsUnsigned (sym is)
-    (record { shares = least amounts.shares; a = least amounts.a; b = least amounts.b })
+    (record { shares = natural_nonnegative amounts.shares; a = natural_nonnegative amounts.a; b = natural_nonnegative amounts.b })
 
 -- a deposit of which no test holds fits
 pub fits_as : (ctx : Ctx) (op : LiquidityPoolDepositOp) (share : LineSlot) (pool : PoolSlot) (d : Deposited)
@@ -191,11 +168,11 @@ fits_as ctx op share pool d m range sound loaded also is tested =
     (line_loaded m ctx.op_source (line.PoolShare op.pool_id) share loaded) (pool_loaded m op.pool_id pool also)
     (ap (λ x. first_fault (amount_tests ctx op share.line pool.pool x m)) (sym is) ∙ tested))
 
-behind_two : (u p : Bool) (x y : OperationResult) (rest : Tests OperationResult) → u ≡ false → p ≡ false
+after_two : (u p : Bool) (x y : OperationResult) (rest : Tests OperationResult) → u ≡ false → p ≡ false
     → first_fault ((u, x) ∷ (p, y) ∷ rest) ≡ first_fault rest
-behind_two true p x y rest not also = absurd (cc)
-behind_two false true x y rest not also = absurd (cc)
-behind_two false false x y rest not also = refl
+after_two true p x y rest not also = absurd (cc)
+after_two false true x y rest not also = absurd (cc)
+after_two false false x y rest not also = refl
 
 module _ (ctx : Ctx) (op : LiquidityPoolDepositOp) (share : TrustLineEntry) (pool : LiquidityPoolEntry)
     (d : Deposited) (m : EntryMap) (is : d ≡ signed (deposit_by op pool)) where
@@ -212,7 +189,7 @@ module _ (ctx : Ctx) (op : LiquidityPoolDepositOp) (share : TrustLineEntry) (poo
   put_in_as usable few =
       ap (λ o. unless_result o (success ctx (answer depositing.Success)
       (map_after_depositing ctx.op_source op pool (deposit_by op pool) m) moves))
-      (behind_two (is_either_unusable ctx pool.params m) (do_shares_pass op pool) (answer depositing.NotAuthorized)
+      (after_two (is_either_unusable ctx pool.params m) (do_shares_pass op pool) (answer depositing.NotAuthorized)
       (answer depositing.PoolFull) (amount_tests ctx op share pool (signed (deposit_by op pool)) m) usable few)
       ∙ ap (λ (x : Deposited). unless_result (first_fault (amount_tests ctx op share pool x m))
       (success ctx (answer depositing.Success) (map_after_putting ctx.op_source op pool x m) moves)) (sym is)

@@ -1,12 +1,13 @@
 -- That the sums of deposits and withdrawals fit.
-use Rattle.std.proofs.Common.{◌≡◌, ◌⊎◌, inl, inr, refl, sym, ap, ◌∙◌}
-use Rattle.std.proofs.Common.{ℕ, ◌≤◌, true, false, Bool, Option, Some, None}
-use Rattle.std.proofs.Common.{arith}
-use Rattle.std.proofs.lemmas.Int.{ints}
-use Rattle.std.proofs.lemmas.Bool.{ltb-false}
-use Rattle.std.specs.Prelude.{◌||◌, ℤ, pos, neg_ℤ, ◌+ℤ◌, ◌-ℤ◌, ◌≤ℤ◌, int_lt, nat_lt}
+use Rattle.op_pool.proofs.Prelude.{◌≡◌, ◌⊎◌, inl, inr, refl, sym, ap, ◌∙◌, ℕ, ◌≤◌, false, Option, Some, None, arith}
+use Rattle.op_pool.proofs.Prelude.{ints, ltb-false, ℤ, pos, neg_ℤ, ◌+ℤ◌, ◌-ℤ◌, ◌≤ℤ◌, nat_lt, get, TrustLineEntry}
+use Rattle.op_pool.proofs.Prelude.{asset_cmp, EntryMap, account_of, account_at, account_liabilities, line_of, line_at}
+use Rattle.op_pool.proofs.Prelude.{line_liabilities, greatest_i64, min_balance, available, room, line_available}
+use Rattle.op_pool.proofs.Prelude.{line_room, unlimited, IsKeyed, holder, payment, DoesPaymentFit, at_least_nothing}
+use Rattle.op_pool.proofs.Prelude.{is_short_of, account_has, line_has, has_at, account_takes, line_takes, most_taken}
+use Rattle.op_pool.proofs.Prelude.{paying, DoesFit, DoSumsFit, IsInRangeAt, share_key, with_change, map_with_shares}
+use Rattle.op_pool.proofs.Prelude.{BalancesAreInRange, DoPaymentsFit, ArePoolsSound, int_lt_false}
 use Rattle.std.specs.declared.cmp.Ordering.TheVariants.{Less}
-use Rattle.std.specs.FinMap.{get}
 use Rattle.ledger_types.specs.declared.ids.AccountId.{AccountId}
 use Rattle.ledger_types.specs.declared.ids.Hash.{Hash}
 use Rattle.ledger_types.specs.declared.asset.Asset.{Asset}
@@ -14,42 +15,14 @@ use Rattle.ledger_types.specs.declared.asset.PoolParams.{PoolParams}
 use Rattle.ledger_types.specs.declared.asset.TrustLineAsset.{TrustLineAsset}
 use Rattle.ledger_types.specs.declared.price.Liabilities.{Liabilities}
 use Rattle.ledger_types.specs.declared.account.AccountEntry.{AccountEntry}
-use Rattle.ledger_types.specs.declared.trust_line.TrustLineEntry.{TrustLineEntry}
 use Rattle.ledger_types.specs.declared.key.LedgerKey.{LedgerKey}
 use Rattle.ledger_types.specs.declared.key.LedgerKey.TheVariants as key
-use Rattle.ledger_types.specs.KeyOrder.{asset_cmp}
-use Rattle.entry_map.specs.EntryMap.{EntryMap}
-use Rattle.entry_slots.specs.Accounts.{account_of, account_at}
-use Rattle.entry_slots.specs.AccountExtensions.{account_liabilities}
-use Rattle.entry_slots.specs.Lines.{line_of, line_at}
-use Rattle.entry_slots.specs.LineExtensions.{line_liabilities}
-use Rattle.reserve_rules.specs.Reserve.{greatest_i64, min_balance, available, room, line_available, line_room}
-use Rattle.trade_cross.specs.offer_exchange.Exchange.{unlimited}
-use Rattle.trade_cross.specs.legal_rules.Holdings.{IsKeyed}
-use Rattle.trade_cross.specs.legal_rules.Trades.{holder}
-use Rattle.trade_cross.specs.Amounts.{payment, DoesPaymentFit}
-use Rattle.trade_cross.specs.Holdings.{at_least_nothing, is_short_of, account_has, line_has, has_at, account_takes}
-use Rattle.trade_cross.specs.Holdings.{line_takes, most_taken, paying}
-use Rattle.trade_cross.specs.Places.{DoesFit, DoSumsFit}
-use Rattle.trade_cross.specs.Sides.{IsInRangeAt}
 use Rattle.trade_cross.proofs.HoldersApart.{holders_apart}
 use Rattle.trade_cross.proofs.Paying.{within}
-use Rattle.pool_shares.specs.Withdrawing.{share_key, with_change, map_with_shares}
 use Rattle.pool_shares.proofs.Beside.{paying_beside, paying_keyed, pool_beside, pool_keyed}
 use Rattle.pool_shares.proofs.Sound.{assets_apart}
 use Rattle.pool_shares.proofs.Uses.{no_pool, no_shares}
-use Rattle.op_form.specs.Premises.{BalancesAreInRange}
-use Rattle.op_pool.specs.Calls.{DoPaymentsFit}
-use Rattle.pool_shares.specs.Premises.{ArePoolsSound}
-
--- ---- tests
-
-pub not_less : (x y : ℤ) → int_lt x y ≡ false → y ≤ℤ x
-not_less x y h = grind (arith, ints)
-
-pub neither : (a b : Bool) → (a || b) ≡ false → (a ≡ false) × (b ≡ false)
-neither true b h = absurd (cc)
-neither false b h = (refl, h)
+use Rattle.trade_cross.proofs.Bonds.{zero_fits}
 
 -- ---- numbers
 
@@ -65,15 +38,6 @@ falls b n low there = record { low = there; high = λ more. absurd (past n low m
   where
     past : (n : ℤ) → pos 0 ≤ℤ n → pos 1 ≤ℤ neg_ℤ n → ⊥
     past n low more = omega (arith, ints)
-
-stays : (b : ℤ) → pos 0 ≤ℤ b → DoesFit b (pos 0)
-stays b low = record { low = same b low; high = λ more. absurd (past more) }
-  where
-    same : (b : ℤ) → pos 0 ≤ℤ b → pos 0 ≤ℤ (b +ℤ pos 0)
-    same b low = omega (arith, ints)
-
-    past : pos 1 ≤ℤ pos 0 → ⊥
-    past more = omega (arith, ints)
 
 -- a number that rises to what fits
 pub rises : (b : ℤ) (n : ℕ) → pos 0 ≤ℤ b → (pos 1 ≤ℤ pos n → (b +ℤ pos n) ≤ℤ greatest_i64) → DoesFit b (pos n)
@@ -99,8 +63,8 @@ sums : (held n : ℤ) (was : Liabilities) → DoesFit held n → pos 0 ≤ℤ wa
     → DoSumsFit held was (payment n)
 sums held n was fits selling buying = record {
   balance = fits;
-  selling = stays was.selling selling;
-  buying = stays was.buying buying;
+  selling = zero_fits was.selling selling;
+  buying = zero_fits was.buying buying;
 }
 
 pub at_most_greatest : (x : ℤ) → x ≤ℤ greatest_i64 → at_least_nothing x ≤ unlimited
@@ -113,11 +77,11 @@ room_low b buying g low also = omega (arith, ints)
 limit_low : (b buying limit g : ℤ) → pos 0 ≤ℤ b → pos 0 ≤ℤ buying → limit ≤ℤ g → (limit -ℤ b -ℤ buying) ≤ℤ g
 limit_low b buying limit g low also most = omega (arith, ints)
 
--- ---- what stands under a key
+-- ---- what is under a key
 
 pub in_range_at : (m : EntryMap) (k : Option LedgerKey) → BalancesAreInRange m → IsInRangeAt m k
-in_range_at m (Some (key.Account id)) range = λ a stands. range.accounts.in_range id a stands
-in_range_at m (Some (key.TrustLine id held)) range = λ t stands. range.lines id held t stands
+in_range_at m (Some (key.Account id)) range = λ a exists. range.accounts.in_range id a exists
+in_range_at m (Some (key.TrustLine id held)) range = λ t exists. range.lines id held t exists
 in_range_at m other range = tt
 
 module _ (m : EntryMap) (range : BalancesAreInRange m) (sound : ArePoolsSound m) where
@@ -146,17 +110,17 @@ module _ (m : EntryMap) (range : BalancesAreInRange m) (sound : ArePoolsSound m)
   -- what isn't short can be given
   pub given_fits : (base : ℕ) (k : Option LedgerKey) (n : ℤ) → pos 0 ≤ℤ n → is_short_of n (has_at base m k) ≡ false
       → DoesPaymentFit m k (neg_ℤ n)
-  given_fits base (Some (key.Account id)) n low enough = λ a stands.
-      let its = range.accounts.in_range id a stands in
-      let there : n ≤ℤ available a base = not_less (available a base) n
-      (sym (ap (λ o. is_short_of n (account_has base o)) stands) ∙ enough) in
+  given_fits base (Some (key.Account id)) n low enough = λ a exists.
+      let its = range.accounts.in_range id a exists in
+      let there : n ≤ℤ available a base = int_lt_false (available a base) n
+      (sym (ap (λ o. is_short_of n (account_has base o)) exists) ∙ enough) in
       sums a.balance (neg_ℤ n) (account_liabilities a)
       (falls a.balance n low (less_low a.balance (min_balance a base) (account_liabilities a).selling n there
-      (sound.minimums id a base stands) its.selling)) its.selling its.buying
-  given_fits base (Some (key.TrustLine id held)) n low enough = λ t stands.
-      let its = range.lines id held t stands in
-      let there : n ≤ℤ line_available t = not_less (line_available t) n
-      (sym (ap (λ o. is_short_of n (line_has o)) stands) ∙ enough) in
+      (sound.minimums id a base exists) its.selling)) its.selling its.buying
+  given_fits base (Some (key.TrustLine id held)) n low enough = λ t exists.
+      let its = range.lines id held t exists in
+      let there : n ≤ℤ line_available t = int_lt_false (line_available t) n
+      (sym (ap (λ o. is_short_of n (line_has o)) exists) ∙ enough) in
       sums t.balance (neg_ℤ n) (line_liabilities t)
       (falls t.balance n low (line_low t.balance (line_liabilities t).selling n there its.selling))
       its.selling its.buying
@@ -164,10 +128,10 @@ module _ (m : EntryMap) (range : BalancesAreInRange m) (sound : ArePoolsSound m)
 
   -- what there is room for can be taken
   pub taken_fits : (k : Option LedgerKey) (n : ℕ) → nat_lt (most_taken m k) n ≡ false → DoesPaymentFit m k (pos n)
-  taken_fits (Some (key.Account id)) n enough = λ a stands.
-      let its = range.accounts.in_range id a stands in
+  taken_fits (Some (key.Account id)) n enough = λ a exists.
+      let its = range.accounts.in_range id a exists in
       let there : n ≤ at_least_nothing (room a) = ltb-false (at_least_nothing (room a)) n
-      (sym (ap (λ o. nat_lt (account_takes o) n) stands) ∙ enough) in
+      (sym (ap (λ o. nat_lt (account_takes o) n) exists) ∙ enough) in
       sums a.balance (pos n) (account_liabilities a)
       (rises a.balance n its.balance
       (within_limit a.balance (account_liabilities a).buying greatest_i64 n (within (room a) n there) its.buying
@@ -175,32 +139,32 @@ module _ (m : EntryMap) (range : BalancesAreInRange m) (sound : ArePoolsSound m)
     where
       itself : (x : ℤ) → x ≤ℤ x
       itself x = omega (arith, ints)
-  taken_fits (Some (key.TrustLine id held)) n enough = λ t stands.
-      let its = range.lines id held t stands in
+  taken_fits (Some (key.TrustLine id held)) n enough = λ t exists.
+      let its = range.lines id held t exists in
       let there : n ≤ at_least_nothing (line_room t) = ltb-false (at_least_nothing (line_room t)) n
-      (sym (ap (λ o. nat_lt (line_takes o) n) stands) ∙ enough) in
+      (sym (ap (λ o. nat_lt (line_takes o) n) exists) ∙ enough) in
       sums t.balance (pos n) (line_liabilities t)
       (rises t.balance n its.balance
       (within_limit t.balance (line_liabilities t).buying t.limit n (within (line_room t) n there) its.buying
-      (sound.limits id held t stands))) its.selling its.buying
+      (sound.limits id held t exists))) its.selling its.buying
   taken_fits other n enough = tt
 
 pub most_fits : (m : EntryMap) (k : Option LedgerKey) → BalancesAreInRange m → ArePoolsSound m
     → most_taken m k ≤ unlimited
 most_fits m k range sound = most_within m range sound k
 
--- ---- what stands as it did
+-- ---- what stays as it was
 
 payment_still : (m new : EntryMap) (k : Option LedgerKey) (n : ℤ)
     → ((q : LedgerKey) → k ≡ Some q → get new q ≡ get m q) → DoesPaymentFit m k n → DoesPaymentFit new k n
 unfolding account_at line_at
 payment_still m new (Some (key.Account id)) n still fits =
-    λ a stands. fits a (sym (ap account_of (still (key.Account id) refl)) ∙ stands)
+    λ a exists. fits a (sym (ap account_of (still (key.Account id) refl)) ∙ exists)
 payment_still m new (Some (key.TrustLine id held)) n still fits =
-    λ t stands. fits t (sym (ap line_of (still (key.TrustLine id held) refl)) ∙ stands)
+    λ t exists. fits t (sym (ap line_of (still (key.TrustLine id held) refl)) ∙ exists)
 payment_still m new other n still fits = tt
 
--- both assets of a pool are paid, behind a change of its shares
+-- both assets of a pool are paid, after a change of its shares
 module _ (m : EntryMap) (keyed : IsKeyed m) (id : AccountId) (pool : Hash) (params : PoolParams)
     (below : asset_cmp params.asset_a params.asset_b ≡ Less) (a b shares x y : ℤ) where
   abbrev now : EntryMap
@@ -212,7 +176,7 @@ module _ (m : EntryMap) (keyed : IsKeyed m) (id : AccountId) (pool : Hash) (para
   now_keyed : IsKeyed now
   now_keyed = pool_keyed line_changed pool (with_change a b shares) (paying_keyed m keyed (share_key id pool) shares)
 
-  -- what an account has of any asset stands as it did
+  -- what an account has of any asset stays as it was
   pub beside : (held : Asset) (q : LedgerKey) → holder id held ≡ Some q → get now q ≡ get m q
   beside held q is =
       pool_beside line_changed (paying_keyed m keyed (share_key id pool) shares) pool (with_change a b shares)

@@ -20,7 +20,7 @@ use Rattle.pool_math.specs.Parts.{signed}
 use Rattle.trade_cross.specs.legal_rules.Trades.{holder}
 use Rattle.trade_cross.specs.Amounts.{DoesPaymentFit}
 use Rattle.trade_cross.specs.Holdings.{has_at, is_short_of, most_taken, paying}
-use Rattle.trade_cross.specs.Places.{DoesFit}
+use Rattle.trade_cross.specs.Locations.{DoesFit}
 use Rattle.pool_shares.specs.Fits.{DoesPoolFit}
 use Rattle.pool_shares.specs.declared.withdrawing.Part.{Part as PartOfCall}
 use Rattle.pool_shares.specs.Withdrawing.{Part, map_with_shares}

@@ -52,7 +52,7 @@ deposit_tests op = (
   answer depositing.Malformed,
 ) ∷ []
 
--- ---- tests of what stands
+-- ---- tests of what exists
 
 -- a line that carries AUTHORIZED isn't there
 abbrev pub is_unauthorized : Option TrustLineEntry → Bool

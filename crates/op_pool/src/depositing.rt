@@ -1,4 +1,4 @@
-//! What a deposit comes to, and the tests of it that read no entries.
+//! What a deposit yields, and the tests of it that read no entries.
 
 ghost use Rattle.std.specs.Prelude.{◌≡◌, ◌*ℤ◌, ◌≤ℤ◌, pos};
 ghost use Rattle.ledger_types.specs.declared.entry.LedgerEntryBody.TheVariants.{LiquidityPool};

@@ -5,7 +5,7 @@ ghost use Rattle.entry_map.specs.Undo.{with_current};
 ghost use Rattle.trade_cross.specs.legal_rules.Trades.{holder};
 ghost use Rattle.trade_cross.specs.Amounts.{DoesPaymentFit};
 ghost use Rattle.trade_cross.specs.Holdings as holdings;
-ghost use Rattle.trade_cross.specs.Places.{place_key};
+ghost use Rattle.trade_cross.specs.Locations.{location_key};
 ghost use Rattle.op_form.specs.Premises.{BalancesAreInRange};
 ghost use Rattle.op_pool.specs.Calls.{DoPaymentsFit, map_after_payments};
 ghost use Rattle.op_pool.specs.Deposit.{is_unusable};
@@ -16,19 +16,19 @@ use entry_slots::load_line;
 use ledger_types::{AccountId, Asset, PoolParams};
 use op_form::is_authorized;
 use std::alloc::AllocError;
-use trade_cross::{Place, is_short, most_taken, pay, place_of};
+use trade_cross::{Location, is_short, location_of, most_taken, pay};
 
-/// Whether an account can't use what it has in a place: its line isn't there, or doesn't carry AUTHORIZED.
+/// Whether an account can't use what it holds there: its line doesn't exist, or doesn't carry AUTHORIZED.
 fn is_unusable_at<B: Base>(
     entries: &Entries<'_, B>,
     id: &AccountId,
-    place: Place,
+    location: Location,
 ) -> Result<bool, AllocError>
-    ensures { IfOk result (λ unusable. unusable ≡ is_unusable entries.now.current (place_key id.now place)) }
+    ensures { IfOk result (λ unusable. unusable ≡ is_unusable entries.now.current (location_key id.now location)) }
 {
-    match place {
-        Place::Account | Place::Nowhere => Ok(false),
-        Place::Line(held) => match load_line(entries, id, &held)? {
+    match location {
+        Location::Account | Location::Nowhere => Ok(false),
+        Location::Line(held) => match load_line(entries, id, &held)? {
             None => Ok(true),
             Some(slot) => Ok(!is_authorized(&slot.line)),
         },
@@ -43,7 +43,7 @@ pub fn is_asset_unusable<B: Base>(
 ) -> Result<bool, AllocError>
     ensures { IfOk result (λ unusable. unusable ≡ is_unusable entries.now.current (holder id.now asset.now)) }
 {
-    is_unusable_at(entries, id, place_of(id, asset))
+    is_unusable_at(entries, id, location_of(id, asset))
 }
 
 /// Whether less than so much of an asset is available to an account.
@@ -58,7 +58,7 @@ pub fn is_asset_short<B: Base>(
     ensures { IfOk result (λ short. short ≡ holdings.is_short_of amount (
         holdings.has_at base_reserve entries.now.current (holder id.now asset.now))) }
 {
-    is_short(entries, base_reserve, id, place_of(id, asset), amount)
+    is_short(entries, base_reserve, id, location_of(id, asset), amount)
 }
 
 /// What an account can take of an asset at most.
@@ -71,7 +71,7 @@ pub fn most_of_asset<B: Base>(
     requires sound { ArePoolsSound entries.now.current }
     ensures { IfOk result (λ most. most ≡ pos (holdings.most_taken entries.now.current (holder id.now asset.now))) }
 {
-    most_taken(entries, id, place_of(id, asset))
+    most_taken(entries, id, location_of(id, asset))
 }
 
 /// A number of at least 0 with its sign turned.
@@ -94,7 +94,7 @@ fn pay_asset<B: Base>(
         entries.new ≡
         with_current entries.old (holdings.paying (holder id.now asset.now) amount entries.old.current)) }
 {
-    pay(entries, id, place_of(id, asset), amount)
+    pay(entries, id, location_of(id, asset), amount)
 }
 
 /// Pays an account amounts of a pool's two assets, which may be below 0.

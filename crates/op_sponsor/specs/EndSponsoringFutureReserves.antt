@@ -15,16 +15,16 @@ use Rattle.op_form.specs.Steps.{after_some, success}
 abbrev pub answer : EndSponsoringFutureReservesResult → OperationResult
 answer code = Inner (tr.EndSponsoringFutureReserves code)
 
--- where the sponsorship stands that is open for the source
-unfoldable pub place_of_sponsorship : Ctx → Option ℕ
-place_of_sponsorship ctx =
+-- the index of the sponsorship that is open for the source
+unfoldable pub index_of_sponsorship : Ctx → Option ℕ
+index_of_sponsorship ctx =
     position (λ sponsorship. is_same_account sponsorship.sponsored ctx.op_source) ctx.sponsorships
 
 abbrev pub without_sponsorship : ℕ → Ctx → Ctx
-without_sponsorship place ctx = record ctx { sponsorships = remove ctx.sponsorships place }
+without_sponsorship index ctx = record ctx { sponsorships = remove ctx.sponsorships index }
 
 -- the source pays itself from now on for what it adds
 abbrev pub end_sponsoring : Ctx → EntryMap → Attempt
 end_sponsoring ctx m =
-    after_some (place_of_sponsorship ctx) (answer end.NotSponsored)
-    (λ place. success (without_sponsorship place ctx) (answer end.Success) m [])
+    after_some (index_of_sponsorship ctx) (answer end.NotSponsored)
+    (λ index. success (without_sponsorship index ctx) (answer end.Success) m [])

@@ -26,11 +26,11 @@ use Rattle.entry_slots.specs.Balances.{balance_in}
 use Rattle.entry_slots.specs.EntrySponsor.{sponsor_of}
 use Rattle.entry_slots.specs.Tests.{Tests}
 use Rattle.sponsor_rules.specs.declared.context.Ctx.{Ctx}
-use Rattle.sponsor_rules.specs.declared.signer_place.FoundSigner.{FoundSigner}
+use Rattle.sponsor_rules.specs.declared.signer_index.FoundSigner.{FoundSigner}
 use Rattle.sponsor_rules.specs.Charge.{owner_of}
 use Rattle.sponsor_rules.specs.Moving.{map_after_moving}
 use Rattle.sponsor_rules.specs.Payers.{is_same_account, open_sponsor}
-use Rattle.sponsor_rules.specs.SignerPlace.{found_signer}
+use Rattle.sponsor_rules.specs.SignerIndex.{found_signer}
 use Rattle.sponsor_rules.specs.Signers.{map_after_moving_signer}
 use Rattle.op_form.specs.Done.{Attempt}
 use Rattle.op_form.specs.Steps.{unless_refused, after_charge, after_some, success}
@@ -49,7 +49,7 @@ is_held id (line.Alphanum12 code issuer) =
     is_valid_asset (asset.Alphanum12 code issuer) && not (is_same_account issuer id)
 is_held id (line.PoolShare pool) = true
 
--- no entry that has a payer stands under the key in any ledger
+-- no entry that has a payer exists under the key in any ledger
 abbrev pub is_malformed : LedgerKey → Bool
 is_malformed (key.Account id) = false
 is_malformed (key.TrustLine id asset) = not (is_held id asset)
@@ -109,7 +109,7 @@ signer_revoked ctx id key m found =
     after_some found (answer revoke.DoesNotExist)
     (λ signer. unless_refused (signer_tests ctx id signer) (signer_moved ctx id key m))
 
--- an account that doesn't stand has no signer
+-- an account that doesn't exist has no signer
 abbrev pub revoke_signer : Ctx → AccountId → SignerKey → EntryMap → Attempt
 revoke_signer ctx id key m = signer_revoked ctx id key m (found_signer key (account_at m id))
 

@@ -14,10 +14,10 @@ pub fn end_sponsoring<B: Base>(ctx: &mut Ctx, _entries: &Entries<'_, B>) -> Oper
     ensures { Does result ctx.new _entries.now _entries.now (
         done_of ctx.old _entries.now.current (spec.end_sponsoring ctx.old _entries.now.current)) }
 {
-    match place_of_sponsorship(ctx) {
+    match index_of_sponsorship(ctx) {
         None => answer(EndSponsoringFutureReservesResult::NotSponsored),
-        Some(place) => {
-            ctx.sponsorships.remove(place);
+        Some(index) => {
+            ctx.sponsorships.remove(index);
             answer(EndSponsoringFutureReservesResult::Success)
         }
     }
@@ -30,11 +30,11 @@ fn answer(code: EndSponsoringFutureReservesResult) -> OperationResult
     OperationResult::Inner(OperationResultTr::EndSponsoringFutureReserves(code))
 }
 
-/// Where the sponsorship stands that is open for the source.
-#[tactic(auto, unfolding(crate::specs::EndSponsoringFutureReserves::place_of_sponsorship))]
-fn place_of_sponsorship(ctx: &Ctx) -> Option<usize>
-    ensures place { result ≡ spec.place_of_sponsorship ctx.now }
-    ensures within { IfSome result (λ place. place < length ctx.now.sponsorships) }
+/// The index of the sponsorship that is open for the source.
+#[tactic(auto, unfolding(crate::specs::EndSponsoringFutureReserves::index_of_sponsorship))]
+fn index_of_sponsorship(ctx: &Ctx) -> Option<usize>
+    ensures index { result ≡ spec.index_of_sponsorship ctx.now }
+    ensures within { IfSome result (λ index. index < length ctx.now.sponsorships) }
 {
     ctx.sponsorships
         .as_slice()

@@ -64,7 +64,7 @@ fn is_held(id: &AccountId, asset: &TrustLineAsset) -> bool
     }
 }
 
-/// Whether no entry that has a payer stands under a key in any ledger.
+/// Whether no entry that has a payer exists under a key in any ledger.
 fn is_malformed(key: &LedgerKey) -> bool
     ensures { result ≡ spec.is_malformed key.now }
 {

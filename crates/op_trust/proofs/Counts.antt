@@ -1,10 +1,14 @@
--- That what counts a line of shares can count one less where the line stands, and one more where no count is full.
-use Rattle.std.proofs.Common.{◌≡◌, ◌≢◌, refl, sym, ap, subst, ◌∙◌, ℕ, Bool, true, false, if◌then◌else◌, not, ◌||◌}
-use Rattle.std.proofs.Common.{Option, Some, None, Ok, arith}
-use Rattle.std.proofs.lemmas.Int.{ints}
-use Rattle.std.specs.Prelude.{ℤ, pos, neg_ℤ, ◌≤ℤ◌, int_le}
-use Rattle.std.specs.Ordering.{int_eq, is_eq, is_lt}
-use Rattle.std.specs.FinMap.{get}
+-- That what counts a line of shares can count one less where the line exists, and one more where no count is full.
+use Rattle.op_trust.proofs.Prelude as prelude
+use prelude.{◌≡◌, ◌≢◌, refl, sym, ap, subst, ◌∙◌, ℕ, Bool, true, false, if◌then◌else◌, not, ◌||◌, Option, Some, None}
+use prelude.{Ok, arith, ints, ℤ, pos, neg_ℤ, ◌≤ℤ◌, int_eq, is_eq, is_lt, get, LedgerEntry, asset_cmp, key_of, EntryMap}
+use prelude.{put, account_of, account_at, line_at, use_count, pool_of, pool_at, greatest_i64, map_after_adding}
+use prelude.{map_after_counting, sponsored_entry, with_more, open_sponsor, subentry_tests_at, IsReady}
+use prelude.{map_after_charging, with_subentry, with_more_paid, with_count_core, done_by, IsKeyed, needed_line}
+use prelude.{share_line, DoesCountFit, DoUsesFitAt, DoLinesFit, DoShareLinesFit, empty_pool, map_with_pool}
+use prelude.{map_with_pool_by, are_same_params, is_taken, is_pool_bad, is_used_fully, is_used_fully_at, is_held_fully}
+use prelude.{put_elsewhere, put_there, int_eq_true}
+use Rattle.std.specs.Prelude.{int_le}
 use Rattle.ledger_types.specs.declared.ids.AccountId.{AccountId}
 use Rattle.ledger_types.specs.declared.ids.Hash.{Hash}
 use Rattle.ledger_types.specs.declared.asset.PoolParams.{PoolParams}
@@ -12,42 +16,19 @@ use Rattle.ledger_types.specs.declared.asset.TrustLineAsset.TheVariants as line
 use Rattle.ledger_types.specs.declared.account.AccountEntry.{AccountEntry}
 use Rattle.ledger_types.specs.declared.trust_line.TrustLineEntry.{TrustLineEntry}
 use Rattle.ledger_types.specs.declared.liquidity_pool.LiquidityPoolEntry.{LiquidityPoolEntry}
-use Rattle.ledger_types.specs.declared.entry.LedgerEntry.{LedgerEntry}
 use Rattle.ledger_types.specs.declared.key.LedgerKey.{LedgerKey}
 use Rattle.ledger_types.specs.declared.key.LedgerKey.TheVariants as key
-use Rattle.ledger_types.specs.KeyOrder.{asset_cmp}
-use Rattle.ledger_types.specs.Keys.{key_of}
-use Rattle.entry_map.specs.EntryMap.{EntryMap, put}
 use Rattle.valid_values.specs.Assets.{is_valid_asset}
-use Rattle.entry_map.proofs.Pairs.{same_asset, tied}
-use Rattle.entry_slots.specs.Accounts.{account_of, account_at}
-use Rattle.entry_slots.specs.Lines.{line_at}
-use Rattle.entry_slots.specs.LineExtensions.{use_count}
-use Rattle.entry_slots.specs.Pools.{pool_of, pool_at}
-use Rattle.trade_cross.proofs.entry_sums_proofs.Lookups.{put_there, put_elsewhere}
-use Rattle.sponsor_rules.specs.reserve_rules.Reserve.{greatest_i64}
+use Rattle.entry_map.proofs.Pairs.{tied}
 use Rattle.sponsor_rules.specs.declared.context.Ctx.{Ctx}
 use Rattle.sponsor_rules.specs.declared.count.Count.TheVariants.{SubEntries, Sponsoring, Sponsored}
-use Rattle.sponsor_rules.specs.Adding.{map_after_adding, map_after_counting, sponsored_entry}
-use Rattle.sponsor_rules.specs.Counting.{with_more}
-use Rattle.sponsor_rules.specs.Payers.{open_sponsor, subentry_tests_at, IsReady}
-use Rattle.sponsor_rules.specs.Paying.{map_after_charging, with_subentry, with_more_paid}
-use Rattle.sponsor_rules.proofs.Keeping.{with_count_means}
-use Rattle.trade_cross.proofs.sponsor_laws_proofs.Bounds.{done_by}
-use Rattle.trade_cross.specs.legal_rules.Holdings.{IsKeyed}
 use Rattle.trade_cross.specs.legal_rules.PoolLaws.{new_pool}
-use Rattle.trade_cross.specs.legal_rules.PoolShares.{needed_line}
-use Rattle.trade_cross.specs.legal_rules.ShareLaws.{share_line}
 use Rattle.trade_cross.proofs.legal_rules_proofs.Leaving.{keyed_put}
-use Rattle.trade_cross.proofs.legal_rules_proofs.Liable.{int_same}
-use Rattle.trade_cross.specs.Places.{DoesFit}
-use Rattle.pool_shares.specs.Fits.{DoesCountFit, DoUsesFitAt, DoLinesFit, DoShareLinesFit}
+use Rattle.trade_cross.specs.Locations.{DoesFit}
 use Rattle.pool_shares.specs.Premises.{ArePoolsSound}
-use Rattle.pool_shares.specs.ShareLines.{empty_pool, map_with_pool, map_with_pool_by}
 use Rattle.pool_shares.proofs.Beside.{account_beside, account_keyed}
 use Rattle.pool_shares.proofs.Uses.{IsPlain, fits_beside, lines_still}
-use Rattle.op_trust.specs.ShareTrust.{are_same_params, is_taken, is_pool_bad, is_used_fully, is_used_fully_at}
-use Rattle.op_trust.specs.ShareTrust.{is_held_fully}
+use Rattle.ledger_types.proofs.KeyOrdering.{same_assets}
 
 -- ---- one line less
 
@@ -62,18 +43,18 @@ pub same_params : (a b : PoolParams) → not (are_same_params a b) ≡ false →
 same_params a b is =
     let same = both_asked (is_eq (asset_cmp a.asset_a b.asset_a)) (is_eq (asset_cmp a.asset_b b.asset_b))
     (int_eq a.fee b.fee) is in
-    let first = same_asset a.asset_a b.asset_a same.0 in
-    let second = same_asset a.asset_b b.asset_b same.1 in
-    let fee = int_same a.fee b.fee same.2 in
+    let first = same_assets a.asset_a b.asset_a same.0 in
+    let second = same_assets a.asset_b b.asset_b same.1 in
+    let fee = int_eq_true a.fee b.fee same.2 in
     λ i. record { asset_a = first i; asset_b = second i; fee = fee i }
 
 module _ (params : PoolParams) (id : AccountId) (pool : Hash) (m : EntryMap) (t : TrustLineEntry)
-    (sound : ArePoolsSound m) (stands : line_at m id (line.PoolShare pool) ≡ Some t) where
+    (sound : ArePoolsSound m) (exists : line_at m id (line.PoolShare pool) ≡ Some t) where
   counted_by : (o : Option LiquidityPoolEntry) → pool_at m pool ≡ o → is_taken params o ≡ false
       → DoShareLinesFit (neg_ℤ (pos 1)) id pool params m
-  counted_by None is free = absurd (sound.pooled id pool t stands is)
+  counted_by None is free = absurd (sound.pooled id pool t exists is)
   counted_by (Some p) is free = subst (λ x. DoShareLinesFit (neg_ℤ (pos 1)) id pool x m)
-      (same_params p.params params free) (sound.counted id pool t p stands is)
+      (same_params p.params params free) (sound.counted id pool t p exists is)
 
   pub one_less : is_taken params (pool_at m pool) ≡ false → DoShareLinesFit (neg_ℤ (pos 1)) id pool params m
   one_less free = counted_by (pool_at m pool) refl free
@@ -88,15 +69,15 @@ not_full n most below low is = record {
 
 more_uses_at : (m : EntryMap) → ArePoolsSound m → (o : Option LedgerKey) → is_used_fully_at m o ≡ false
     → DoUsesFitAt (pos 1) m o
-more_uses_at m sound (Some (key.TrustLine id held)) below = λ t stands.
-    not_full (use_count t) (pos 2147483647) (sym (ap is_used_fully stands) ∙ below) (sound.uses id held t stands) refl
+more_uses_at m sound (Some (key.TrustLine id held)) below = λ t exists.
+    not_full (use_count t) (pos 2147483647) (sym (ap is_used_fully exists) ∙ below) (sound.uses id held t exists) refl
 more_uses_at m sound other below = tt
 
 more_lines : (m : EntryMap) → ArePoolsSound m → (pool : Hash) → is_held_fully (pool_at m pool) ≡ false
     → DoLinesFit (pos 1) pool m
-more_lines m sound pool below p stands =
-    let low = (sound.ranges pool p stands).lines in
-    let free : int_le greatest_i64 p.pool_shares_trust_line_count ≡ false = sym (ap is_held_fully stands) ∙ below in
+more_lines m sound pool below p exists =
+    let low = (sound.ranges pool p exists).lines in
+    let free : int_le greatest_i64 p.pool_shares_trust_line_count ≡ false = sym (ap is_held_fully exists) ∙ below in
     lines_below p.pool_shares_trust_line_count free low
   where
     lines_below : (n : ℤ) → int_le greatest_i64 n ≡ false → pos 0 ≤ℤ n → DoesFit n (pos 1)
@@ -128,7 +109,7 @@ one_more params id pool m sound good a b lines = record {
   lines = more_lines m sound pool lines;
 }
 
--- ---- the pool that is made where it doesn't stand
+-- ---- the pool that is made where it doesn't exist
 
 module _ (seq : ℕ) (pool : Hash) (params : PoolParams) (m : EntryMap) where
   abbrev made : LedgerEntry
@@ -136,8 +117,8 @@ module _ (seq : ℕ) (pool : Hash) (params : PoolParams) (m : EntryMap) where
 
   empty_lines : DoLinesFit (pos 1) pool (put m made)
   unfolding pool_at
-  empty_lines p stands =
-      let here : Some (empty_pool pool params) ≡ Some p = sym (ap pool_of (put_there m made)) ∙ stands in
+  empty_lines p exists =
+      let here : Some (empty_pool pool params) ≡ Some p = sym (ap pool_of (put_there m made)) ∙ exists in
       let same : empty_pool pool params ≡ p = cc in
       subst (λ (x : LiquidityPoolEntry). DoesFit x.pool_shares_trust_line_count (pos 1)) same
       (record { low = omega (arith, ints); high = λ some. omega (arith, ints) })
@@ -157,8 +138,8 @@ module _ (seq : ℕ) (pool : Hash) (params : PoolParams) (m : EntryMap) where
       → IsReady (map_with_pool_by seq pool params m o) id
   unfolding account_at
   ready_by id ready (Some p) = ready
-  ready_by id ready None = λ a stands. ready a
-      (sym (ap account_of (put_elsewhere m made (key.Account id) (λ same. absurd (cc)))) ∙ stands)
+  ready_by id ready None = λ a exists. ready a
+      (sym (ap account_of (put_elsewhere m made (key.Account id) (λ same. absurd (cc)))) ∙ exists)
 
   pub still_ready : (id : AccountId) → IsReady m id → IsReady (map_with_pool seq pool params m) id
   still_ready id ready = ready_by id ready (pool_at m pool)
@@ -168,17 +149,17 @@ module _ (seq : ℕ) (pool : Hash) (params : PoolParams) (m : EntryMap) where
 more_paid : (k : ℕ) (sponsor : Option AccountId) (a : AccountEntry)
     → (with_more_paid k sponsor a).account_id ≡ a.account_id
 more_paid k None a = refl
-more_paid k (Some sponsor) a = (with_count_means Sponsored _ a).id
+more_paid k (Some sponsor) a = (with_count_core Sponsored _ a).id
 
 one_subentry : (k : ℕ) (sponsor : Option AccountId) (a : AccountEntry)
     → (with_subentry k sponsor a).account_id ≡ a.account_id
-one_subentry k sponsor a = more_paid k sponsor (with_more SubEntries k a) ∙ (with_count_means SubEntries _ a).id
+one_subentry k sponsor a = more_paid k sponsor (with_more SubEntries k a) ∙ (with_count_core SubEntries _ a).id
 
 charged_beside : (k : ℕ) (sponsor : Option AccountId) (m : EntryMap) → IsKeyed m → (q : LedgerKey)
     → ((x : AccountId) → q ≢ key.Account x) → get (map_after_charging k sponsor m) q ≡ get m q
 charged_beside k None m keyed q plain = refl
 charged_beside k (Some sponsor) m keyed q plain =
-    account_beside m keyed sponsor (with_more Sponsoring k) (λ a. (with_count_means Sponsoring _ a).id) q
+    account_beside m keyed sponsor (with_more Sponsoring k) (λ a. (with_count_core Sponsoring _ a).id) q
     (plain sponsor)
 
 charged_keyed : (k : ℕ) (sponsor : Option AccountId) (m : EntryMap) → IsKeyed m

@@ -74,7 +74,7 @@ share_limited ctx pool limit m =
 
 -- ---- a new line
 
--- a line has to stand and to be authorised, at least to maintain liabilities (flags 1 and 2)
+-- a line has to exist and to be authorised, at least to maintain liabilities (flags 1 and 2)
 abbrev pub needed_tests : Option TrustLineEntry → Tests OperationResult
 needed_tests None = (true, answer trust.TrustLineMissing) ∷ []
 needed_tests (Some needed) = (not (has_any needed.flags 3), answer trust.NotAuthMaintainLiabilities) ∷ []
@@ -84,7 +84,7 @@ abbrev pub needed_tests_at : EntryMap → Option LedgerKey → Tests OperationRe
 needed_tests_at m (Some (key.TrustLine id held)) = needed_tests (line_at m id held)
 needed_tests_at m other = []
 
--- A line is used as often as its 32 bits with a sign can tell. This never comes: an account has at most 1000
+-- A line's use count is the greatest that fits in 32 bits with a sign. This never happens: an account has at most 1000
 -- subentries.
 abbrev pub is_used_fully : Option TrustLineEntry → Bool
 is_used_fully None = false
@@ -94,7 +94,8 @@ abbrev pub is_used_fully_at : EntryMap → Option LedgerKey → Bool
 is_used_fully_at m (Some (key.TrustLine id held)) = is_used_fully (line_at m id held)
 is_used_fully_at m other = false
 
--- A pool has as many lines as its 64 bits with a sign can tell. This never comes: no memory has so many lines.
+-- A pool's line count is the greatest that fits in 64 bits with a sign. This never happens: no memory has so many
+-- lines.
 abbrev pub is_held_fully : Option LiquidityPoolEntry → Bool
 is_held_fully None = false
 is_held_fully (Some pool) = int_le greatest_i64 pool.pool_shares_trust_line_count
@@ -108,7 +109,7 @@ count_tests needs_a needs_b pool m = (
 abbrev pub zero_tests : (limit : ℤ) → Tests OperationResult
 zero_tests limit = (int_eq limit (pos 0), answer trust.InvalidLimit) ∷ []
 
--- The pool is made where it doesn't stand. It and the lines in its assets count the new one.
+-- The pool is made where it doesn't exist. It and the lines in its assets count the new one.
 abbrev pub share_added : Ctx → PoolParams → ℤ → EntryMap → Attempt
 share_added ctx params limit m =
     let id = ctx.op_source in

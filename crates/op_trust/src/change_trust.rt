@@ -77,7 +77,7 @@ pub fn is_exceeded(limit: i64, line: &TrustLineEntry) -> bool
     limit < line.balance + line_liabilities(line).buying
 }
 
-/// Gives a line that stands another limit, or removes it.
+/// Gives an existing line another limit, or removes it.
 fn change_line<B: Base>(
     asset: &Asset,
     limit: i64,

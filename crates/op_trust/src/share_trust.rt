@@ -33,7 +33,7 @@ use pool_shares::{count_share_lines, put_pool, remove_share_line};
 use sponsor_rules::{AddFault, Ctx, add_entry};
 use std::alloc::AllocError;
 use std::cmp::Ordering;
-use trade_cross::{Place, place_of};
+use trade_cross::{Location, location_of};
 use valid_values::is_valid_asset;
 
 /// The fee of each pool, of 10000 (LIQUIDITY_POOL_FEE_V18).
@@ -116,7 +116,7 @@ fn is_taken<B: Base>(
     }
 }
 
-/// Gives a line that stands another limit, or removes it.
+/// Gives an existing line another limit, or removes it.
 fn change_share<B: Base>(
     params: &PoolParams,
     pool: &Hash,
@@ -197,7 +197,7 @@ fn needed_fault<B: Base>(
     ensures { IfOk result (λ fault. spec.IsNeededFault (
         spec.needed_tests_at entries.now.current (needed_line id.now asset.now)) fault) }
 {
-    let Place::Line(held) = place_of(id, asset) else {
+    let Location::Line(held) = location_of(id, asset) else {
         return Ok(None);
     };
     match load_line(entries, id, &held)? {
@@ -209,7 +209,7 @@ fn needed_fault<B: Base>(
     }
 }
 
-/// Makes a line, and its pool where that doesn't stand.
+/// Makes a line, and its pool where that doesn't exist.
 fn add_share<B: Base>(
     params: &PoolParams,
     pool: &Hash,
@@ -245,7 +245,7 @@ fn add_share<B: Base>(
     }
 }
 
-/// Whether a line is used as often as can be told.
+/// Whether a line's use count is the greatest that fits.
 fn is_used_fully<B: Base>(
     entries: &Entries<'_, B>,
     id: &AccountId,
@@ -254,7 +254,7 @@ fn is_used_fully<B: Base>(
     ensures { IfOk result (λ full.
         full ≡ spec.is_used_fully_at entries.now.current (needed_line id.now asset.now)) }
 {
-    let Place::Line(held) = place_of(id, asset) else {
+    let Location::Line(held) = location_of(id, asset) else {
         return Ok(false);
     };
     match load_line(entries, id, &held)? {
@@ -263,7 +263,7 @@ fn is_used_fully<B: Base>(
     }
 }
 
-/// Whether a pool has as many lines as can be told.
+/// Whether a pool's line count is the greatest that fits.
 fn is_held_fully<B: Base>(entries: &Entries<'_, B>, pool: &Hash) -> Result<bool, AllocError>
     ensures { IfOk result (λ full. full ≡ spec.is_held_fully (pool_at entries.now.current pool.now)) }
 {

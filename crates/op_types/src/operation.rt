@@ -68,7 +68,7 @@ pub enum OperationBody {
 
 /// An operation (Operation in Stellar-transaction.x).
 pub struct Operation {
-    /// Whose operation it is; none stands for the transaction's source.
+    /// Whose operation it is; none represents the transaction's source.
     pub source_account: Option<MuxedAccount>,
     pub body: OperationBody,
 }

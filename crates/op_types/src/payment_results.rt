@@ -1,4 +1,4 @@
-//! What payments answer.
+//! What CREATE_ACCOUNT and payments answer.
 
 ghost use Rattle.op_types.specs.Codes.{create_account_code, create_account_values, payment_code, payment_values};
 ghost use Rattle.op_types.specs.Codes.{path_payment_strict_receive_code, path_payment_strict_receive_values};

@@ -18,7 +18,7 @@ pub enum InnerTransactionOutcome {
     Failed(ItemList<OperationResult>),
     /// txTOO_EARLY, -2: the ledger closes before the time bounds.
     TooEarly,
-    /// txTOO_LATE, -3: the ledger closes behind the time bounds.
+    /// txTOO_LATE, -3: the ledger closes after the time bounds.
     TooLate,
     /// txMISSING_OPERATION, -4: there is no operation.
     MissingOperation,
@@ -40,7 +40,7 @@ pub enum InnerTransactionOutcome {
     NotSupported,
     /// txFEE_BUMP_INNER_FAILED, -13: the inner transaction failed.
     FeeBumpInnerFailed,
-    /// txBAD_SPONSORSHIP, -14: a sponsorship is still open behind the last operation.
+    /// txBAD_SPONSORSHIP, -14: a sponsorship is still open after the last operation.
     BadSponsorship,
     /// txFEE_BUMP_INNER_SUCCESS, 1: the inner transaction succeeded.
     FeeBumpInnerSuccess,
@@ -141,7 +141,7 @@ pub enum TransactionOutcome {
     Failed(ItemList<OperationResult>),
     /// txTOO_EARLY, -2: the ledger closes before the time bounds.
     TooEarly,
-    /// txTOO_LATE, -3: the ledger closes behind the time bounds.
+    /// txTOO_LATE, -3: the ledger closes after the time bounds.
     TooLate,
     /// txMISSING_OPERATION, -4: there is no operation.
     MissingOperation,
@@ -163,7 +163,7 @@ pub enum TransactionOutcome {
     NotSupported,
     /// txFEE_BUMP_INNER_FAILED, -13: the inner transaction failed.
     FeeBumpInnerFailed(InnerTransactionResultPair),
-    /// txBAD_SPONSORSHIP, -14: a sponsorship is still open behind the last operation.
+    /// txBAD_SPONSORSHIP, -14: a sponsorship is still open after the last operation.
     BadSponsorship,
     /// txFEE_BUMP_INNER_SUCCESS, 1: the inner transaction succeeded.
     FeeBumpInnerSuccess(InnerTransactionResultPair),

@@ -1,19 +1,14 @@
 -- A disk in memory after a crash that fills what is pending with one byte.
-use Rattle.std.proofs.Common.{◌≡◌, ◌≢◌, ℕ, ◌-◌, ◌≤◌, ◌==◌, if◌then◌else◌, List, [], ◌∷◌, length, take, replicate, Bool}
-use Rattle.std.proofs.Common.{true, false, zero, suc, refl, sym, ◌∙◌, ap, subst, arith, length-take}
-use Rattle.std.proofs.lemmas.List.{length-replicate, get_or_past}
-use Rattle.std.proofs.lemmas.Bool.{eq-eqb, ne_eqb}
-use Rattle.outside.specs.Disk.{Image, InFile, Torn, CutShort}
-use Rattle.outside.specs.MemDisk.{DiskState, Standing, FileLeft, image_of, written, with_file, fill_range, fill_write}
-use Rattle.outside.specs.MemDisk.{fill_cut, fill_call, fill_calls, filled, same_file, AreOfFiles, after_call}
-use Rattle.outside.specs.MemDisk.{after_calls, at_first, now_standing}
-use Rattle.outside.specs.declared.call.Call.{Call}
-use Rattle.outside.specs.declared.call.Call.TheVariants.{Write, Cut, Sync}
-use Rattle.outside.specs.MemLaws.{torn_piece, cut_by, length-written}
+use Rattle.outside.proofs.Prelude as prelude
+use prelude.{◌≡◌, ◌≢◌, ℕ, ◌-◌, ◌≤◌, ◌==◌, if◌then◌else◌, List, [], ◌∷◌, length, take, replicate, Bool, true, false}
+use prelude.{zero, suc, refl, sym, ◌∙◌, ap, subst, arith, length-take, length-replicate, get_or_past, eq-eqb, ne_eqb}
+use prelude.{Image, InFile, Torn, CutShort, DiskState, Remaining, FileLeft, image_of, written, with_file, fill_range}
+use prelude.{fill_write, fill_cut, fill_call, fill_calls, filled, same_file, AreOfFiles, after_call, after_calls}
+use prelude.{at_first, now_on_disk, Call, Write, Cut, Sync, torn_piece, cut_by, length-written}
 use Rattle.outside.proofs.MemDisk.{torn_within, cut_within}
 
--- the files as they are read and as the crash leaves them are those of what stands
-record Follows (s : Standing) (f : ℕ → FileLeft) : Type 0 where
+-- the files as they are read and as the crash leaves them are those of `s`
+record Follows (s : Remaining) (f : ℕ → FileLeft) : Type 0 where
   reads : (k : ℕ) → s.reads k ≡ (f k).reads
   may : s.may_leave (λ k. (f k).left)
   long : (k : ℕ) → length (f k).left ≡ length (f k).reads
@@ -40,7 +35,7 @@ module _ (file : ℕ) (change : FileLeft → FileLeft) (read : List ℕ → List
   long_alter true x after before = after
   long_alter false x after before = before
 
-  altered : (s : Standing) (f : ℕ → FileLeft) (reads : Image) → Follows s f
+  altered : (s : Remaining) (f : ℕ → FileLeft) (reads : Image) → Follows s f
       → ((k : ℕ) → reads k ≡ (if k == file then read (s.reads k) else s.reads k))
       → ((x : FileLeft) → (change x).reads ≡ read x.reads)
       → ((x : FileLeft) → how x.left (change x).left)
@@ -88,7 +83,7 @@ long_within : (fill at n : ℕ) (x : FileLeft) → length x.left ≡ length x.re
     → length (take (length x.left) (fill_range fill at n x.left)) ≡ length x.reads
 long_within fill at n x same = omega (arith, length-take {A = ℕ}, (torn_filled fill at n x.left).no_shorter)
 
-follow_call : (fill : ℕ) (call : Call) (s : Standing) (f : ℕ → FileLeft) → Follows s f
+follow_call : (fill : ℕ) (call : Call) (s : Remaining) (f : ℕ → FileLeft) → Follows s f
     → Follows (after_call call s) (λ k. fill_call fill k call (f k))
 follow_call fill (Write file at piece true) s f h =
     altered file (fill_write fill at piece.items true) (written 0 at piece.items) (Torn at (length piece.items)) s f
@@ -108,24 +103,24 @@ follow_call fill (Cut file size false) s f h =
     (λ x same. long_within fill size (length x.left - size) x same)
 follow_call fill Sync s f h = record { reads = h.reads; may = λ i k. sym (h.reads k) i; long = λ k. refl }
 
-follow_calls : (fill : ℕ) (calls : List Call) (s : Standing) (f : ℕ → FileLeft) → Follows s f
+follow_calls : (fill : ℕ) (calls : List Call) (s : Remaining) (f : ℕ → FileLeft) → Follows s f
     → Follows (after_calls calls s) (λ k. fill_calls fill k calls (f k))
 follow_calls fill [] s f h = h
 follow_calls fill (call ∷ calls) s f h =
     follow_calls fill calls (after_call call s) (λ k. fill_call fill k call (f k)) (follow_call fill call s f h)
 
 follow_all : (fill : ℕ) (disk : DiskState)
-    → Follows (now_standing disk) (λ k. fill_calls fill k disk.log (same_file (image_of disk.start k)))
+    → Follows (now_on_disk disk) (λ k. fill_calls fill k disk.log (same_file (image_of disk.start k)))
 follow_all fill disk = follow_calls fill disk.log (at_first disk.start) (λ k. same_file (image_of disk.start k))
     (record { reads = λ k. refl; may = refl; long = λ k. refl })
 
 -- the crash leaves one of the contents that a crash may leave
-pub filled_is_left : (fill : ℕ) (disk : DiskState) → (now_standing disk).may_leave (filled fill disk)
+pub filled_is_left : (fill : ℕ) (disk : DiskState) → (now_on_disk disk).may_leave (filled fill disk)
 filled_is_left fill disk = (follow_all fill disk).may
 
 -- with the present lengths
 pub length-filled : (fill : ℕ) (disk : DiskState) (k : ℕ)
-    → length (filled fill disk k) ≡ length ((now_standing disk).reads k)
+    → length (filled fill disk k) ≡ length ((now_on_disk disk).reads k)
 length-filled fill disk k = let h = follow_all fill disk in h.long k ∙ sym (ap length (h.reads k))
 
 -- no call is of a file beyond the last
@@ -142,9 +137,9 @@ untouched fill file (Cut other size done ∷ calls) f beyond all is =
 untouched fill file (Sync ∷ calls) f beyond all is =
     untouched fill file calls (fill_call fill file Sync f) beyond all.1 (ap (λ (x : FileLeft). same_file x.reads) is)
 
-none_left : (fill : ℕ) (disk : DiskState) → AreOfFiles disk.log → length disk.start ≡ 4 → (file : ℕ) → 4 ≤ file
+other_files_empty : (fill : ℕ) (disk : DiskState) → AreOfFiles disk.log → length disk.start ≡ 4 → (file : ℕ) → 4 ≤ file
     → filled fill disk file ≡ []
-none_left fill disk all four file beyond =
+other_files_empty fill disk all four file beyond =
     ap (λ (x : FileLeft). x.left) (untouched fill file disk.log (same_file (image_of disk.start file)) beyond all
     (ap same_file (get_or_past disk.start file [] (omega arith))))
 
@@ -157,7 +152,7 @@ four_left fill disk all four a b c d p q r s (suc zero) = q
 four_left fill disk all four a b c d p q r s (suc (suc zero)) = r
 four_left fill disk all four a b c d p q r s (suc (suc (suc zero))) = s
 four_left fill disk all four a b c d p q r s (suc (suc (suc (suc k)))) =
-    sym (none_left fill disk all four (suc (suc (suc (suc k)))) (omega arith))
+    sym (other_files_empty fill disk all four (suc (suc (suc (suc k)))) (omega arith))
 
 pub crashed_reads : (fill : ℕ) (disk seen : DiskState) (log : List Call) → seen ≡ disk → AreOfFiles seen.log
     → length disk.start ≡ 4

@@ -1,22 +1,19 @@
 -- A disk in memory, one call later.
-use Rattle.std.proofs.Common.{◌≡◌, ℕ, ◌+◌, ◌<◌, ◌≤◌, ◌==◌, if◌then◌else◌, List, [], ◌∷◌, ◌++◌, length, take, get_or}
-use Rattle.std.proofs.Common.{set, refl, sym, ◌∙◌, ap, subst, inl, inr, ◌⊎◌, arith, length-append, length-take}
-use Rattle.std.proofs.Common.{length-drop, min, drop, replicate, Bool, true, false, ◌-◌, get_or-set_other}
-use Rattle.std.proofs.Common.{get_or-set_same, Result, Ok, Err, OnOk, OnErr, IsTrue}
-use Rattle.std.proofs.lemmas.List.{map-set, length-map, take-append-le, take-take, take_all, drop_all, drop-take}
-use Rattle.std.proofs.lemmas.List.{append-nil}
-use Rattle.std.proofs.lemmas.Bool.{cases_eq, cases_lt}
+use Rattle.outside.proofs.Prelude.{◌≡◌, ℕ, ◌+◌, ◌<◌, ◌≤◌, ◌==◌, if◌then◌else◌, List, [], ◌∷◌, ◌++◌, length, take}
+use Rattle.outside.proofs.Prelude.{get_or, set, refl, sym, ◌∙◌, ap, subst, inl, inr, ◌⊎◌, arith, length-append}
+use Rattle.outside.proofs.Prelude.{length-take, min, drop, replicate, Bool, true, false, ◌-◌, get_or-set_other}
+use Rattle.outside.proofs.Prelude.{get_or-set_same, Result, Ok, Err, OnOk, OnErr, IsTrue, map-set, length-map}
+use Rattle.outside.proofs.Prelude.{take-append-le, take-take, take_all, drop_all, drop-take, append-nil, cases_eq}
+use Rattle.outside.proofs.Prelude.{cases_lt, Image, Runs, Same, Stays, Torn, Wrote, CutShort, DiskState, Remaining}
+use Rattle.outside.proofs.Prelude.{items_of, image_of, written, with_file, fill_range, IsOfFile, AreOfFiles, after_call}
+use Rattle.outside.proofs.Prelude.{after_calls, at_first, remaining, now_on_disk, disk_of, torn_piece, Call}
+use Rattle.std.proofs.Common.{length-drop}
 use Rattle.std.proofs.lemmas.Bool.Decides.{nat_tests}
 use Rattle.std.specs.Global.{Vec}
-use Rattle.outside.specs.Disk.{Image, Runs, Same, Stays, Torn, Wrote, CutShort}
-use Rattle.outside.specs.MemDisk.{DiskState, Standing, items_of, image_of, written, with_file, fill_range, IsOfFile}
-use Rattle.outside.specs.MemDisk.{AreOfFiles, after_call, after_calls, at_first, standing, now_standing, disk_of}
-use Rattle.outside.specs.MemLaws.{torn_piece}
-use Rattle.outside.specs.declared.call.Call.{Call}
 
 -- ---- one call more
 
-after_push : (calls : List Call) (call : Call) (s : Standing)
+after_push : (calls : List Call) (call : Call) (s : Remaining)
     → after_calls (calls ++ call ∷ []) s ≡ after_call call (after_calls calls s)
 after_push [] call s = refl
 after_push (other ∷ calls) call s = after_push calls call (after_call other s)
@@ -24,22 +21,22 @@ after_push (other ∷ calls) call s = after_push calls call (after_call other s)
 pub reads_push : (start : List (List ℕ)) (log : List Call) (call : Call) (after : List Call)
     (value : DiskState) (image : Image)
     → record { start = start; log = log } ≡ value → after ≡ log ++ call ∷ []
-    → (after_call call (now_standing value)).reads ≡ image
+    → (after_call call (now_on_disk value)).reads ≡ image
     → (after_calls after (at_first start)).reads ≡ image
 reads_push start log call after value image same items h =
     ap (λ (l : List Call). (after_calls l (at_first start)).reads) items
-    ∙ ap (λ (s : Standing). s.reads) (after_push log call (at_first start))
-    ∙ ap (λ (v : DiskState). (after_call call (now_standing v)).reads) same ∙ h
+    ∙ ap (λ (s : Remaining). s.reads) (after_push log call (at_first start))
+    ∙ ap (λ (v : DiskState). (after_call call (now_on_disk v)).reads) same ∙ h
 
 -- a call that changes nothing that is read
 pub noted : (files : Image) (start : List (List ℕ)) (log : List Call) (call : Call) (after : List Call)
     (value : DiskState)
     → record { start = start; log = log } ≡ value → after ≡ log ++ call ∷ []
     → files ≡ (after_calls log (at_first start)).reads
-    → (after_call call (now_standing value)).reads ≡ (now_standing value).reads
+    → (after_call call (now_on_disk value)).reads ≡ (now_on_disk value).reads
     → files ≡ (after_calls after (at_first start)).reads
 noted files start log call after value same items is h =
-    is ∙ ap (λ (v : DiskState). (now_standing v).reads) same
+    is ∙ ap (λ (v : DiskState). (now_on_disk v).reads) same
     ∙ sym (reads_push start log call after value _ same items h)
 
 set_at : (files : List (List ℕ)) (k : ℕ) (next : List ℕ) → k < length files → (j : ℕ)
@@ -69,66 +66,66 @@ module _ (old : DiskState) (call : Call) where
   abbrev next : DiskState
   next = record old { log = old.log ++ call ∷ [] }
 
-  abbrev first : Standing
+  abbrev first : Remaining
   first = at_first old.start
 
-  took_whole : after_calls (take (length next.log) next.log) first ≡ after_call call (now_standing old)
-  took_whole = ap (λ (l : List Call). after_calls l first) (take_all (length next.log) next.log (omega arith))
+  took_entire : after_calls (take (length next.log) next.log) first ≡ after_call call (now_on_disk old)
+  took_entire = ap (λ (l : List Call). after_calls l first) (take_all (length next.log) next.log (omega arith))
       ∙ after_push old.log call first
 
-  took_old : (n : ℕ) → n ≤ length old.log → standing next n ≡ standing old n
+  took_old : (n : ℕ) → n ≤ length old.log → remaining next n ≡ remaining old n
   took_old n le = ap (λ (l : List Call). after_calls l first) (take-append-le n old.log (call ∷ []) le)
 
   since_next : (step : Image → Image → Type 0)
-      → ((c : Image) → (after_call call (now_standing old)).may_leave c → (d : Image)
-      × (now_standing old).may_leave d × step d c)
-      → (t n : ℕ) (c : Image) → t ≤ n → n ≤ length next.log → (standing next n).may_leave c
+      → ((c : Image) → (after_call call (now_on_disk old)).may_leave c → (d : Image)
+      × (now_on_disk old).may_leave d × step d c)
+      → (t n : ℕ) (c : Image) → t ≤ n → n ≤ length next.log → (remaining next n).may_leave c
       → (disk_of old).left_since t c ⊎ ((d : Image) × (disk_of old).may_leave d × step d c)
   since_next step h t n c from le may = elim (cases_lt (length old.log) n) [
-    | inl behind ↦
+    | inl following ↦
         let last : n ≡ length next.log = omega (arith, length-append old.log (call ∷ [])) in
-        let whole : (after_calls (take (length next.log) next.log) first).may_leave c
-        = subst (λ (m : ℕ). (standing next m).may_leave c) last may in
-        inr (h c (subst (λ (s : Standing). s.may_leave c) took_whole whole))
-    | inr before ↦ inl (n, from, before, subst (λ (s : Standing). s.may_leave c) (took_old n before) may)
+        let entire : (after_calls (take (length next.log) next.log) first).may_leave c
+        = subst (λ (m : ℕ). (remaining next m).may_leave c) last may in
+        inr (h c (subst (λ (s : Remaining). s.may_leave c) took_entire entire))
+    | inr before ↦ inl (n, from, before, subst (λ (s : Remaining). s.may_leave c) (took_old n before) may)
   ]
 
   runs_next : (step : Image → Image → Type 0)
-      → ((c : Image) → (after_call call (now_standing old)).may_leave c → (d : Image)
-      × (now_standing old).may_leave d × step d c)
+      → ((c : Image) → (after_call call (now_on_disk old)).may_leave c → (d : Image)
+      × (now_on_disk old).may_leave d × step d c)
       → Runs step (disk_of old) (disk_of next)
   runs_next step h = record {
     later = omega (arith, length-append old.log (call ∷ []));
-    crash = λ c may. h c (subst (λ (s : Standing). s.may_leave c) (after_push old.log call first) may);
+    crash = λ c may. h c (subst (λ (s : Remaining). s.may_leave c) (after_push old.log call first) may);
     since = λ t c le (n, from, within, may). since_next step h t n c from within may;
     keeps = λ t c le (n, from, within, may). (
       n,
       from,
       omega (arith, within, length-append old.log (call ∷ [])),
-      subst (λ (s : Standing). s.may_leave c) (sym (took_old n within)) may,
+      subst (λ (s : Remaining). s.may_leave c) (sym (took_old n within)) may,
     );
   }
 
 -- a call was noted
 pub pushed : (step : Image → Image → Type 0) (old : DiskState) (call : Call) (new : DiskState)
     → new ≡ record old { log = old.log ++ call ∷ [] }
-    → ((c : Image) → (after_call call (now_standing old)).may_leave c → (d : Image)
-    × (now_standing old).may_leave d × step d c)
+    → ((c : Image) → (after_call call (now_on_disk old)).may_leave c → (d : Image)
+    × (now_on_disk old).may_leave d × step d c)
     → Runs step (disk_of old) (disk_of new)
 pushed step old call new is h =
     subst (λ (v : DiskState). Runs step (disk_of old) (disk_of v)) (sym is) (runs_next old call step h)
 
 pub reads_pushed : (old : DiskState) (call : Call) (new : DiskState)
     → new ≡ record old { log = old.log ++ call ∷ [] }
-    → (now_standing new).reads ≡ (after_call call (now_standing old)).reads
-reads_pushed old call new is = ap (λ (v : DiskState). (now_standing v).reads) is
-    ∙ ap (λ (s : Standing). s.reads) (after_push old.log call (at_first old.start))
+    → (now_on_disk new).reads ≡ (after_call call (now_on_disk old)).reads
+reads_pushed old call new is = ap (λ (v : DiskState). (now_on_disk v).reads) is
+    ∙ ap (λ (s : Remaining). s.reads) (after_push old.log call (at_first old.start))
 
 pub may_pushed : (old : DiskState) (call : Call) (new : DiskState) → new ≡ record old { log = old.log ++ call ∷ [] }
-    → (c : Image) → (now_standing new).may_leave c → (after_call call (now_standing old)).may_leave c
+    → (c : Image) → (now_on_disk new).may_leave c → (after_call call (now_on_disk old)).may_leave c
 may_pushed old call new is c may =
-    subst (λ (s : Standing). s.may_leave c) (after_push old.log call (at_first old.start))
-    (subst (λ (v : DiskState). (now_standing v).may_leave c) is may)
+    subst (λ (s : Remaining). s.may_leave c) (after_push old.log call (at_first old.start))
+    (subst (λ (v : DiskState). (now_on_disk v).may_leave c) is may)
 
 -- ---- no call
 
@@ -147,7 +144,7 @@ unmoved step old new is none =
 pub stays : (old new : DiskState) → new ≡ old → Stays (disk_of old) (disk_of new)
 stays old new is = record {
   runs = unmoved Same old new is (λ c. refl);
-  reads = ap (λ (v : DiskState). (now_standing v).reads) is;
+  reads = ap (λ (v : DiskState). (now_on_disk v).reads) is;
 }
 
 -- ---- a call that may be refused memory

@@ -1,6 +1,5 @@
 -- One step after another.
-use Rattle.std.proofs.Common.{ℕ, ◌≤◌, inl, inr, ◌⊎◌, arith}
-use Rattle.outside.specs.Disk.{Image, Disk, Runs}
+use Rattle.outside.proofs.Prelude.{ℕ, ◌≤◌, inl, inr, ◌⊎◌, arith, Image, Disk, Runs}
 
 widen_since : {step wider : Image → Image → Type 0} (old new : Disk) (c : Image) (t : ℕ)
     → ((d e : Image) → step d e → wider d e)

@@ -16,7 +16,7 @@ pub record Disk : Type 1 where
   -- what a crash at some moment from that one on might have left, during a call or between two
   pub left_since : ℕ → Image → Type 0
 
--- Time goes on: what a crash may leave now stands in this relation to what one might have left before, and a crash
+-- Time goes on: what a crash may leave now is in this relation to what one might have left before, and a crash
 -- since an earlier moment might have left what one before might have left, or such an image.
 pub record Runs (step : Image → Image → Type 0) (old new : Disk) : Type 0 where
   pub later : old.moment ≤ new.moment
@@ -44,11 +44,11 @@ pub record InFile (file : ℕ) (change : List ℕ → List ℕ → Type 0) (d c 
   pub here : change (d file) (c file)
   pub others : (k : ℕ) → k ≢ file → c k ≡ d k
 
--- a file that a piece was written into, from a place within it on or at its end
+-- a file that a piece was written into, from an offset within it on or at its end
 abbrev pub Wrote : (at : ℕ) (piece old new : List ℕ) → Type 0
 Wrote at piece old new = new ≡ take at old ++ piece ++ drop (at + length piece) old
 
--- what a crash may leave of a write of n bytes: any bytes in its range and behind the old end, and a length up to its
+-- what a crash may leave of a write of n bytes: any bytes in its range and after the old end, and a length up to its
 -- end
 pub record Torn (at n : ℕ) (d c : List ℕ) : Type 0 where
   pub before : take (min at (length d)) c ≡ take (min at (length d)) d
@@ -56,12 +56,12 @@ pub record Torn (at n : ℕ) (d c : List ℕ) : Type 0 where
   pub no_shorter : length d ≤ length c
   pub no_longer : length c ≤ max (length d) (at + n)
 
--- what a crash may leave of a cut to n bytes: any bytes behind them, and a length down to n
+-- what a crash may leave of a cut to n bytes: any bytes after them, and a length down to n
 pub record CutShort (n : ℕ) (d c : List ℕ) : Type 0 where
   pub before : take (min n (length d)) c ≡ take (min n (length d)) d
   pub no_shorter : min n (length d) ≤ length c
   pub no_longer : length c ≤ length d
 
--- of a volume that tells nothing
+-- of a volume that reports nothing
 abbrev pub untold : Disk
 untold = record { reads = λ _. []; may_leave = λ _. ⊥; moment = 0; left_since = λ _ _. ⊥ }

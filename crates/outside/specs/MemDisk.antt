@@ -1,4 +1,4 @@
--- A disk in memory, as the list of its calls: by it the disk tells what a crash might have left at each moment.
+-- A disk in memory, as the list of its calls: by it the disk reports what a crash might have left at each moment.
 use Rattle.std.specs.Prelude.{◌≡◌, ℕ, ◌+◌, ◌-◌, ◌<◌, ◌≤◌, ◌==◌, Bool, true, false, if◌then◌else◌, List, [], ◌∷◌, ◌++◌}
 use Rattle.std.specs.Prelude.{length, take, drop, map, slice_index_or, replicate}
 use Rattle.std.specs.Global.{Vec}
@@ -28,12 +28,12 @@ abbrev pub with_file : (file : ℕ) → (List ℕ → List ℕ) → Image → Im
 with_file file change image = λ k. if k == file then change (image k) else image k
 
 -- what is read, and what a crash may leave
-pub record Standing : Type 1 where
+pub record Remaining : Type 1 where
   pub reads : Image
   pub may_leave : Image → Type 0
 
 -- a call that failed changes nothing that is read, and counts its range
-abbrev pub after_call : Call → Standing → Standing
+abbrev pub after_call : Call → Remaining → Remaining
 after_call (Write file at piece done) s = record {
   reads = if done then with_file file (written 0 at piece.items) s.reads else s.reads;
   may_leave = λ c. (d : Image) × s.may_leave d × InFile file (Torn at (length piece.items)) d c;
@@ -55,28 +55,28 @@ AreOfFiles (call ∷ calls) = IsOfFile call × AreOfFiles calls
 
 -- ---- all calls
 
-abbrev pub after_calls : List Call → Standing → Standing
+abbrev pub after_calls : List Call → Remaining → Remaining
 after_calls [] s = s
 after_calls (call ∷ calls) s = after_calls calls (after_call call s)
 
-abbrev pub at_first : List (List ℕ) → Standing
+abbrev pub at_first : List (List ℕ) → Remaining
 at_first start = record { reads = image_of start; may_leave = λ c. c ≡ image_of start }
 
--- behind the first so many calls
-abbrev pub standing : DiskState → ℕ → Standing
-standing disk n = after_calls (take n disk.log) (at_first disk.start)
+-- after the first so many calls
+abbrev pub remaining : DiskState → ℕ → Remaining
+remaining disk n = after_calls (take n disk.log) (at_first disk.start)
 
--- behind all of them
-abbrev pub now_standing : DiskState → Standing
-now_standing disk = after_calls disk.log (at_first disk.start)
+-- after all of them
+abbrev pub now_on_disk : DiskState → Remaining
+now_on_disk disk = after_calls disk.log (at_first disk.start)
 
 -- a moment is a number of calls
 abbrev pub disk_of : DiskState → Disk
 disk_of disk = record {
-  reads = (now_standing disk).reads;
-  may_leave = (now_standing disk).may_leave;
+  reads = (now_on_disk disk).reads;
+  may_leave = (now_on_disk disk).may_leave;
   moment = length disk.log;
-  left_since = λ t c. (n : ℕ) × (t ≤ n) × (n ≤ length disk.log) × (standing disk n).may_leave c;
+  left_since = λ t c. (n : ℕ) × (t ≤ n) × (n ≤ length disk.log) × (remaining disk n).may_leave c;
 }
 
 -- ---- a crash that fills with one byte
@@ -86,7 +86,7 @@ pub record FileLeft : Type 0 where
   pub reads : List ℕ
   pub left : List ℕ
 
--- n bytes of a file are filled from a place on
+-- n bytes of a file are filled from an offset on
 abbrev pub fill_range : (fill at n : ℕ) → List ℕ → List ℕ
 fill_range fill at n old = written fill at (replicate n fill) old
 

@@ -6,8 +6,8 @@ use Rattle.std.proofs.Common.{◌-◌}
 use Rattle.std.proofs.lemmas.List.{length-replicate, take-append-le, take-take, take_all, drop_at}
 use Rattle.std.proofs.lemmas.Bool.Decides.{nat_tests}
 use Rattle.outside.specs.Disk.{Image, InFile, Torn, CutShort}
-use Rattle.outside.specs.MemDisk.{DiskState, Standing, written, with_file, after_call, after_calls, at_first}
-use Rattle.outside.specs.MemDisk.{now_standing, disk_of}
+use Rattle.outside.specs.MemDisk.{DiskState, Remaining, written, with_file, after_call, after_calls, at_first}
+use Rattle.outside.specs.MemDisk.{now_on_disk, disk_of}
 use Rattle.outside.specs.declared.call.Call.{Call}
 use Rattle.outside.specs.declared.call.Call.TheVariants.{Write, Cut, Sync}
 
@@ -50,14 +50,14 @@ module _ (gap at : ℕ) (piece old : List ℕ) where
   abbrev pub gaps : List ℕ
   gaps = replicate (at - length old) gap
 
-  abbrev pub behind : List ℕ
-  behind = drop (at + length piece) old
+  abbrev pub following : List ℕ
+  following = drop (at + length piece) old
 
-  abbrev pub front : List ℕ
-  front = (take at old ++ gaps) ++ piece
+  abbrev pub prefix : List ℕ
+  prefix = (take at old ++ gaps) ++ piece
 
-  length-front : length front ≡ at + length piece
-  length-front = omega (
+  length-prefix : length prefix ≡ at + length piece
+  length-prefix = omega (
     arith,
     length-append (take at old ++ gaps) piece,
     length-append
@@ -68,19 +68,19 @@ module _ (gap at : ℕ) (piece old : List ℕ) where
 
   pub length-written : length (written gap at piece old) ≡ max (length old) (at + length piece)
   length-written =
-      omega (arith, length-append front behind, length-front, length-drop (at + length piece) old)
+      omega (arith, length-append prefix following, length-prefix, length-drop (at + length piece) old)
 
   -- the same for any bytes of the piece's length
   pub torn_piece : Torn at (length piece) old (written gap at piece old)
   torn_piece =
       let m = min at (length old) in
       record {
-        before = take-append-le m front behind (omega (arith, length-front))
+        before = take-append-le m prefix following (omega (arith, length-prefix))
             ∙ take-append-le m (take at old ++ gaps) piece
             (omega (arith, length-append (take at old) gaps, length-take {A = ℕ}))
             ∙ take-append-le m (take at old) gaps (omega (arith, length-take {A = ℕ}))
             ∙ take-take m at old (omega arith);
-        after = drop_at front behind (at + length piece) length-front;
+        after = drop_at prefix following (at + length piece) length-prefix;
         no_shorter = omega (arith, length-written);
         no_longer = omega (arith, length-written);
       }
@@ -97,7 +97,7 @@ cut_by size old = record {
 
 -- ---- what is read is among what a crash may leave
 
-reads_after_call : (call : Call) (s : Standing) → s.may_leave s.reads
+reads_after_call : (call : Call) (s : Remaining) → s.may_leave s.reads
     → (after_call call s).may_leave (after_call call s).reads
 reads_after_call (Write file at piece true) s may = (
   s.reads,
@@ -111,12 +111,12 @@ reads_after_call (Cut file size true) s may =
 reads_after_call (Cut file size false) s may = (s.reads, may, uncut file size s.reads)
 reads_after_call Sync s may = refl
 
-reads_after_calls : (calls : List Call) (s : Standing) → s.may_leave s.reads
+reads_after_calls : (calls : List Call) (s : Remaining) → s.may_leave s.reads
     → (after_calls calls s).may_leave (after_calls calls s).reads
 reads_after_calls [] s may = may
 reads_after_calls (call ∷ calls) s may = reads_after_calls calls (after_call call s) (reads_after_call call s may)
 
-pub reads_now : (disk : DiskState) → (now_standing disk).may_leave (now_standing disk).reads
+pub reads_now : (disk : DiskState) → (now_on_disk disk).may_leave (now_on_disk disk).reads
 reads_now disk = reads_after_calls disk.log (at_first disk.start) refl
 
 -- ---- the laws of the clock
@@ -124,11 +124,11 @@ reads_now disk = reads_after_calls disk.log (at_first disk.start) refl
 pub now_counts : (disk : DiskState) (t : ℕ) (c : Image) → t ≤ length disk.log → (disk_of disk).may_leave c
     → (disk_of disk).left_since t c
 now_counts disk t c before may =
-    let whole : take (length disk.log) disk.log ≡ disk.log = take_all (length disk.log) disk.log (omega arith) in (
+    let entire : take (length disk.log) disk.log ≡ disk.log = take_all (length disk.log) disk.log (omega arith) in (
       length disk.log,
       before,
       omega arith,
-      subst (λ (l : List Call). (after_calls l (at_first disk.start)).may_leave c) (sym whole) may,
+      subst (λ (l : List Call). (after_calls l (at_first disk.start)).may_leave c) (sym entire) may,
     )
 
 pub only_now : (disk : DiskState) (c : Image) → (disk_of disk).left_since (length disk.log) c

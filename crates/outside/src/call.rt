@@ -14,6 +14,6 @@ pub(crate) enum Call {
         size: u64,
         done: bool,
     },
-    /// What stood in the files was kept.
+    /// What the files held was kept.
     Sync,
 }

@@ -10,7 +10,7 @@ use std::fs::Files;
 /// The files `image0`, `image1`, `journal0` and `journal1` of the directory `ledger-store`, in that order. A file that
 /// isn't there has no bytes, is passed over by a sync, and is made, with the directory, by the first write or cut. A
 /// sync reaches the files, the directory where a file was made since the last one, and the directory's parent where
-/// the directory was. Each error of the system is a fault, and so is a read that gives no byte. It tells nothing of
+/// the directory was. Each error of the system is a fault, and so is a read that gives no byte. It reports nothing of
 /// its bytes.
 #[derive(Drop)]
 pub struct DirVolume<R: Files> {
@@ -19,7 +19,7 @@ pub struct DirVolume<R: Files> {
 }
 
 impl<R: Files> DirVolume<R> {
-    /// The files as they stand in the working directory.
+    /// The files as they are in the working directory.
     pub fn new(system: R) -> DirVolume<R>
         ensures { ⟦<DirVolume<R> as Volume>⟧.faults result ≡ 0 }
     {
@@ -39,13 +39,13 @@ impl<R: Files> DirVolume<R> {
 }
 
 impl<R: Files> Volume for DirVolume<R> {
-    ghost tells = { ⊥ };
+    ghost reports = { ⊥ };
 
     ghost disk = { λ _. untold };
 
     ghost faults = { λ v. v.faults };
 
-    ghost reads_now = { λ v told. absurd told };
+    ghost reads_now = { λ v reported. absurd reported };
 
     ghost now_counts = { λ v t c before now. absurd now };
 

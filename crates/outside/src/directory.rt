@@ -23,7 +23,7 @@ fn path_of(file: u8) -> &'static str {
 #[derive(Drop)]
 pub(crate) struct Directory<R: Files> {
     system: R,
-    // A handle stays open from a write to its sync, since an error may be told to it alone.
+    // A handle stays open from a write to its sync, since an error may be reported to it alone.
     image0: Option<R::File>,
     image1: Option<R::File>,
     journal0: Option<R::File>,
@@ -122,7 +122,7 @@ impl<R: Files> Directory<R> {
         }
     }
 
-    // Syncs what stands under a name, if anything does.
+    // Syncs what exists under a name, if anything does.
     fn keep_name(&self, path: &str) -> io::Result<()> {
         match OpenOptions::new().read(true).open(&self.system, path) {
             Ok(found) => found.sync_all(),

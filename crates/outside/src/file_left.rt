@@ -104,7 +104,7 @@ impl FileLeft {
     }
 }
 
-// What a crash leaves of a file that held these bytes at first, behind these calls.
+// What a crash leaves of a file that held these bytes at first, after these calls.
 pub(crate) fn file_left(
     alloc: Global,
     fill: u8,

@@ -1,7 +1,7 @@
-//! A place that a worker passes before each merge.
+//! A point that a worker passes before each merge.
 
-/// What a worker passes before each merge that it makes, of level `level` and begun at ledger `seq`. It tells nothing:
-/// a test uses it to hold a worker.
+/// What a worker passes before each merge that it makes, of level `level` and begun at ledger `seq`. It reports
+/// nothing: a test uses it to hold a worker.
 pub trait Gate: Sync {
     /// Returns once the worker may go on.
     fn pass(&self, level: u32, seq: u32);

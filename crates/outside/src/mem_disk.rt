@@ -2,7 +2,7 @@ ghost use Rattle.std.specs.Prelude.{◌≡◌, ◌<◌, ◌≤◌, ◌≢◌, []
 ghost use Rattle.std.specs.Prelude.{OnErr, IsTrue};
 ghost use Rattle.outside.specs.Disk.{Image, Runs, Same, InFile, Torn, Wrote, CutShort, IsSafe};
 ghost use Rattle.outside.specs.MemDisk as spec;
-ghost use Rattle.outside.specs.MemDisk.{image_of, items_of, written, with_file, disk_of, now_standing, after_call};
+ghost use Rattle.outside.specs.MemDisk.{image_of, items_of, written, with_file, disk_of, now_on_disk, after_call};
 ghost use Rattle.outside.specs.MemDisk.{filled};
 
 use crate::call::Call;
@@ -20,14 +20,14 @@ pub(crate) struct MemDisk {
 
 impl Model for MemDisk {
     ghost use Rattle.std.specs.Prelude.{◌≡◌};
-    ghost use Rattle.outside.specs.MemDisk.{DiskState, items_of, image_of, now_standing, AreOfFiles};
+    ghost use Rattle.outside.specs.MemDisk.{DiskState, items_of, image_of, now_on_disk, AreOfFiles};
 
     ghost Value = { DiskState };
 
     ghost view = { λ d. record { start = items_of d.start; log = d.log.items } };
 
     ghost invariant = { λ d. AreOfFiles d.log.items × (image_of (items_of d.files)
-        ≡ (now_standing (record { start = items_of d.start; log = d.log.items })).reads) };
+        ≡ (now_on_disk (record { start = items_of d.start; log = d.log.items })).reads) };
 }
 
 // A file with a piece in it, and with the byte `gap` between where it ended and where the piece begins.
@@ -83,7 +83,7 @@ impl MemDisk {
     // Notes a call that changes nothing that is read.
     fn note(&mut self, call: Call) -> Result<(), AllocError>
         requires file { spec.IsOfFile call }
-        requires reads { (after_call call (now_standing self.old)).reads ≡ (now_standing self.old).reads }
+        requires reads { (after_call call (now_on_disk self.old)).reads ≡ (now_on_disk self.old).reads }
         ensures noted { OnOk result (self.new ≡ record self.old { log = self.old.log ++ call ∷ [] }) }
         ensures refused { OnErr result (self.new ≡ self.old) }
     {
@@ -95,8 +95,8 @@ impl MemDisk {
     fn put(&mut self, call: Call, file: u8, next: Vec<u8>) -> Result<(), AllocError>
         requires file { file < 4 }
         requires call { spec.IsOfFile call }
-        requires reads { (after_call call (now_standing self.old)).reads
-            ≡ with_file file (λ _. next.items) (now_standing self.old).reads }
+        requires reads { (after_call call (now_on_disk self.old)).reads
+            ≡ with_file file (λ _. next.items) (now_on_disk self.old).reads }
         ensures noted { OnOk result (self.new ≡ record self.old { log = self.old.log ++ call ∷ [] }) }
         ensures refused { OnErr result (self.new ≡ self.old) }
     {
@@ -152,12 +152,12 @@ impl MemDisk {
         if !done {
             return self.note(call);
         }
-        let (front, _) = self.file(file).split_at(size as usize);
-        let next = Vec::from_slice(alloc, front)?;
+        let (prefix, _) = self.file(file).split_at(size as usize);
+        let next = Vec::from_slice(alloc, prefix)?;
         self.put(call, file, next)
     }
 
-    // Keeps what stands in the files.
+    // Keeps what the files hold.
     pub(crate) fn sync(&mut self) -> Result<(), AllocError>
         ensures safe { OnOk result (IsSafe (disk_of self.new)) }
         ensures runs { Runs Same (disk_of self.old) (disk_of self.new) }

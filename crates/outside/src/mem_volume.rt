@@ -7,15 +7,15 @@ ghost use Rattle.outside.specs.MemLaws.{reads_now, now_counts, only_now};
 
 use crate::call_plan::CallPlan;
 use crate::failed::Failed;
-use crate::front::copy_front;
 use crate::mem_disk::MemDisk;
+use crate::prefix::copy_prefix;
 use crate::volume::Volume;
 use std::alloc::{AllocError, Global};
 use std::marker::Model;
 
-/// A volume in memory, for tests. It keeps the list of its writes, cuts and syncs, by which it tells what a crash
-/// might have left at each moment, and fails where it is told to. Each call of the five counts, from 1 on. A growth
-/// that memory refuses is a fault.
+/// A volume in memory, for tests. It keeps the list of its writes, cuts and syncs, by which it reports what a crash
+/// might have left at each moment, and fails at chosen calls. Each call of the five counts, from 1 on. A growth that
+/// memory refuses is a fault.
 #[derive(Drop)]
 pub struct MemVolume {
     alloc: Global,
@@ -50,7 +50,7 @@ impl MemVolume {
         MemVolume::fail_at(alloc, Vec::new(alloc))
     }
 
-    /// A volume of empty files. The calls whose numbers, counted from 1, stand in `calls` fail.
+    /// A volume of empty files. The calls whose numbers, counted from 1, are in `calls` fail.
     pub fn fail_at(alloc: Global, calls: Vec<u64>) -> MemVolume
         ensures empty { (disk_of result.disk).reads ≡ (λ _. []) }
         ensures safe { IsSafe (disk_of result.disk) }
@@ -66,7 +66,7 @@ impl MemVolume {
         }
     }
 
-    /// A volume of empty files. Each call behind the first `calls` fails.
+    /// A volume of empty files. Each call after the first `calls` fails.
     pub fn stop_after(alloc: Global, calls: u64) -> MemVolume
         ensures empty { (disk_of result.disk).reads ≡ (λ _. []) }
         ensures safe { IsSafe (disk_of result.disk) }
@@ -111,14 +111,14 @@ impl MemVolume {
         self.disk.file(file)
     }
 
-    /// How many calls have failed so far. It stands still at 2^64 - 1.
+    /// How many calls have failed so far. It stops at 2^64 - 1.
     pub fn faults(&self) -> u64
         ensures { result ≡ self.now.faults }
     {
         self.plan.faults()
     }
 
-    // Counts one more call, which fails where its number stands in the plan, or where none is left. That is a fault.
+    // Counts one more call, which fails where its number is in the plan, or where none is left. That is a fault.
     fn begin_call(&mut self) -> Result<(), Failed>
         ensures disk { self.new.disk ≡ self.old.disk }
         ensures cause { HasCause self.old.faults self.new.faults result }
@@ -151,7 +151,7 @@ impl MemVolume {
 }
 
 impl Volume for MemVolume {
-    ghost tells = { Unit {0} };
+    ghost reports = { Unit {0} };
 
     ghost disk = { λ v. disk_of v.disk };
 
@@ -176,7 +176,7 @@ impl Volume for MemVolume {
             Ok(()) => {}
         }
         let (_, left) = self.disk.file(file).split_at(at as usize);
-        Ok(copy_front(left, buf))
+        Ok(copy_prefix(left, buf))
     }
 
     fn write_at(&mut self, file: u8, at: u64, piece: &[u8]) -> Result<(), Failed> {

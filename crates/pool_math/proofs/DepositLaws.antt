@@ -12,7 +12,7 @@ use Rattle.wide_math.specs.Root.{IsRoot, square_root}
 use Rattle.pool_math.specs.declared.deposits.Deposited.{Deposited}
 use Rattle.pool_math.specs.Calls.{IsUnsigned, numbers_of, AnswersDeposit}
 use Rattle.pool_math.specs.Parts.{signed}
-use Rattle.pool_math.specs.Pools.{Deposit, greatest, shares_for, asked_for, later_deposit, deposited, IsWhole}
+use Rattle.pool_math.specs.Pools.{Deposit, greatest, shares_for, asked_for, later_deposit, deposited, AreFilledOrEmpty}
 use Rattle.pool_math.specs.Laws.{IsFairDeposit}
 
 -- the root of a product of two numbers of 63 bits has 63 bits
@@ -114,11 +114,11 @@ later_is reserve_a reserve_b total max_a max_b some = elim (nat_eq total 0) as (
     past none = omega arith
 
 pub first_answers : (a b total max_a max_b : ℤ) (d : Deposited) → total ≡ pos 0 → pos 1 ≤ℤ max_a → pos 1 ≤ℤ max_b
-    → IsWhole (unsigned_abs a) (unsigned_abs b) (unsigned_abs total)
+    → AreFilledOrEmpty (unsigned_abs a) (unsigned_abs b) (unsigned_abs total)
     → IsRoot (unsigned_abs max_a * unsigned_abs max_b) (unsigned_abs d.shares)
     → unsigned_abs d.shares ≡ square_root (unsigned_abs max_a * unsigned_abs max_b) → pos 0 ≤ℤ d.shares
     → d.a ≡ max_a → d.b ≡ max_b → AnswersDeposit a b total max_a max_b (Some d)
-first_answers a b total max_a max_b d none some_a some_b whole root function no_debt all_a all_b =
+first_answers a b total max_a max_b d none some_a some_b filled root function no_debt all_a all_b =
     let no_total : unsigned_abs total ≡ 0 = ap unsigned_abs none in
     let most_a : unsigned_abs d.a ≡ unsigned_abs max_a = ap unsigned_abs all_a in
     let most_b : unsigned_abs d.b ≡ unsigned_abs max_b = ap unsigned_abs all_b in (
@@ -126,7 +126,7 @@ first_answers a b total max_a max_b d none some_a some_b whole root function no_
       first_is (unsigned_abs a) (unsigned_abs b) (unsigned_abs total) (unsigned_abs max_a) (unsigned_abs max_b)
           (numbers_of d) no_total function most_a most_b,
       first_fair (unsigned_abs a) (unsigned_abs b) (unsigned_abs total) (unsigned_abs max_a) (unsigned_abs max_b)
-          (numbers_of d) (whole.a.1 no_total) (whole.b.1 no_total) (omega (arith, ints))
+          (numbers_of d) (filled.a.1 no_total) (filled.b.1 no_total) (omega (arith, ints))
           (omega (arith, ints)) most_a most_b,
       record { shares = no_debt; a = above d.a max_a all_a some_a; b = above d.b max_b all_b some_b },
       record { fits = λ some. absurd (past no_total some) },

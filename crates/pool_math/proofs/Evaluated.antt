@@ -9,7 +9,7 @@ gives x y put given = nat_eq (given_for x y put) given
 abbrev takes : (x y want taken : ℕ) → Bool
 takes x y want taken = nat_eq (taken_for x y want) taken
 
--- the pool is told by its reserves and its shares, then come the maxima; then shares and amounts
+-- the pool is given by its reserves and its shares, then come the maxima; then shares and amounts
 abbrev deposits : ℕ × ℕ × ℕ → ℕ × ℕ → ℕ × ℕ × ℕ → Bool
 deposits pool most asked =
     let d = later_deposit pool.0 pool.1 pool.2 most.0 most.1 in

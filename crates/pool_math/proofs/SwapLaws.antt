@@ -26,7 +26,7 @@ given_grows x put given rest most = omega arith
 given_product : (x y put given : ℕ) → given < y → given * (10000 * x + 9970 * put) ≤ 9970 * y * put
     → x * y ≤ (x + put) * (y - given)
 given_product x y put given left =
-    subst (λ (whole : ℕ). given * (10000 * x + 9970 * put) ≤ 9970 * whole * put → x * whole ≤ (x + put) * (y - given))
+    subst (λ (sum : ℕ). given * (10000 * x + 9970 * put) ≤ 9970 * sum * put → x * sum ≤ (x + put) * (y - given))
     (add-sub_of_le (omega arith)) (given_grows x put given (y - given))
 
 pub given_swapped : (x y put : ℕ) → 1 ≤ x → 1 ≤ y → IsSwapped x y put (given_for x y put)
@@ -56,7 +56,7 @@ taken_grows x taken want rest some least = omega arith
 taken_product : (x y want : ℕ) → want < y → x * y ≤ (x + taken_for x y want) * (y - want)
 unfolding taken_for
 taken_product x y want left =
-    subst (λ (whole : ℕ). x * whole ≤ (x + taken_for x y want) * (y - want)) (add-sub_of_le (omega arith))
+    subst (λ (sum : ℕ). x * sum ≤ (x + taken_for x y want) * (y - want)) (add-sub_of_le (omega arith))
     (taken_grows x (taken_for x y want) want (y - want) (omega arith)
     (lt-div-mul-add {a = 10000 * x * want + ((y - want) * 9970 - 1)} {b = (y - want) * 9970} (omega arith)))
 

@@ -81,7 +81,7 @@ pub record CanDeposit (reserve_a reserve_b total max_a max_b : ℕ) : Type 0 whe
   pub fits : 1 ≤ total → min (shares_for reserve_a total max_a) (shares_for reserve_b total max_b) ≤ greatest
 
 -- a pool that has something of both assets, and shares, or nothing of any
-pub record IsWhole (reserve_a reserve_b total : ℕ) : Type 0 where
+pub record AreFilledOrEmpty (reserve_a reserve_b total : ℕ) : Type 0 where
   pub a : (reserve_a ≡ 0 → total ≡ 0) × (total ≡ 0 → reserve_a ≡ 0)
   pub b : (reserve_b ≡ 0 → total ≡ 0) × (total ≡ 0 → reserve_b ≡ 0)
 

@@ -4,7 +4,7 @@ ghost use Rattle.std.specs.Prelude.{◌≡◌, ◌*◌, ◌<◌, ◌≤◌, ◌^
 ghost use Rattle.std.specs.Option.{SomeIff};
 ghost use Rattle.wide_math.specs.Root.{IsRoot, square_root};
 ghost use Rattle.pool_math.specs.Pools as spec;
-ghost use Rattle.pool_math.specs.Pools.{IsWhole, greatest};
+ghost use Rattle.pool_math.specs.Pools.{AreFilledOrEmpty, greatest};
 ghost use Rattle.pool_math.specs.Laws.{IsFairDeposit};
 ghost use Rattle.pool_math.specs.Calls.{AnswersDeposit};
 ghost use Rattle.pool_math.specs.Parts.{signed};
@@ -79,16 +79,15 @@ fn later_deposit(a: u64, b: u64, total: u64, max_a: u64, max_b: u64) -> Option<D
 }
 
 /// The deposit of at most `max_a` and `max_b`, each at least 1, into a pool that has `a` and `b` of its assets and
-/// `total`
-/// shares, either all above 0 or all 0. `None` comes exactly where there are shares, and what either asset would give
-/// exceeds the greatest i64.
+/// `total` shares, either all above 0 or all 0. `None` comes exactly where there are shares, and what either asset
+/// would give exceeds the greatest i64.
 pub fn deposit(a: i64, b: i64, total: i64, max_a: i64, max_b: i64) -> Option<Deposited>
     requires a { pos 0 ≤ℤ a }
     requires b { pos 0 ≤ℤ b }
     requires total { pos 0 ≤ℤ total }
     requires max_a { pos 1 ≤ℤ max_a }
     requires max_b { pos 1 ≤ℤ max_b }
-    requires whole { IsWhole (unsigned_abs a) (unsigned_abs b) (unsigned_abs total) }
+    requires filled { AreFilledOrEmpty (unsigned_abs a) (unsigned_abs b) (unsigned_abs total) }
     ensures { AnswersDeposit a b total max_a max_b result }
 {
     if total == 0 {

@@ -1,39 +1,21 @@
 -- What a change of one entry leaves of the others.
-use Rattle.std.proofs.Common.{◌≡◌, ◌≢◌, refl, sym, ap, ◌∙◌, ℕ, Option, Some, None}
-use Rattle.std.specs.Prelude.{ℤ}
-use Rattle.std.specs.FinMap.{get}
-use Rattle.ledger_types.specs.declared.ids.AccountId.{AccountId}
-use Rattle.ledger_types.specs.declared.ids.Hash.{Hash}
-use Rattle.ledger_types.specs.declared.asset.TrustLineAsset.{TrustLineAsset}
-use Rattle.ledger_types.specs.declared.account.AccountEntry.{AccountEntry}
-use Rattle.ledger_types.specs.declared.trust_line.TrustLineEntry.{TrustLineEntry}
-use Rattle.ledger_types.specs.declared.liquidity_pool.LiquidityPoolEntry.{LiquidityPoolEntry}
-use Rattle.ledger_types.specs.declared.entry.LedgerEntry.{LedgerEntry}
-use Rattle.ledger_types.specs.declared.entry.LedgerEntryBody.{LedgerEntryBody}
+use Rattle.pool_shares.proofs.Prelude as prelude
+use prelude.{◌≡◌, ◌≢◌, refl, sym, ap, ◌∙◌, ℕ, Option, Some, None, ℤ, get, AccountId, Hash, TrustLineAsset, AccountEntry}
+use prelude.{TrustLineEntry, LiquidityPoolEntry, LedgerEntry, LedgerEntryBody, LedgerKey, key_of_body, EntryMap}
+use prelude.{with_account, with_account_in, with_account_of, sponsor_of, with_line, with_line_in, with_line_of}
+use prelude.{pool_slot_of, pool_slot_at, with_pool, with_pool_in, with_pool_of, with_less, map_after_releasing}
+use prelude.{without_subentry, with_less_paid, map_without_charge, map_after_removing_entry, map_after_removing}
+use prelude.{IsKeyed, paid, keyed_put, line_paid, paying, erase_elsewhere, put_elsewhere}
 use Rattle.ledger_types.specs.declared.entry.LedgerEntryBody.TheVariants as body
-use Rattle.ledger_types.specs.declared.key.LedgerKey.{LedgerKey}
 use Rattle.ledger_types.specs.declared.key.LedgerKey.TheVariants as key
-use Rattle.ledger_types.specs.Keys.{key_of_body}
-use Rattle.entry_map.specs.EntryMap.{EntryMap}
-use Rattle.entry_slots.specs.Accounts.{with_account, with_account_in, with_account_of}
-use Rattle.entry_slots.specs.EntrySponsor.{sponsor_of}
-use Rattle.entry_slots.specs.Lines.{with_line, with_line_in, with_line_of}
-use Rattle.entry_slots.specs.Pools.{pool_slot_of, pool_slot_at, with_pool, with_pool_in, with_pool_of}
-use Rattle.trade_cross.proofs.entry_sums_proofs.Lookups.{put_elsewhere, erase_elsewhere, erase_each}
+use Rattle.trade_cross.proofs.entry_sums_proofs.Lookups.{erase_each}
 use Rattle.sponsor_rules.specs.declared.charge.Charge.{Charge}
 use Rattle.sponsor_rules.specs.declared.charge.Charge.TheVariants as charge
 use Rattle.sponsor_rules.specs.declared.count.Count.TheVariants.{SubEntries, Sponsoring, Sponsored}
 use Rattle.sponsor_rules.specs.Charge.{charge_of}
-use Rattle.sponsor_rules.specs.Counting.{with_less}
-use Rattle.sponsor_rules.specs.Paying.{map_after_releasing, without_subentry, with_less_paid}
-use Rattle.sponsor_rules.specs.Removing.{map_without_charge, map_after_removing_entry, map_after_removing}
-use Rattle.sponsor_rules.proofs.Keeping.{with_count_means}
-use Rattle.trade_cross.specs.legal_rules.Holdings.{IsKeyed}
-use Rattle.trade_cross.specs.legal_rules.Payments.{paid}
-use Rattle.trade_cross.proofs.legal_rules_proofs.Leaving.{keyed_put}
-use Rattle.trade_cross.specs.Holdings.{line_paid, paying}
+use Rattle.sponsor_rules.proofs.Keeping.{with_count_core}
 
--- ---- what stands of pools beside a line
+-- ---- pools stay when a line changes
 
 pools_by : (m : EntryMap) (f : TrustLineEntry → TrustLineEntry) (pool : Hash) (e : LedgerEntry) (b : LedgerEntryBody)
     → get (with_line_in m e f b) (key.LiquidityPool pool) ≡ get m (key.LiquidityPool pool)
@@ -181,17 +163,17 @@ IsNoAccount q = (id : AccountId) → q ≢ key.Account id
 less_paid : (k : ℕ) (sponsor : Option AccountId) (a : AccountEntry)
     → (with_less_paid k sponsor a).account_id ≡ a.account_id
 less_paid k None a = refl
-less_paid k (Some sponsor) a = (with_count_means Sponsored _ a).id
+less_paid k (Some sponsor) a = (with_count_core Sponsored _ a).id
 
 fewer : (k : ℕ) (sponsor : Option AccountId) (a : AccountEntry)
     → (without_subentry k sponsor a).account_id ≡ a.account_id
-fewer k sponsor a = less_paid k sponsor (with_less SubEntries k a) ∙ (with_count_means SubEntries _ a).id
+fewer k sponsor a = less_paid k sponsor (with_less SubEntries k a) ∙ (with_count_core SubEntries _ a).id
 
 releasing_beside : (k : ℕ) (sponsor : Option AccountId) (m : EntryMap) → IsKeyed m → (q : LedgerKey) → IsNoAccount q
     → get (map_after_releasing k sponsor m) q ≡ get m q
 releasing_beside k None m keyed q plain = refl
 releasing_beside k (Some sponsor) m keyed q plain =
-    account_beside m keyed sponsor (with_less Sponsoring k) (λ a. (with_count_means Sponsoring _ a).id) q
+    account_beside m keyed sponsor (with_less Sponsoring k) (λ a. (with_count_core Sponsoring _ a).id) q
     (plain sponsor)
 
 releasing_keyed : (k : ℕ) (sponsor : Option AccountId) (m : EntryMap) → IsKeyed m

@@ -1,38 +1,17 @@
 -- What counting a line of shares leaves: no account changes, and nothing is held that wasn't.
-use Rattle.std.proofs.Common.{◌≡◌, refl, sym, ap, subst, ◌∙◌, ℕ, Option, Some, None}
-use Rattle.std.specs.FinMap.{get}
-use Rattle.std.specs.Prelude.{ℤ}
-use Rattle.ledger_types.specs.declared.ids.AccountId.{AccountId}
-use Rattle.ledger_types.specs.declared.ids.Hash.{Hash}
-use Rattle.ledger_types.specs.declared.asset.Asset.{Asset}
-use Rattle.ledger_types.specs.declared.asset.PoolParams.{PoolParams}
-use Rattle.ledger_types.specs.declared.asset.TrustLineAsset.{TrustLineAsset}
-use Rattle.ledger_types.specs.declared.trust_line.TrustLineEntry.{TrustLineEntry}
-use Rattle.ledger_types.specs.declared.liquidity_pool.LiquidityPoolEntry.{LiquidityPoolEntry}
-use Rattle.ledger_types.specs.declared.entry.LedgerEntry.{LedgerEntry}
-use Rattle.ledger_types.specs.declared.entry.LedgerEntryBody.{LedgerEntryBody}
+use Rattle.pool_shares.proofs.Prelude as prelude
+use prelude.{◌≡◌, refl, sym, ap, subst, ◌∙◌, ℕ, Option, Some, None, get, ℤ, AccountId, Hash, Asset, PoolParams}
+use prelude.{TrustLineAsset, TrustLineEntry, LiquidityPoolEntry, LedgerEntry, LedgerEntryBody, LedgerKey, key_of_body}
+use prelude.{EntryMap, put, line_in, line_of, line_at, with_line_in, with_line_of, with_line, pool_in, pool_of, pool_at}
+use prelude.{with_pool_in, with_pool_of, with_pool, part, IsKeyed, none_more, needed_line, with_uses, map_with_uses_at}
+use prelude.{map_with_uses, with_lines, map_with_lines, map_with_share_lines, held, with_pool_body, IsPoolEntry}
+use prelude.{pool_entry, put_beside, put_same, Leaves, leaves_itself, keeps_both, accounts_kept, keyed_put, line_kept}
+use prelude.{with_pool_is}
 use Rattle.ledger_types.specs.declared.entry.LedgerEntryBody.TheVariants as body
-use Rattle.ledger_types.specs.declared.key.LedgerKey.{LedgerKey}
 use Rattle.ledger_types.specs.declared.key.LedgerKey.TheVariants as key
-use Rattle.ledger_types.specs.Keys.{key_of_body}
-use Rattle.entry_map.specs.EntryMap.{EntryMap, put}
-use Rattle.entry_slots.specs.Lines.{line_in, line_of, line_at, with_line_in, with_line_of, with_line}
-use Rattle.entry_slots.specs.Pools.{pool_in, pool_of, pool_at, with_pool_in, with_pool_of, with_pool}
-use Rattle.trade_cross.specs.entry_sums.Sums.{part}
-use Rattle.trade_cross.specs.legal_rules.Holdings.{IsKeyed, none_more}
-use Rattle.trade_cross.specs.legal_rules.PoolShares.{needed_line}
-use Rattle.trade_cross.specs.legal_rules.ShareLaws.{with_uses, map_with_uses_at, map_with_uses, with_lines}
-use Rattle.trade_cross.specs.legal_rules.ShareLaws.{map_with_lines}
-use Rattle.trade_cross.specs.legal_rules.ShareLaws.{map_with_share_lines}
-use Rattle.trade_cross.specs.legal_rules.Supply.{held, held_in}
-use Rattle.trade_cross.proofs.legal_rules_proofs.Changed.{with_pool_body, IsPoolEntry, pool_entry}
-use Rattle.trade_cross.proofs.legal_rules_proofs.ChargesLeft.{put_beside}
-use Rattle.trade_cross.proofs.legal_rules_proofs.Holdings.{put_same}
-use Rattle.trade_cross.proofs.legal_rules_proofs.Leaving.{Leaves, leaves_itself, keeps_both, accounts_kept, keyed_put}
-use Rattle.trade_cross.proofs.legal_rules_proofs.LinesLeft.{line_kept}
-use Rattle.trade_cross.proofs.PoolsLegal.{with_pool_is}
+use Rattle.trade_cross.specs.legal_rules.Supply.{held_in}
 
--- ---- what doesn't stand isn't changed
+-- ---- what doesn't exist isn't changed
 
 no_line_in : (m : EntryMap) (e : LedgerEntry) (change : TrustLineEntry → TrustLineEntry) (b : LedgerEntryBody)
     → line_in b ≡ None → with_line_in m e change b ≡ m

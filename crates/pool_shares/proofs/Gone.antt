@@ -1,34 +1,19 @@
 -- What is left legal where an account's line of a pool's shares is removed, with the pool that has no line then.
-use Rattle.std.proofs.Common.{◌≡◌, refl, sym, ap, subst, ◌∙◌, ℕ, Bool, true, false, Option, Some, None}
-use Rattle.std.specs.Prelude.{ℤ, pos, neg_ℤ, if◌then◌else◌}
-use Rattle.ledger_types.specs.declared.ids.AccountId.{AccountId}
-use Rattle.ledger_types.specs.declared.ids.Hash.{Hash}
+use Rattle.pool_shares.proofs.Prelude as prelude
+use prelude.{◌≡◌, refl, sym, ap, subst, ◌∙◌, ℕ, Bool, true, false, Option, Some, None, ℤ, pos, neg_ℤ, if◌then◌else◌}
+use prelude.{AccountId, Hash, TrustLineEntry, LiquidityPoolEntry, EntryMap, erase, line_at, pool_at, map_after_removing}
+use prelude.{View, pools_in, nothing_owed, IsLegalOwing, Pools, map_with_share_lines, pool_entry, pool_erased}
+use prelude.{share_line_gone, has_no_line, map_without_bare_pool, map_without_share_line, int_eq_true}
 use Rattle.ledger_types.specs.declared.asset.TrustLineAsset.TheVariants as line
-use Rattle.ledger_types.specs.declared.trust_line.TrustLineEntry.{TrustLineEntry}
-use Rattle.ledger_types.specs.declared.liquidity_pool.LiquidityPoolEntry.{LiquidityPoolEntry}
 use Rattle.ledger_types.specs.declared.key.LedgerKey.TheVariants as key
-use Rattle.entry_map.specs.EntryMap.{EntryMap, erase}
-use Rattle.entry_slots.specs.Lines.{line_at}
-use Rattle.entry_slots.specs.Pools.{pool_at}
-use Rattle.sponsor_rules.specs.Removing.{map_after_removing}
-use Rattle.trade_cross.specs.legal_rules.Books.{View}
-use Rattle.trade_cross.specs.legal_rules.Legal.{pools_in}
-use Rattle.trade_cross.specs.legal_rules.Owing.{nothing_owed, IsLegalOwing}
-use Rattle.trade_cross.specs.legal_rules.PoolShares.{Pools}
-use Rattle.trade_cross.specs.legal_rules.ShareLaws.{map_with_share_lines}
-use Rattle.trade_cross.proofs.legal_rules_proofs.Changed.{pool_entry}
-use Rattle.trade_cross.proofs.legal_rules_proofs.Liable.{int_same}
-use Rattle.trade_cross.proofs.legal_rules_proofs.PoolsKept.{pool_erased}
-use Rattle.trade_cross.proofs.legal_rules_proofs.ShareLinesKept.{share_line_gone}
-use Rattle.pool_shares.specs.ShareLines.{has_no_line, map_without_bare_pool, map_without_share_line}
 
 module _ (v : View) (id_pool : ℕ) (sum : ℤ) where
-  -- legal, with the pools that stand
+  -- legal, with the pools that exist
   abbrev pub IsLegalNow : EntryMap → Type 0
   IsLegalNow m = IsLegalOwing (record v { pools = pools_in m }) id_pool nothing_owed sum m
 
-  pub as_it_stands : (m : EntryMap) → IsLegalOwing v id_pool nothing_owed sum m → IsLegalNow m
-  as_it_stands m legal =
+  pub when_nothing_owed : (m : EntryMap) → IsLegalOwing v id_pool nothing_owed sum m → IsLegalNow m
+  when_nothing_owed m legal =
       let known : pools_in m ≡ v.pools = λ i id. legal.params id i in
       subst (λ (p : Pools). IsLegalOwing (record v { pools = p }) id_pool nothing_owed sum m) (sym known) legal
 
@@ -40,8 +25,8 @@ module _ (v : View) (id_pool : ℕ) (sum : ℤ) where
         let found = pool_entry m pool p is in
         pool_erased v id_pool sum m pool found.0 p legal
         (found.1.there ∙ ap Some (λ i. record found.0 { body = found.1.is i }))
-        (int_same p.pool_shares_trust_line_count (pos 0) none)
-    bare_by o is false none = as_it_stands m legal
+        (int_eq_true p.pool_shares_trust_line_count (pos 0) none)
+    bare_by o is false none = when_nothing_owed m legal
 
     -- without a pool that has no line
     pub bare_legal : IsLegalNow (map_without_bare_pool pool m)
@@ -51,7 +36,7 @@ module _ (v : View) (id_pool : ℕ) (sum : ℤ) where
   pub gone_legal : (id : AccountId) (pool : Hash) (t : TrustLineEntry) (p : LiquidityPoolEntry) (m : EntryMap)
       → IsLegalOwing v id_pool nothing_owed sum m → line_at m id (line.PoolShare pool) ≡ Some t → t.balance ≡ pos 0
       → pool_at m pool ≡ Some p → IsLegalNow (map_without_share_line id pool p.params m)
-  gone_legal id pool t p m legal stands empty pool_stands =
+  gone_legal id pool t p m legal exists empty pool_exists =
       bare_legal (map_with_share_lines (neg_ℤ (pos 1)) id pool p.params
       (map_after_removing (key.TrustLine id (line.PoolShare pool)) m))
-      (share_line_gone v id_pool sum id pool t p m legal stands empty pool_stands) pool
+      (share_line_gone v id_pool sum id pool t p m legal exists empty pool_exists) pool

@@ -1,48 +1,23 @@
 -- What is left of accounts and amounts where a line of a pool's shares is removed, with the pool that has no line then.
-use Rattle.std.proofs.Common.{◌≡◌, refl, sym, ap, subst, ◌∙◌, ℕ, ◌≤◌, Bool, true, false, Option, Some, None, arith}
-use Rattle.std.proofs.lemmas.Int.{ints}
-use Rattle.std.specs.FinMap.{get}
-use Rattle.std.specs.Prelude.{ℤ, pos, neg_ℤ, ◌+ℤ◌, if◌then◌else◌}
-use Rattle.ledger_types.specs.declared.ids.AccountId.{AccountId}
-use Rattle.ledger_types.specs.declared.ids.Hash.{Hash}
-use Rattle.ledger_types.specs.declared.account.AccountEntry.{AccountEntry}
-use Rattle.ledger_types.specs.declared.asset.Asset.{Asset}
+use Rattle.pool_shares.proofs.Prelude as prelude
+use prelude.{◌≡◌, refl, sym, ap, subst, ◌∙◌, ℕ, ◌≤◌, Bool, true, false, Option, Some, None, arith, ints, get, ℤ, pos}
+use prelude.{neg_ℤ, ◌+ℤ◌, if◌then◌else◌, AccountId, Hash, AccountEntry, Asset, TrustLineEntry, LiquidityPoolEntry}
+use prelude.{LedgerEntry, LedgerKey, EntryMap, erase, account_at, sponsor_of, line_at, pool_at, total, part}
+use prelude.{without_subentry, map_after_discounting, map_after_removing, map_after_removing_entry, View, none_more}
+use prelude.{view, nothing_owed, IsLegalOwing, AreEntriesLegal, map_with_share_lines, held, discharged_kept}
+use prelude.{erased_kept, pool_entry, still_holds, Leaves, leaves_itself, keeps_both, line_entry, with_line_body}
+use prelude.{line_named, pool_erased, share_line_gone, has_no_line, map_without_bare_pool, map_without_share_line}
+use prelude.{int_eq_true}
 use Rattle.ledger_types.specs.declared.asset.Asset.TheVariants as asset
 use Rattle.ledger_types.specs.declared.asset.TrustLineAsset.TheVariants as line
-use Rattle.ledger_types.specs.declared.trust_line.TrustLineEntry.{TrustLineEntry}
-use Rattle.ledger_types.specs.declared.liquidity_pool.LiquidityPoolEntry.{LiquidityPoolEntry}
-use Rattle.ledger_types.specs.declared.entry.LedgerEntry.{LedgerEntry}
 use Rattle.ledger_types.specs.declared.entry.LedgerEntryBody.TheVariants as body
-use Rattle.ledger_types.specs.declared.key.LedgerKey.{LedgerKey}
 use Rattle.ledger_types.specs.declared.key.LedgerKey.TheVariants as key
-use Rattle.entry_map.specs.EntryMap.{EntryMap, erase}
-use Rattle.entry_slots.specs.Accounts.{account_at}
-use Rattle.entry_slots.specs.EntrySponsor.{sponsor_of}
-use Rattle.entry_slots.specs.Lines.{line_at}
-use Rattle.entry_slots.specs.Pools.{pool_at}
-use Rattle.trade_cross.specs.entry_sums.Sums.{total, part}
 use Rattle.trade_cross.proofs.entry_sums_proofs.Summing.{total_erase}
-use Rattle.sponsor_rules.specs.Paying.{without_subentry}
-use Rattle.sponsor_rules.specs.Removing.{map_after_discounting, map_after_removing, map_after_removing_entry}
-use Rattle.trade_cross.specs.legal_rules.Books.{View}
-use Rattle.trade_cross.specs.legal_rules.Holdings.{none_more}
-use Rattle.trade_cross.specs.legal_rules.Legal.{view}
-use Rattle.trade_cross.specs.legal_rules.Owing.{nothing_owed, IsLegalOwing, AreEntriesLegal}
-use Rattle.trade_cross.specs.legal_rules.ShareLaws.{map_with_share_lines}
-use Rattle.trade_cross.specs.legal_rules.Supply.{held, held_in}
-use Rattle.trade_cross.proofs.legal_rules_proofs.ChargesLeft.{discharged_kept, erased_kept}
-use Rattle.trade_cross.proofs.legal_rules_proofs.Changed.{pool_entry}
-use Rattle.trade_cross.proofs.legal_rules_proofs.Holdings.{still_holds}
-use Rattle.trade_cross.proofs.legal_rules_proofs.Leaving.{Leaves, leaves_itself, keeps_both}
+use Rattle.trade_cross.specs.legal_rules.Supply.{held_in}
 use Rattle.trade_cross.proofs.legal_rules_proofs.Legality.{view_of, owing_of}
-use Rattle.trade_cross.proofs.legal_rules_proofs.Liable.{int_same, line_entry, with_line_body}
-use Rattle.trade_cross.proofs.legal_rules_proofs.LinesLeft.{line_named}
 use Rattle.trade_cross.proofs.legal_rules_proofs.PaidFor.{nothing_settled}
-use Rattle.trade_cross.proofs.legal_rules_proofs.PoolsKept.{pool_erased}
 use Rattle.trade_cross.proofs.legal_rules_proofs.Removing.{owns}
-use Rattle.trade_cross.proofs.legal_rules_proofs.ShareLinesKept.{share_line_gone}
 use Rattle.trade_cross.proofs.legal_rules_proofs.Subentries.{subentry_of}
-use Rattle.pool_shares.specs.ShareLines.{has_no_line, map_without_bare_pool, map_without_share_line}
 use Rattle.pool_shares.proofs.Counted.{counts_left}
 
 -- ---- the line
@@ -63,10 +38,10 @@ module _ (v : View) (id_pool : ℕ) (sum : ℤ) (base : ℕ) (m : EntryMap)
     its = with_line_body e (of_shares id pool was)
 
     had_two : (a : AccountEntry) → account_at m id ≡ Some a → 2 ≤ a.num_sub_entries
-    had_two a stands =
+    had_two a exists =
         let own = owns v id_pool nothing_owed sum m legal nothing_settled id 2 its_key its there
         (subentry_of its.body id 2 refl) in
-        let also = own.stands in
+        let also = own.exists in
         let same : own.account ≡ a = cc in
         subst (λ (b : AccountEntry). 2 ≤ b.num_sub_entries) same own.enough
 
@@ -117,7 +92,7 @@ module _ (base : ℕ) (m new : EntryMap) (pool : Hash) (first : Leaves base none
 -- An empty line is removed, and the pool that has no line then: no account changes, and nothing is held that wasn't.
 module _ (id_pool base : ℕ) (m : EntryMap) (legal : AreEntriesLegal id_pool m) (id : AccountId) (pool : Hash)
     (t : TrustLineEntry) (p : LiquidityPoolEntry) (has : line_at m id (line.PoolShare pool) ≡ Some t)
-    (empty : t.balance ≡ pos 0) (stands : pool_at m pool ≡ Some p) where
+    (empty : t.balance ≡ pos 0) (exists : pool_at m pool ≡ Some p) where
   abbrev counted : EntryMap
   counted = map_with_share_lines (neg_ℤ (pos 1)) id pool p.params
       (map_after_removing (key.TrustLine id (line.PoolShare pool)) m)
@@ -125,7 +100,7 @@ module _ (id_pool base : ℕ) (m : EntryMap) (legal : AreEntriesLegal id_pool m)
   module _ (x : Asset) where
     counted_legal : IsLegalOwing (view_of x m) id_pool nothing_owed (total (held x) m) counted
     counted_legal = share_line_gone (view_of x m) id_pool (total (held x) m) id pool t p m (owing_of x id_pool m legal)
-        has empty stands
+        has empty exists
 
     bare_empty : (q : LiquidityPoolEntry) → pool_at counted pool ≡ Some q → has_no_line (Some q) ≡ true
         → held_in x (body.LiquidityPool q) ≡ pos 0
@@ -134,7 +109,7 @@ module _ (id_pool base : ℕ) (m : EntryMap) (legal : AreEntriesLegal id_pool m)
         let at = key.LiquidityPool pool in
         let erased = pool_erased (view_of x m) id_pool (total (held x) m) counted pool found.0 q counted_legal
         (found.1.there ∙ ap Some (λ i. record found.0 { body = found.1.is i }))
-        (int_same q.pool_shares_trust_line_count (pos 0) none) in
+        (int_eq_true q.pool_shares_trust_line_count (pos 0) none) in
         sym (ap (part (held x)) found.1.there ∙ ap (held_in x) found.1.is)
         ∙ nothing_taken (total (held x) (erase counted at)) (part (held x) (get counted at)) (total (held x) counted)
         (total (held x) m) (total_erase (held x) counted at) erased.supply counted_legal.supply

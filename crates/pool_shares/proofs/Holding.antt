@@ -1,35 +1,22 @@
 -- The pools of an account among entries, by its lines in the order of keys.
-use Rattle.std.proofs.Common.{◌≡◌, ◌≢◌, refl, sym, ap, ◌∙◌, arith, Bool, true, false, ◌<◌}
-use Rattle.std.proofs.Common.{List, [], ◌∷◌, ◌++◌, append-nil, append_assoc, length, All, Option, Some, None, IfSome}
-use Rattle.std.specs.List.{cons_option}
-use Rattle.std.specs.Prelude.{if◌then◌else◌}
-use Rattle.std.specs.declared.cmp.Ordering.{Ordering}
-use Rattle.std.specs.declared.cmp.Ordering.TheVariants.{Less, Equal, Greater}
-use Rattle.std.specs.Ordering.{ordering_reverse, ordering_then}
+use Rattle.pool_shares.proofs.Prelude as prelude
+use prelude.{◌≡◌, ◌≢◌, refl, sym, ap, ◌∙◌, arith, Bool, true, false, ◌<◌, List, [], ◌∷◌, ◌++◌, append-nil, append_assoc}
+use prelude.{length, All, Option, Some, None, IfSome, cons_option, if◌then◌else◌, Less, Equal, Greater, ordering_then}
+use prelude.{get, entries, All-head, All-tail, AccountId, Hash, TrustLineAsset, LedgerEntry, LedgerEntryBody, LedgerKey}
+use prelude.{key_of, key_of_body, line_cmp, key_cmp, EntryMap, IsLeastAbove, IsNextAfter, is_same_account, same_account}
+use prelude.{AreKeyed, line_held, left, held_in, IsNextLine, IsAheadOfShares}
 use Rattle.std.specs.Cmp.{tied_itself}
-use Rattle.std.specs.FinMap.{get, entries}
-use Rattle.std.proofs.lemmas.List.Elements.{All-head, All-tail}
 use Rattle.std.proofs.lemmas.Cmp.{nat_list_cmp_total}
-use Rattle.ledger_types.specs.declared.ids.AccountId.{AccountId}
-use Rattle.ledger_types.specs.declared.ids.Hash.{Hash}
-use Rattle.ledger_types.specs.declared.asset.TrustLineAsset.{TrustLineAsset}
 use Rattle.ledger_types.specs.declared.asset.TrustLineAsset.TheVariants as line
-use Rattle.ledger_types.specs.declared.entry.LedgerEntry.{LedgerEntry}
-use Rattle.ledger_types.specs.declared.entry.LedgerEntryBody.{LedgerEntryBody}
 use Rattle.ledger_types.specs.declared.entry.LedgerEntryBody.TheVariants as body
-use Rattle.ledger_types.specs.declared.key.LedgerKey.{LedgerKey}
 use Rattle.ledger_types.specs.declared.key.LedgerKey.TheVariants as key
-use Rattle.ledger_types.specs.Keys.{key_of, key_of_body}
-use Rattle.ledger_types.specs.KeyOrder.{account_cmp, line_cmp, key_cmp}
-use Rattle.entry_map.specs.EntryMap.{EntryMap, IsKeyed, IsLeastAbove, IsNextAfter}
-use Rattle.sponsor_rules.specs.Payers.{is_same_account}
-use Rattle.sponsor_rules.proofs.Ids.{same_account, is_itself}
-use Rattle.trade_cross.specs.legal_rules.Holdings.{IsKeyed as AreKeyed}
+use Rattle.entry_map.specs.EntryMap.{IsKeyed}
+use Rattle.sponsor_rules.proofs.Ids.{is_itself}
 use Rattle.trade_cross.specs.offer_book.Sold.{above}
 use Rattle.trade_cross.proofs.offer_book_proofs.Above.{Pairs, skipped, taken, nothing_left, next_left}
-use Rattle.trade_cross.proofs.offer_book_proofs.Selling.{same_account as same_by_order, IsOwn, all_own}
+use Rattle.trade_cross.proofs.offer_book_proofs.Selling.{IsOwn, all_own}
 use Rattle.pool_shares.specs.AccountPools.{pool_in_line, pool_held_by, pools_held_by}
-use Rattle.pool_shares.specs.Held.{line_held, left, held_in, IsNextLine, IsAheadOfShares}
+use Rattle.ledger_types.proofs.KeyOrdering.{same_from_both_orders}
 
 -- ---- one entry
 
@@ -51,7 +38,7 @@ held_first : (id : AccountId) (x : LedgerKey × LedgerEntry) (xs : Pairs) (o : O
 held_first id x xs o is =
     ap (λ p. cons_option p (held_in id xs)) (pool_by_line id x.1.body ∙ ap pool_of_line is)
 
--- a line of an account stands under its key
+-- a line of an account is under its key
 line_of : (id : AccountId) (t : LedgerEntryBody) (account : AccountId) (asset held : TrustLineAsset) (b : Bool)
     → is_same_account account id ≡ b → (if b then Some asset else None) ≡ Some held
     → key.TrustLine account asset ≡ key.TrustLine id held
@@ -66,7 +53,7 @@ line_under id (body.TrustLine t) held is =
     line_of id (body.TrustLine t) t.account_id t.asset held (is_same_account t.account_id id) refl is
 line_under id other held is = absurd (cc)
 
--- what is no line of an account stands under none of its lines' keys ..
+-- what is no line of an account is under none of its lines' keys ..
 under_none : (id : AccountId) (b : LedgerEntryBody) (x : TrustLineAsset) → line_held id b ≡ None
     → key_of_body b ≢ key.TrustLine id x
 under_none id (body.TrustLine t) x none is =
@@ -80,7 +67,7 @@ under_none id (body.Data a) x none is = absurd (cc)
 under_none id (body.ClaimableBalance a) x none is = absurd (cc)
 under_none id (body.LiquidityPool a) x none is = absurd (cc)
 
--- .. and what stands under none of them is no line of it
+-- .. and what is under none of them is no line of it
 none_if : (b : Bool) (asset : TrustLineAsset) → b ≢ true → (if b then Some asset else None) ≡ None
 none_if true asset not = absurd (not refl)
 none_if false asset not = refl
@@ -91,34 +78,25 @@ none_under id k (body.TrustLine t) own never = none_if (is_same_account t.accoun
     (λ same. never t.asset (sym own ∙ ap (λ a. key.TrustLine a t.asset) (same_account t.account_id id same)))
 none_under id k other own never = refl
 
--- ---- the keys of an account's lines stand side by side
-
-between : (s a : AccountId) (x y : Ordering) → ordering_then (account_cmp s a) x ≡ Less
-    → ordering_then (account_cmp a s) y ≡ Less → a ≡ s
-between s a x y up down = elim (account_cmp s a) as (λ r. account_cmp s a ≡ r → ordering_then r x ≡ Less → a ≡ s) [
-  | Less ↦ λ e _. absurd
-      (cc (down, ap (λ r. ordering_then r y) (nat_list_cmp_total.antisymm a.0 s.0 ∙ ap ordering_reverse e)))
-  | Equal ↦ λ e _. sym (same_by_order s a e)
-  | Greater ↦ λ _ g. absurd (cc)
-] refl up
+-- ---- the keys of an account's lines are side by side
 
 side_by_side : (s : AccountId) (i j : TrustLineAsset) (q : LedgerKey) → key_cmp (key.TrustLine s i) q ≡ Less
     → key_cmp q (key.TrustLine s j) ≡ Less → (x : TrustLineAsset) × (q ≡ key.TrustLine s x)
 side_by_side s i j (key.TrustLine a l) up down =
-    (l, ap (λ b. key.TrustLine b l) (between s a (line_cmp i l) (line_cmp l j) up down))
+    (l, ap (λ b. key.TrustLine b l) (same_from_both_orders s a (line_cmp i l) (line_cmp l j) up down))
 side_by_side s i j (key.Account a) up down = absurd (cc)
 side_by_side s i j (key.Offer a l) up down = absurd (cc)
 side_by_side s i j (key.Data a n) up down = absurd (cc)
 side_by_side s i j (key.ClaimableBalance b) up down = absurd (cc)
 side_by_side s i j (key.LiquidityPool b) up down = absurd (cc)
 
--- behind a key that is none of the account's lines' there are none of its lines
-none_behind : (s : AccountId) (i : TrustLineAsset) (q : LedgerKey) (es : Pairs) → All IsOwn es
+-- after a key that is none of the account's lines' there are none of its lines
+none_after : (s : AccountId) (i : TrustLineAsset) (q : LedgerKey) (es : Pairs) → All IsOwn es
     → key_cmp (key.TrustLine s i) q ≡ Less → ((x : TrustLineAsset) → q ≢ key.TrustLine s x)
     → held_in s (above q es) ≡ []
-none_behind s i q [] own up never = refl
-none_behind s i q (x ∷ xs) own up never =
-    let later = none_behind s i q xs (All-tail IsOwn x xs own) up never in
+none_after s i q [] own up never = refl
+none_after s i q (x ∷ xs) own up never =
+    let later = none_after s i q xs (All-tail IsOwn x xs own) up never in
     elim (key_cmp q x.0) as (λ r. key_cmp q x.0 ≡ r → held_in s (above q (x ∷ xs)) ≡ []) [
       | Less ↦ λ lt. ap (held_in s) (taken q x xs lt)
           ∙ held_first s x (above q xs) None (none_under s x.0 x.1.body (All-head IsOwn x xs own)
@@ -145,7 +123,7 @@ other_next : (m : EntryMap) (s : AccountId) (i : TrustLineAsset) (e : LedgerEntr
 other_next m s i e least none keyed =
     ap (held_in s) (next_left m (key.TrustLine s i) e least)
     ∙ held_first s (key_of e, e) (above (key_of e) (entries m)) None none
-    ∙ none_behind s i (key_of e) (entries m) (all_own m (own_keys m keyed)) least.above
+    ∙ none_after s i (key_of e) (entries m) (all_own m (own_keys m keyed)) least.above
     (λ x. under_none s e.body x none)
 
 some_next : (m : EntryMap) (s : AccountId) (i : TrustLineAsset) (e : LedgerEntry) (next : TrustLineAsset)

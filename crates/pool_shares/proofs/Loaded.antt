@@ -1,15 +1,10 @@
--- What stands under the key of a slot that was loaded.
-use Rattle.std.proofs.Common.{◌≡◌, refl, sym, ap, ◌∙◌, Option, Some, None}
-use Rattle.std.specs.FinMap.{get}
-use Rattle.ledger_types.specs.declared.ids.AccountId.{AccountId}
-use Rattle.ledger_types.specs.declared.asset.TrustLineAsset.{TrustLineAsset}
-use Rattle.ledger_types.specs.declared.entry.LedgerEntry.{LedgerEntry}
-use Rattle.ledger_types.specs.declared.entry.LedgerEntryBody.{LedgerEntryBody}
+-- What is under the key of a slot that was loaded.
+use Rattle.pool_shares.proofs.Prelude.{◌≡◌, refl, sym, ap, ◌∙◌, Option, Some, None, get, AccountId, TrustLineAsset}
+use Rattle.pool_shares.proofs.Prelude.{LedgerEntry, LedgerEntryBody, EntryMap, line_in, line_of, line_at, line_slot_by}
+use Rattle.pool_shares.proofs.Prelude.{line_slot_of, line_slot_at, line_of_slot}
 use Rattle.ledger_types.specs.declared.entry.LedgerEntryBody.TheVariants as body
 use Rattle.ledger_types.specs.declared.key.LedgerKey.TheVariants as key
-use Rattle.entry_map.specs.EntryMap.{EntryMap}
 use Rattle.entry_slots.specs.declared.lines.LineSlot.{LineSlot}
-use Rattle.entry_slots.specs.Lines.{line_in, line_of, line_at, line_slot_by, line_slot_of, line_slot_at, line_of_slot}
 pub use Rattle.trade_cross.proofs.PoolsLegal.{pool_loaded}
 
 line_by : (e : LedgerEntry) (b : LedgerEntryBody) → line_in b ≡ line_of_slot (line_slot_by e b)

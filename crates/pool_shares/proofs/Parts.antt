@@ -1,20 +1,14 @@
 -- Shares that are given back for their part of a pool leave it filled, or empty with the last of them.
-use Rattle.std.proofs.Common.{◌≡◌, ◌⊎◌, inl, inr, refl, ap, ℕ, ◌<◌, ◌≤◌, true, false, arith}
-use Rattle.std.proofs.lemmas.Int.{ints}
-use Rattle.std.specs.Prelude.{ℤ, pos, neg_ℤ, ◌+ℤ◌, ◌≤ℤ◌, ◌<ℤ◌, int_lt, unsigned_abs}
-use Rattle.ledger_types.specs.declared.ids.AccountId.{AccountId}
-use Rattle.ledger_types.specs.declared.ids.Hash.{Hash}
+use Rattle.pool_shares.proofs.Prelude.{◌≡◌, ◌⊎◌, inl, inr, refl, ap, ℕ, ◌<◌, ◌≤◌, true, false, arith, ints, ℤ, pos}
+use Rattle.pool_shares.proofs.Prelude.{neg_ℤ, ◌+ℤ◌, ◌≤ℤ◌, ◌<ℤ◌, int_lt, unsigned_abs, AccountId, Hash, TrustLineEntry}
+use Rattle.pool_shares.proofs.Prelude.{LiquidityPoolEntry, line_liabilities, IsFilledOrEmpty, IsLegalLine, Part}
+use Rattle.pool_shares.proofs.Prelude.{part_of, with_change, sub_natural_positive, sub_nonnegative}
+use Rattle.pool_shares.proofs.Prelude.{unsigned_abs_at_most}
 use Rattle.ledger_types.specs.declared.asset.TrustLineAsset.TheVariants as line
-use Rattle.ledger_types.specs.declared.trust_line.TrustLineEntry.{TrustLineEntry}
-use Rattle.ledger_types.specs.declared.liquidity_pool.LiquidityPoolEntry.{LiquidityPoolEntry}
 use Rattle.ledger_types.specs.declared.entry.LedgerEntryBody.TheVariants as body
-use Rattle.entry_slots.specs.LineExtensions.{line_liabilities}
 use Rattle.pool_math.specs.Laws.{IsFairWithdrawal}
 use Rattle.pool_math.specs.Pools.{withdrawn}
 use Rattle.pool_math.proofs.WithdrawalLaws.{withdrawn_fair}
-use Rattle.trade_cross.specs.legal_rules.Bounds.{IsFilledOrEmpty}
-use Rattle.trade_cross.proofs.legal_rules_proofs.LinesLeft.{IsLegalLine}
-use Rattle.pool_shares.specs.Withdrawing.{Part, part_of, with_change}
 use Rattle.pool_shares.proofs.Sharing.{CanShare}
 use Rattle.pool_shares.proofs.Sound.{IsLegalPool}
 
@@ -31,9 +25,6 @@ all_or_less x y le = elim (int_lt x y) as (λ b. int_lt x y ≡ b → (x ≡ y) 
   | true ↦ λ is. inr (less_of x y is)
   | false ↦ λ is. inl (same_of x y is le)
 ] refl
-
-numbers_within : (x y : ℤ) → pos 0 ≤ℤ x → x ≤ℤ y → unsigned_abs x ≤ unsigned_abs y
-numbers_within x y low le = omega (arith, ints)
 
 numbers_less : (x y : ℤ) → pos 0 ≤ℤ x → x <ℤ y → unsigned_abs x < unsigned_abs y
 numbers_less x y low less = omega (arith, ints)
@@ -52,12 +43,6 @@ part_all b n low all = omega (arith, ints)
 
 part_none : (b : ℤ) (n : ℕ) → b ≡ pos 0 → n ≤ unsigned_abs b → (b +ℤ neg_ℤ (pos n)) ≡ pos 0
 part_none b n none le = omega (arith, ints)
-
-part_less : (b : ℤ) (n : ℕ) → pos 0 ≤ℤ b → n < unsigned_abs b → pos 0 <ℤ (b +ℤ neg_ℤ (pos n))
-part_less b n low less = omega (arith, ints)
-
-stays_low : (b n : ℤ) → n ≤ℤ b → pos 0 ≤ℤ (b +ℤ neg_ℤ n)
-stays_low b n le = omega (arith, ints)
 
 shares_all : (b n : ℤ) → n ≡ b → (b +ℤ neg_ℤ n) ≡ pos 0
 shares_all b n all = omega (arith, ints)
@@ -86,7 +71,7 @@ module _ (p : LiquidityPoolEntry) (shares : ℤ) (low : pos 0 ≤ℤ shares) (wi
   all = unsigned_abs p.total_pool_shares
 
   fair : (reserve : ℤ) → IsFairWithdrawal (unsigned_abs reserve) all n (withdrawn (unsigned_abs reserve) all n)
-  fair reserve = withdrawn_fair (unsigned_abs reserve) all n (numbers_within shares p.total_pool_shares low within)
+  fair reserve = withdrawn_fair (unsigned_abs reserve) all n (unsigned_abs_at_most shares p.total_pool_shares low within)
 
   abbrev left : LiquidityPoolEntry
   left = with_change (neg_ℤ (pos part.a)) (neg_ℤ (pos part.b)) (neg_ℤ shares) p
@@ -104,8 +89,8 @@ module _ (p : LiquidityPoolEntry) (shares : ℤ) (low : pos 0 ≤ℤ shares) (wi
   filled_by (inr less) (inl full) =
       let fewer = numbers_less shares p.total_pool_shares low less in
       inl (
-        part_less p.reserve_a part.a low_a ((fair p.reserve_a).some_left fewer (number_full p.reserve_a full.0)),
-        part_less p.reserve_b part.b low_b ((fair p.reserve_b).some_left fewer (number_full p.reserve_b full.1)),
+        sub_natural_positive p.reserve_a part.a low_a ((fair p.reserve_a).some_left fewer (number_full p.reserve_a full.0)),
+        sub_natural_positive p.reserve_b part.b low_b ((fair p.reserve_b).some_left fewer (number_full p.reserve_b full.1)),
         shares_less p.total_pool_shares shares less,
       )
   filled_by how (inr none) = inr (
@@ -127,7 +112,7 @@ can_withdraw id pool t p shares its was low le within =
     let part = part_of p shares in
     let fairly = fair p shares low within r.reserve_a r.reserve_b in
     record {
-      low = stays_low t.balance shares le;
+      low = sub_nonnegative t.balance shares le;
       within = in_limit t.balance (line_liabilities t).buying t.limit shares its.range.range.fits
           its.range.range.buying low;
       range = record {
@@ -136,7 +121,7 @@ can_withdraw id pool t p shares its was low le within =
         id = r.id;
         reserve_a = part_low p.reserve_a part.a r.reserve_a (fairly p.reserve_a).within;
         reserve_b = part_low p.reserve_b part.b r.reserve_b (fairly p.reserve_b).within;
-        shares = stays_low p.total_pool_shares shares within;
+        shares = sub_nonnegative p.total_pool_shares shares within;
         lines = r.lines;
       };
       filled = filled_left p shares low within r.reserve_a r.reserve_b was.filled;

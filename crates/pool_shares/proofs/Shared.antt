@@ -1,27 +1,11 @@
--- What stands of a pool and of an account's line of its shares, once these have changed.
-use Rattle.std.proofs.Common.{◌≡◌, ◌≢◌, refl, sym, ap, subst, ◌∙◌, Some}
-use Rattle.std.specs.FinMap.{get}
-use Rattle.std.specs.Prelude.{ℤ}
-use Rattle.ledger_types.specs.declared.ids.AccountId.{AccountId}
-use Rattle.ledger_types.specs.declared.ids.Hash.{Hash}
+-- What remains of a pool and of an account's line of its shares, once these have changed.
+use Rattle.pool_shares.proofs.Prelude as prelude
+use prelude.{◌≡◌, ◌≢◌, refl, sym, ap, subst, ◌∙◌, Some, get, ℤ, AccountId, Hash, TrustLineEntry, LiquidityPoolEntry}
+use prelude.{LedgerKey, key_of_body, EntryMap, put, line_of, line_at, pool_of, pool_at, IsKeyed, with_pool_body}
+use prelude.{pool_entry, line_entry, with_line_body, with_line_is, line_paid, paying, DoesFit, DoLinesFit}
+use prelude.{DoShareLinesFit, share_key, with_change, map_with_shares, put_there, with_pool_is}
 use Rattle.ledger_types.specs.declared.asset.TrustLineAsset.TheVariants as line
-use Rattle.ledger_types.specs.declared.trust_line.TrustLineEntry.{TrustLineEntry}
-use Rattle.ledger_types.specs.declared.liquidity_pool.LiquidityPoolEntry.{LiquidityPoolEntry}
-use Rattle.ledger_types.specs.declared.key.LedgerKey.{LedgerKey}
 use Rattle.ledger_types.specs.declared.key.LedgerKey.TheVariants as key
-use Rattle.ledger_types.specs.Keys.{key_of_body}
-use Rattle.entry_map.specs.EntryMap.{EntryMap, put}
-use Rattle.entry_slots.specs.Lines.{line_of, line_at}
-use Rattle.entry_slots.specs.Pools.{pool_of, pool_at}
-use Rattle.trade_cross.proofs.entry_sums_proofs.Lookups.{put_there}
-use Rattle.trade_cross.specs.legal_rules.Holdings.{IsKeyed}
-use Rattle.trade_cross.proofs.legal_rules_proofs.Changed.{with_pool_body, pool_entry}
-use Rattle.trade_cross.proofs.legal_rules_proofs.Liable.{line_entry, with_line_body, with_line_is}
-use Rattle.trade_cross.specs.Holdings.{line_paid, paying}
-use Rattle.trade_cross.specs.Places.{DoesFit}
-use Rattle.trade_cross.proofs.PoolsLegal.{with_pool_is}
-use Rattle.pool_shares.specs.Fits.{DoLinesFit, DoShareLinesFit}
-use Rattle.pool_shares.specs.Withdrawing.{share_key, with_change, map_with_shares}
 use Rattle.pool_shares.proofs.Beside.{paying_beside, paying_keyed, pool_beside, pool_keyed}
 use Rattle.pool_shares.proofs.Sharing.{pool_still}
 use Rattle.pool_shares.proofs.Uses.{IsPlain, fits_beside}
@@ -39,7 +23,7 @@ module _ (m : EntryMap) (keyed : IsKeyed m) (id : AccountId) (pool : Hash) (a b 
   pub shared_keyed : IsKeyed now
   shared_keyed = pool_keyed paid pool (with_change a b shares) paid_keyed
 
-  -- each other entry stands as it did
+  -- each other entry stays as it was
   pub shared_beside : (q : LedgerKey) → q ≢ key.LiquidityPool pool → q ≢ key.TrustLine id (line.PoolShare pool)
       → get now q ≡ get m q
   shared_beside q no_pool no_line =
@@ -60,12 +44,12 @@ module _ (m : EntryMap) (keyed : IsKeyed m) (id : AccountId) (pool : Hash) (a b 
       ∙ subst (λ q. get (put m e) q ≡ Some e) own (put_there m e) in
       ap line_of (pool_beside paid paid_keyed pool (with_change a b shares) (λ p. refl) k (λ same. absurd (cc)) ∙ there)
 
-  module _ (p : LiquidityPoolEntry) (stands : pool_at m pool ≡ Some p) where
+  module _ (p : LiquidityPoolEntry) (exists : pool_at m pool ≡ Some p) where
     pub pool_now : pool_at now pool ≡ Some (with_change a b shares p)
     unfolding pool_at
     pool_now =
         let k = key.LiquidityPool pool in
-        let found = pool_entry paid pool p (pool_still m keyed id pool shares p stands) in
+        let found = pool_entry paid pool p (pool_still m keyed id pool shares p exists) in
         let e = with_pool_body found.0 (with_change a b shares p) in
         let own : key.LiquidityPool p.pool_id ≡ k = sym (ap key_of_body found.1.is) ∙ paid_keyed k found.0 found.1.there
         in
@@ -84,4 +68,4 @@ module _ (m : EntryMap) (keyed : IsKeyed m) (id : AccountId) (pool : Hash) (a b 
         lines x there =
             let same : with_change a b shares p ≡ x = (let is : Some (with_change a b shares p) ≡ Some x =
             sym pool_now ∙ there in cc) in
-            subst (λ (q : LiquidityPoolEntry). DoesFit q.pool_shares_trust_line_count n) same (fits.lines p stands)
+            subst (λ (q : LiquidityPoolEntry). DoesFit q.pool_shares_trust_line_count n) same (fits.lines p exists)

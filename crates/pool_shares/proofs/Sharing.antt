@@ -1,39 +1,18 @@
 -- Shares of a pool that an account takes or gives back, with amounts of both assets: the state stays legal.
-use Rattle.std.proofs.Common.{◌≡◌, refl, ap, subst, ◌∙◌, ℕ, ◌%◌, Bool, true, false, Some, arith}
-use Rattle.std.proofs.lemmas.Int.{ints}
-use Rattle.std.specs.Prelude.{ℤ, pos, ◌+ℤ◌, ◌-ℤ◌, ◌≤ℤ◌, if◌then◌else◌}
-use Rattle.std.specs.Ordering.{is_eq}
-use Rattle.ledger_types.specs.declared.ids.AccountId.{AccountId}
-use Rattle.ledger_types.specs.declared.ids.Hash.{Hash}
-use Rattle.ledger_types.specs.declared.asset.Asset.{Asset}
-use Rattle.ledger_types.specs.declared.asset.TrustLineAsset.{TrustLineAsset}
+use Rattle.pool_shares.proofs.Prelude as prelude
+use prelude.{◌≡◌, refl, ap, subst, ◌∙◌, ℕ, ◌%◌, Bool, true, false, Some, arith, ints, ℤ, pos, ◌+ℤ◌, ◌-ℤ◌, ◌≤ℤ◌}
+use prelude.{if◌then◌else◌, is_eq, AccountId, Hash, Asset, TrustLineAsset, TrustLineEntry, LiquidityPoolEntry}
+use prelude.{LedgerKey, asset_cmp, EntryMap, line_liabilities, line_at, pool_of, pool_at, with_pool, IsFilledOrEmpty}
+use prelude.{Kind, Shares, ShareLines, View, in_shares, is_key, IsKeyed, none_more, under_key, nothing_owed}
+use prelude.{in_aggregate, plus, IsEntryLegal, IsLegalOwing, IsPoolInRange, of_line, line_changed, pool_changed, Leaves}
+use prelude.{leaves_as, keeps_then, IsLegalLine, line_left, line_legal, legal_as, line_paid, paying, share_key}
+use prelude.{with_change, map_with_shares, if_zeros}
 use Rattle.ledger_types.specs.declared.asset.TrustLineAsset.TheVariants as line
-use Rattle.ledger_types.specs.declared.trust_line.TrustLineEntry.{TrustLineEntry}
-use Rattle.ledger_types.specs.declared.liquidity_pool.LiquidityPoolEntry.{LiquidityPoolEntry}
 use Rattle.ledger_types.specs.declared.entry.LedgerEntryBody.TheVariants as body
-use Rattle.ledger_types.specs.declared.key.LedgerKey.{LedgerKey}
 use Rattle.ledger_types.specs.declared.key.LedgerKey.TheVariants as key
-use Rattle.ledger_types.specs.KeyOrder.{asset_cmp}
-use Rattle.entry_map.specs.EntryMap.{EntryMap}
-use Rattle.entry_slots.specs.LineExtensions.{line_liabilities}
-use Rattle.entry_slots.specs.Lines.{line_at}
-use Rattle.entry_slots.specs.Pools.{pool_of, pool_at, with_pool}
-use Rattle.trade_cross.specs.legal_rules.Bounds.{IsFilledOrEmpty}
-use Rattle.trade_cross.specs.legal_rules.Books.{Kind, Shares, ShareLines, View}
-use Rattle.trade_cross.specs.legal_rules.ChangeLaws.{in_shares}
-use Rattle.trade_cross.specs.legal_rules.EntryKeys.{is_key}
-use Rattle.trade_cross.specs.legal_rules.Holdings.{IsKeyed, none_more, under_key}
-use Rattle.trade_cross.specs.legal_rules.Owing.{nothing_owed, in_book, plus, IsEntryLegal, IsLegalOwing}
-use Rattle.trade_cross.specs.legal_rules.Ranges.{AreLineFlags, IsPoolInRange, IsTrustLineInRange}
-use Rattle.trade_cross.specs.legal_rules.Supply.{of_line}
-use Rattle.trade_cross.proofs.legal_rules_proofs.Changed.{line_changed, pool_changed}
-use Rattle.trade_cross.proofs.legal_rules_proofs.Leaving.{Leaves, leaves_as, keeps_then}
-use Rattle.trade_cross.proofs.legal_rules_proofs.LinesLeft.{IsLegalLine, line_left, line_legal}
-use Rattle.trade_cross.proofs.legal_rules_proofs.Steps.{legal_as}
-use Rattle.trade_cross.specs.Holdings.{line_paid, paying}
+use Rattle.trade_cross.specs.legal_rules.Ranges.{AreLineFlags, IsTrustLineInRange}
 pub use Rattle.trade_cross.proofs.PoolsLeft.{both_of}
 use Rattle.trade_cross.proofs.PoolsLeft.{pool_left as pool_rises}
-use Rattle.pool_shares.specs.Withdrawing.{share_key, with_change, map_with_shares}
 use Rattle.pool_shares.proofs.Beside.{paying_beside, paying_keyed}
 
 -- ---- a line of shares that is changed
@@ -72,7 +51,7 @@ shares_in_range id pool t shares its low le =
       uses = was.uses;
     }
 
--- ---- what books owe, and what is held in all
+-- ---- what aggregates owe, and what is held in all
 
 cancels : (t : Bool) (b p s : ℤ)
     → ((pos 0 +ℤ (if t then (b +ℤ s) -ℤ b else pos 0)) +ℤ ((if t then p -ℤ (p +ℤ s) else pos 0) +ℤ pos 0)) ≡ pos 0
@@ -88,11 +67,11 @@ counts_still false n = refl
 nothing_left : (pool : Hash) (held : TrustLineAsset) → held ≡ line.PoolShare pool → (b p s lines : ℤ) (kind : Kind)
     (k : LedgerKey)
     → plus (plus nothing_owed (in_shares held ((b +ℤ s) -ℤ b)))
-    (plus (in_book Shares (key.LiquidityPool pool) (p -ℤ (p +ℤ s)))
-    (in_book ShareLines (key.LiquidityPool pool) (lines -ℤ lines))) kind k ≡ nothing_owed kind k
+    (plus (in_aggregate Shares (key.LiquidityPool pool) (p -ℤ (p +ℤ s)))
+    (in_aggregate ShareLines (key.LiquidityPool pool) (lines -ℤ lines))) kind k ≡ nothing_owed kind k
 nothing_left pool held is b p s lines Shares k =
     ap (λ a. (pos 0 +ℤ in_shares a ((b +ℤ s) -ℤ b) Shares k)
-    +ℤ (in_book Shares (key.LiquidityPool pool) (p -ℤ (p +ℤ s)) Shares k +ℤ pos 0)) is
+    +ℤ (in_aggregate Shares (key.LiquidityPool pool) (p -ℤ (p +ℤ s)) Shares k +ℤ pos 0)) is
     ∙ cancels (is_key (key.LiquidityPool pool) k) b p s
 nothing_left pool held is b p s lines ShareLines k = counts_still (is_key (key.LiquidityPool pool) k) lines
 nothing_left pool held is b p s lines kind k = refl
@@ -124,12 +103,12 @@ module _ (m : EntryMap) (keyed : IsKeyed m) (id : AccountId) (pool : Hash) (shar
   abbrev line_now : EntryMap
   line_now = paying (share_key id pool) shares m
 
-  -- the pool stands as it did once the line is changed
+  -- the pool stays as it was once the line is changed
   pub pool_still : (p : LiquidityPoolEntry) → pool_at m pool ≡ Some p → pool_at line_now pool ≡ Some p
   unfolding pool_at
-  pool_still p stands =
+  pool_still p exists =
       ap pool_of (paying_beside m keyed (share_key id pool) shares (key.LiquidityPool pool) (λ same. absurd (cc)))
-      ∙ stands
+      ∙ exists
 
 module _ (v : View) (id_pool : ℕ) (sum : ℤ) (m : EntryMap) (id : AccountId) (pool : Hash) (t : TrustLineEntry)
     (p : LiquidityPoolEntry) (a b shares : ℤ) where
@@ -137,14 +116,14 @@ module _ (v : View) (id_pool : ℕ) (sum : ℤ) (m : EntryMap) (id : AccountId) 
   pub sharing_legal : IsLegalOwing v id_pool nothing_owed sum m → line_at m id (line.PoolShare pool) ≡ Some t
       → pool_at m pool ≡ Some p → CanShare t p a b shares
       → IsLegalOwing v id_pool nothing_owed (sum +ℤ both_of p a b v.asset) (map_with_shares id pool a b shares m)
-  sharing_legal legal has stands can =
+  sharing_legal legal has exists can =
       let its = line_legal v id_pool nothing_owed sum m id (line.PoolShare pool) t legal has in
       let first = line_changed v id_pool nothing_owed sum m id (line.PoolShare pool) (line_paid shares) t legal has
       (record { id = refl; asset = refl; liabilities = refl; uses = refl })
       (shares_in_range id pool t shares its can.low can.within) its.bound in
       legal_as v (IsEntryLegal id_pool) _ nothing_owed _ _ (map_with_shares id pool a b shares m)
       (pool_changed v id_pool _ _ (paying (share_key id pool) shares m) pool (with_change a b shares) p first
-      (pool_still m legal.keyed id pool shares p stands) (record { id = refl; params = refl }) can.range can.filled)
+      (pool_still m legal.keyed id pool shares p exists) (record { id = refl; params = refl }) can.range can.filled)
       (nothing_left pool t.asset its.asset t.balance p.total_pool_shares shares p.pool_shares_trust_line_count)
       (sum_so (is_eq (asset_cmp v.asset p.params.asset_a)) (is_eq (asset_cmp v.asset p.params.asset_b)) sum
       (of_line v.asset t.asset (t.balance +ℤ shares)) (of_line v.asset t.asset t.balance) p.reserve_a p.reserve_b a b
@@ -156,15 +135,11 @@ module _ (v : View) (id_pool : ℕ) (sum : ℤ) (m : EntryMap) (id : AccountId) 
 pool_left : (base : ℕ) (m : EntryMap) → IsKeyed m → (pool : Hash) (p : LiquidityPoolEntry)
     → pool_at m pool ≡ Some p → (a b shares : ℤ)
     → Leaves base (under_key (key.LiquidityPool pool) (both_of p a b)) m (with_pool m pool (with_change a b shares))
-pool_left base m keyed pool p stands a b shares = pool_rises base m keyed pool (with_change a b shares) p stands a b
+pool_left base m keyed pool p exists a b shares = pool_rises base m keyed pool (with_change a b shares) p exists a b
     (record { keeps = record { id = refl; params = refl }; first = refl; second = refl })
 
-none_in_shares : (t : Bool) → (if t then pos 0 else pos 0) ≡ pos 0
-none_in_shares true = refl
-none_in_shares false = refl
-
 module _ (base : ℕ) (m : EntryMap) (keyed : IsKeyed m) (id : AccountId) (pool : Hash) (t : TrustLineEntry)
-    (p : LiquidityPoolEntry) (has : line_at m id (line.PoolShare pool) ≡ Some t) (stands : pool_at m pool ≡ Some p)
+    (p : LiquidityPoolEntry) (has : line_at m id (line.PoolShare pool) ≡ Some t) (exists : pool_at m pool ≡ Some p)
     (a b shares : ℤ) where
   -- The account's line holds shares, and no asset.
   line_holds_none : Leaves base none_more m (paying (share_key id pool) shares m)
@@ -173,7 +148,7 @@ module _ (base : ℕ) (m : EntryMap) (keyed : IsKeyed m) (id : AccountId) (pool 
       (λ x. of_line x (line.PoolShare pool) ((t.balance +ℤ shares) -ℤ t.balance))) none_more m
       (paying (share_key id pool) shares m)
       (line_left m id (line.PoolShare pool) (line_paid shares) t has refl refl base keyed)
-      (λ k x. none_in_shares (is_key k (key.TrustLine id (line.PoolShare pool))))
+      (λ k x. if_zeros (is_key k (key.TrustLine id (line.PoolShare pool))))
 
   -- No account changes, and the pool holds so much more of both assets.
   pub sharing_left : Leaves base (under_key (key.LiquidityPool pool) (both_of p a b)) m
@@ -181,4 +156,4 @@ module _ (base : ℕ) (m : EntryMap) (keyed : IsKeyed m) (id : AccountId) (pool 
   sharing_left = keeps_then base (under_key (key.LiquidityPool pool) (both_of p a b)) m
       (paying (share_key id pool) shares m) (map_with_shares id pool a b shares m) line_holds_none
       (pool_left base (paying (share_key id pool) shares m) (paying_keyed m keyed (share_key id pool) shares) pool p
-      (pool_still m keyed id pool shares p stands) a b shares)
+      (pool_still m keyed id pool shares p exists) a b shares)

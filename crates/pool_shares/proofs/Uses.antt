@@ -1,26 +1,14 @@
--- That the counts of a line of pool shares fit, one behind another.
-use Rattle.std.proofs.Common.{◌≡◌, ◌≢◌, refl, sym, ap, subst, ◌∙◌, Option, Some, None}
-use Rattle.std.specs.Prelude.{ℤ, if◌then◌else◌, Bool, true, false}
-use Rattle.std.specs.FinMap.{get}
-use Rattle.ledger_types.specs.declared.ids.AccountId.{AccountId}
-use Rattle.ledger_types.specs.declared.ids.Hash.{Hash}
-use Rattle.ledger_types.specs.declared.asset.Asset.{Asset}
+-- That the counts of a line of pool shares fit, one after another.
+use Rattle.pool_shares.proofs.Prelude.{◌≡◌, ◌≢◌, refl, sym, ap, subst, ◌∙◌, Option, Some, None, ℤ, if◌then◌else◌, get}
+use Rattle.pool_shares.proofs.Prelude.{AccountId, Hash, Asset, PoolParams, TrustLineAsset, LedgerKey, EntryMap, line_of}
+use Rattle.pool_shares.proofs.Prelude.{line_at, pool_of, pool_at, is_same_account, map_after_removing, IsKeyed}
+use Rattle.pool_shares.proofs.Prelude.{with_uses, map_with_uses_at, map_with_uses, holder, DoUsesFitAt, DoUsesFit}
+use Rattle.pool_shares.proofs.Prelude.{DoLinesFit, DoShareLinesFit}
+use Rattle.std.specs.Prelude.{Bool, true, false}
 use Rattle.ledger_types.specs.declared.asset.Asset.TheVariants as asset
-use Rattle.ledger_types.specs.declared.asset.PoolParams.{PoolParams}
-use Rattle.ledger_types.specs.declared.asset.TrustLineAsset.{TrustLineAsset}
 use Rattle.ledger_types.specs.declared.asset.TrustLineAsset.TheVariants as line
-use Rattle.ledger_types.specs.declared.key.LedgerKey.{LedgerKey}
 use Rattle.ledger_types.specs.declared.key.LedgerKey.TheVariants as key
-use Rattle.entry_map.specs.EntryMap.{EntryMap}
-use Rattle.entry_slots.specs.Lines.{line_of, line_at}
-use Rattle.entry_slots.specs.Pools.{pool_of, pool_at}
-use Rattle.sponsor_rules.specs.Payers.{is_same_account}
-use Rattle.sponsor_rules.specs.Removing.{map_after_removing}
-use Rattle.trade_cross.specs.legal_rules.Holdings.{IsKeyed}
-use Rattle.trade_cross.specs.legal_rules.ShareLaws.{with_uses, map_with_uses_at, map_with_uses}
-use Rattle.trade_cross.specs.legal_rules.Trades.{holder}
 use Rattle.trade_cross.proofs.HoldersApart.{holders_apart}
-use Rattle.pool_shares.specs.Fits.{DoUsesFitAt, DoUsesFit, DoLinesFit, DoShareLinesFit}
 use Rattle.pool_shares.proofs.Beside.{line_beside, line_keyed, removing_beside, removing_keyed}
 
 -- ---- where an account has an asset
@@ -55,20 +43,20 @@ uses_keyed : (m : EntryMap) → IsKeyed m → (n : ℤ) (k : Option LedgerKey) �
 uses_keyed m keyed n (Some (key.TrustLine id held)) = line_keyed m id held (with_uses n) keyed
 uses_keyed m keyed n other = keyed
 
--- ---- what stands as it did
+-- ---- what stays as it was
 
--- uses fit where the line stands as it did
+-- uses fit where the line stays as it was
 fit_still : (n : ℤ) (m new : EntryMap) (k : Option LedgerKey)
     → ((q : LedgerKey) → k ≡ Some q → get new q ≡ get m q) → DoUsesFitAt n m k → DoUsesFitAt n new k
 unfolding line_at
 fit_still n m new (Some (key.TrustLine id held)) still fits =
-    λ t stands. fits t (sym (ap line_of (still (key.TrustLine id held) refl)) ∙ stands)
+    λ t exists. fits t (sym (ap line_of (still (key.TrustLine id held) refl)) ∙ exists)
 fit_still n m new other still fits = tt
 
 pub lines_still : (n : ℤ) (m new : EntryMap) (pool : Hash)
     → get new (key.LiquidityPool pool) ≡ get m (key.LiquidityPool pool) → DoLinesFit n pool m → DoLinesFit n pool new
 unfolding pool_at
-lines_still n m new pool still fits = λ p stands. fits p (sym (ap pool_of still) ∙ stands)
+lines_still n m new pool still fits = λ p exists. fits p (sym (ap pool_of still) ∙ exists)
 
 -- no account has an asset under a pool's key, or in a line of shares
 abbrev pub IsPlain : LedgerKey → Type 0
@@ -95,7 +83,7 @@ pub no_shares : (id owner : AccountId) (x : Asset) (pool : Hash)
     → holder id x ≢ Some (key.TrustLine owner (line.PoolShare pool))
 no_shares id owner x pool is = holder_plain id x (key.TrustLine owner (line.PoolShare pool)) is
 
--- ---- one count behind another
+-- ---- one count after another
 
 module _ (n : ℤ) (id : AccountId) (pool : Hash) (params : PoolParams) (m : EntryMap)
     (fits : DoShareLinesFit n id pool params m) where
@@ -121,21 +109,21 @@ module _ (n : ℤ) (id : AccountId) (pool : Hash) (params : PoolParams) (m : Ent
       ∙ uses_beside m fits.keyed n (holder id params.asset_a) (key.LiquidityPool pool) (no_pool id params.asset_a pool))
       fits.lines)
 
--- ---- counts that fit where lines and the pool stand as they did
+-- ---- counts that fit where lines and the pool stay as they were
 
 module _ (n : ℤ) (m new : EntryMap)
     (still : (owner : AccountId) (held : TrustLineAsset) → IsPlain (key.TrustLine owner held)
     → get new (key.TrustLine owner held) ≡ get m (key.TrustLine owner held)) where
-  fits_behind : (o : Option LedgerKey) → ((q : LedgerKey) → o ≡ Some q → IsPlain q) → DoUsesFitAt n m o
+  fits_after : (o : Option LedgerKey) → ((q : LedgerKey) → o ≡ Some q → IsPlain q) → DoUsesFitAt n m o
       → DoUsesFitAt n new o
   unfolding line_at
-  fits_behind (Some (key.TrustLine owner held)) plain fit = λ t stands. fit t
-      (sym (ap line_of (still owner held (plain (key.TrustLine owner held) refl))) ∙ stands)
-  fits_behind other plain fit = tt
+  fits_after (Some (key.TrustLine owner held)) plain fit = λ t exists. fit t
+      (sym (ap line_of (still owner held (plain (key.TrustLine owner held) refl))) ∙ exists)
+  fits_after other plain fit = tt
 
-  pub uses_behind : (id : AccountId) (x : Asset) → DoUsesFit n id x m → DoUsesFit n id x new
-  uses_behind id x fits = fits_needed n id x new
-      (fits_behind (holder id x) (λ q is. holder_plain id x q is) (fits_by_holder n id x m fits))
+  pub uses_after : (id : AccountId) (x : Asset) → DoUsesFit n id x m → DoUsesFit n id x new
+  uses_after id x fits = fits_needed n id x new
+      (fits_after (holder id x) (λ q is. holder_plain id x q is) (fits_by_holder n id x m fits))
 
 pub fits_beside : (n : ℤ) (id : AccountId) (pool : Hash) (params : PoolParams) (m new : EntryMap)
     → DoShareLinesFit n id pool params m → IsKeyed new
@@ -145,12 +133,12 @@ pub fits_beside : (n : ℤ) (id : AccountId) (pool : Hash) (params : PoolParams)
 fits_beside n id pool params m new fits keyed still lines = record {
   keyed = keyed;
   apart = fits.apart;
-  a = uses_behind n m new still id params.asset_a fits.a;
-  b = uses_behind n m new still id params.asset_b fits.b;
+  a = uses_after n m new still id params.asset_a fits.a;
+  b = uses_after n m new still id params.asset_b fits.b;
   lines = lines;
 }
 
--- ---- behind the line that is removed
+-- ---- after the line is removed
 
 pub still_fits : (n : ℤ) (id : AccountId) (pool : Hash) (params : PoolParams) (m : EntryMap)
     → DoShareLinesFit n id pool params m

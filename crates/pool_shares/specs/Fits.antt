@@ -15,7 +15,7 @@ use Rattle.entry_slots.specs.Lines.{line_at}
 use Rattle.entry_slots.specs.Pools.{pool_at}
 use Rattle.trade_cross.specs.legal_rules.Holdings.{IsKeyed}
 use Rattle.trade_cross.specs.legal_rules.PoolShares.{needed_line}
-use Rattle.trade_cross.specs.Places.{DoesFit}
+use Rattle.trade_cross.specs.Locations.{DoesFit}
 use Rattle.pool_shares.specs.declared.withdrawing.ShareChange.{ShareChange}
 
 -- a pool's reserves and shares rise by these, which may be below 0
@@ -42,7 +42,7 @@ DoUsesFitAt n m other = Unit {0}
 abbrev pub DoUsesFit : ℤ → AccountId → Asset → EntryMap → Type 0
 DoUsesFit n id asset m = DoUsesFitAt n m (needed_line id asset)
 
--- a pool, if it stands, can have n lines more
+-- a pool, if it exists, can have n lines more
 abbrev pub DoLinesFit : ℤ → Hash → EntryMap → Type 0
 DoLinesFit n pool m =
     (p : LiquidityPoolEntry) → pool_at m pool ≡ Some p → DoesFit p.pool_shares_trust_line_count n

@@ -1,4 +1,4 @@
--- The lines of an account, one behind another.
+-- The lines of an account, one after another.
 use Rattle.std.specs.Prelude.{◌≡◌, ◌<◌, List, [], ◌++◌, map, length, Option, Some, None, if◌then◌else◌}
 use Rattle.std.specs.declared.cmp.Ordering.TheVariants.{Less}
 use Rattle.std.specs.List.{filter_map, cons_option}
@@ -24,7 +24,7 @@ abbrev pub line_held : AccountId → LedgerEntryBody → Option TrustLineAsset
 line_held id (body.TrustLine line) = if is_same_account line.account_id id then Some line.asset else None
 line_held id other = None
 
--- what stands behind a line's key
+-- what is after a line's key
 abbrev pub left : EntryMap → AccountId → TrustLineAsset → List (LedgerKey × LedgerEntry)
 left m id asset = above (key.TrustLine id asset) (entries m)
 
@@ -32,7 +32,7 @@ left m id asset = above (key.TrustLine id asset) (entries m)
 abbrev pub held_in : AccountId → List (LedgerKey × LedgerEntry) → List Hash
 held_in id pairs = filter_map (λ e. pool_held_by id e.body) (map (λ pair. pair.1) pairs)
 
--- a line is the account's first behind another one
+-- a line is the account's first after another one
 pub record IsFirstLine (m : EntryMap) (id : AccountId) (after next : TrustLineAsset) : Type 0 where
   pub first : held_in id (left m id after) ≡ cons_option (pool_in_line next) (held_in id (left m id next))
   pub fewer : length (left m id next) < length (left m id after)

@@ -21,7 +21,7 @@ use Rattle.trade_cross.specs.legal_rules.Ranges.{IsPoolInRange}
 use Rattle.pool_shares.specs.Fits.{DoShareLinesFit}
 
 pub record ArePoolsSound (m : EntryMap) : Type 0 where
-  -- each entry, a pool too, stands under its own key
+  -- each entry, a pool too, is under its own key
   pub keyed : IsKeyed m
   -- each pool is in its range, and has both reserves and shares, or none of the three
   pub ranges : (id : Hash) (p : LiquidityPoolEntry) → pool_at m id ≡ Some p → IsPoolInRange p

@@ -31,7 +31,7 @@ abbrev pub map_with_pool_by : (seq : ℕ) → Hash → PoolParams → EntryMap �
 map_with_pool_by seq id params m None = put m (new_pool seq (empty_pool id params))
 map_with_pool_by seq id params m (Some pool) = m
 
--- the map with a pool, which is made where it doesn't stand
+-- the map with a pool, which is made where it doesn't exist
 abbrev pub map_with_pool : (seq : ℕ) → Hash → PoolParams → EntryMap → EntryMap
 map_with_pool seq id params m = map_with_pool_by seq id params m (pool_at m id)
 

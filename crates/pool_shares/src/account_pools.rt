@@ -27,7 +27,7 @@ fn line_key(account_id: AccountId, asset: TrustLineAsset) -> LedgerKey
     LedgerKey::TrustLine { account_id, asset }
 }
 
-/// What the first line of an account behind another one is in.
+/// What the first line of an account after another one is in.
 fn next_line<B: Base>(
     entries: &Entries<'_, B>,
     id: &AccountId,

@@ -6,7 +6,7 @@ ghost use Rattle.entry_slots.specs.LineExtensions as extensions;
 ghost use Rattle.entry_slots.specs.Lines as lines;
 ghost use Rattle.entry_slots.specs.Pools as pools;
 ghost use Rattle.trade_cross.specs.legal_rules.ShareLaws as laws;
-ghost use Rattle.trade_cross.specs.Places.{DoesFit, place_key};
+ghost use Rattle.trade_cross.specs.Locations.{DoesFit, location_key};
 ghost use Rattle.pool_shares.specs.Fits as fits;
 ghost use Rattle.pool_shares.specs.ShareLines as spec;
 
@@ -21,7 +21,7 @@ use ledger_types::{
 };
 use sponsor_rules::{Ctx, remove_entry};
 use std::alloc::AllocError;
-use trade_cross::{Place, place_of};
+use trade_cross::{Location, location_of};
 
 /// A pool of which nobody has shares.
 fn empty_pool(pool_id: &Hash, params: &PoolParams) -> LiquidityPoolEntry
@@ -37,7 +37,7 @@ fn empty_pool(pool_id: &Hash, params: &PoolParams) -> LiquidityPoolEntry
     }
 }
 
-/// Makes a pool in the ledger of this number, where it doesn't stand.
+/// Makes a pool in the ledger of this number, where it doesn't exist.
 pub fn put_pool<B: Base>(
     entries: &mut Entries<'_, B>,
     seq: u32,
@@ -91,7 +91,7 @@ fn store_uses<B: Base>(
     store_line(entries, slot)
 }
 
-/// Counts n uses more of an account's line, if it stands.
+/// Counts n uses more of an account's line, if it exists.
 #[tactic(auto, unfolding(entry_slots::specs::Lines::with_line))]
 fn count_line_uses<B: Base>(
     entries: &mut Entries<'_, B>,
@@ -114,17 +114,17 @@ fn count_line_uses<B: Base>(
 fn count_uses_at<B: Base>(
     entries: &mut Entries<'_, B>,
     id: &AccountId,
-    place: Place,
+    location: Location,
     n: i32,
 ) -> Result<(), AllocError>
-    requires { fits.DoUsesFitAt n entries.old.current (place_key id.now place) }
+    requires { fits.DoUsesFitAt n entries.old.current (location_key id.now location) }
     ensures { OnOk result (
         entries.new ≡
-        with_current entries.old (laws.map_with_uses_at n (place_key id.now place) entries.old.current)) }
+        with_current entries.old (laws.map_with_uses_at n (location_key id.now location) entries.old.current)) }
 {
-    match place {
-        Place::Line(held) => count_line_uses(entries, id, &held, n),
-        Place::Account | Place::Nowhere => Ok(()),
+    match location {
+        Location::Line(held) => count_line_uses(entries, id, &held, n),
+        Location::Account | Location::Nowhere => Ok(()),
     }
 }
 
@@ -141,7 +141,7 @@ fn count_uses<B: Base>(
         entries.new ≡
         with_current entries.old (laws.map_with_uses n id.now asset.now entries.old.current)) }
 {
-    count_uses_at(entries, id, place_of(id, asset), n)
+    count_uses_at(entries, id, location_of(id, asset), n)
 }
 
 /// Stores the pool that was loaded, with n lines more.
@@ -162,7 +162,7 @@ fn store_lines<B: Base>(
     store_pool(entries, slot)
 }
 
-/// Counts n lines more of a pool, if it stands.
+/// Counts n lines more of a pool, if it exists.
 #[tactic(auto, unfolding(entry_slots::specs::Pools::with_pool))]
 fn count_lines<B: Base>(
     entries: &mut Entries<'_, B>,
@@ -211,8 +211,8 @@ fn remove_bare_pool<B: Base>(entries: &mut Entries<'_, B>, pool_id: &Hash) -> Re
     }
 }
 
-/// Removes an account's line of a pool's shares, if it stands. The pool and the account's lines in its assets count it
-/// no more, and the pool goes with its last line (ChangeTrustOpFrame in stellar-core).
+/// Removes an account's line of a pool's shares, if it exists. The pool and the account's lines in its assets no longer
+/// count it, and the pool goes with its last line (ChangeTrustOpFrame in stellar-core).
 pub fn remove_share_line<B: Base>(
     entries: &mut Entries<'_, B>,
     ctx: &Ctx,

@@ -6,7 +6,7 @@ ghost use Rattle.entry_map.specs.Undo.{with_current};
 ghost use Rattle.entry_slots.specs.Lines.{line_slot_at};
 ghost use Rattle.entry_slots.specs.Pools as pools;
 ghost use Rattle.trade_cross.specs.Holdings.{paying};
-ghost use Rattle.trade_cross.specs.Places.{DoesFit};
+ghost use Rattle.trade_cross.specs.Locations.{DoesFit};
 ghost use Rattle.pool_shares.specs.Fits as fits;
 ghost use Rattle.pool_shares.specs.Withdrawing as spec;
 

@@ -1,16 +1,10 @@
 -- Claimable balances that don't have less than nothing, in a map into which an entry is put.
-use Rattle.std.proofs.Common.{◌≡◌, ◌⊎◌, inl, inr, sym, ap, ◌∙◌, Bool, true, false, cond, Option, Some}
-use Rattle.std.specs.FinMap.{get, get-insert}
-use Rattle.ledger_types.specs.declared.ids.ClaimableBalanceId.{ClaimableBalanceId}
-use Rattle.ledger_types.specs.declared.claimable_balance.ClaimableBalanceEntry.{ClaimableBalanceEntry}
-use Rattle.ledger_types.specs.declared.entry.LedgerEntry.{LedgerEntry}
+use Rattle.probe.proofs.Prelude.{◌≡◌, ◌⊎◌, inl, inr, sym, ap, ◌∙◌, Bool, true, false, cond, Option, Some, get}
+use Rattle.probe.proofs.Prelude.{get-insert, ClaimableBalanceId, ClaimableBalanceEntry, LedgerEntry, key_of, EntryMap}
+use Rattle.probe.proofs.Prelude.{put, balance_in, balance_of, balance_at, IsAmountLowIn}
 use Rattle.ledger_types.specs.declared.key.LedgerKey.TheVariants as key
-use Rattle.ledger_types.specs.Keys.{key_of}
 use Rattle.ledger_types.proofs.KeyOrdering.{keys_total}
-use Rattle.entry_map.specs.EntryMap.{EntryMap, put}
-use Rattle.entry_slots.specs.Balances.{balance_in, balance_of, balance_at}
 use Rattle.op_form.specs.Premises.{AreAmountsLow}
-use Rattle.probe.specs.Ready.{IsAmountLowIn}
 
 found : (b : Bool) (e : LedgerEntry) (o : Option LedgerEntry) (balance : ClaimableBalanceEntry)
     → balance_of (cond b (Some e) o) ≡ Some balance

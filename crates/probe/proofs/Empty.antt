@@ -1,19 +1,9 @@
 -- A ledger without entries.
-use Rattle.std.proofs.Common.{◌≡◌, ap, sym, ◌∙◌, Bool, [], Some}
-use Rattle.std.proofs.lemmas.Option.{none-some}
-use Rattle.std.specs.FinMap.{from_entries, get-empty}
-use Rattle.ledger_types.specs.declared.ids.AccountId.{AccountId}
-use Rattle.ledger_types.specs.declared.ids.ClaimableBalanceId.{ClaimableBalanceId}
-use Rattle.ledger_types.specs.declared.account.AccountEntry.{AccountEntry}
-use Rattle.ledger_types.specs.declared.asset.TrustLineAsset.{TrustLineAsset}
-use Rattle.ledger_types.specs.declared.claimable_balance.ClaimableBalanceEntry.{ClaimableBalanceEntry}
-use Rattle.ledger_types.specs.declared.trust_line.TrustLineEntry.{TrustLineEntry}
+use Rattle.probe.proofs.Prelude.{◌≡◌, ap, sym, ◌∙◌, Bool, [], Some, none-some, from_entries, get-empty, AccountId}
+use Rattle.probe.proofs.Prelude.{ClaimableBalanceId, AccountEntry, TrustLineAsset, ClaimableBalanceEntry}
+use Rattle.probe.proofs.Prelude.{TrustLineEntry, key_cmp, account_of, account_at, balance_of, balance_at, line_of}
+use Rattle.probe.proofs.Prelude.{line_at, IsPlainLedger, IsReadyLedger}
 use Rattle.ledger_types.specs.declared.key.LedgerKey.TheVariants as key
-use Rattle.ledger_types.specs.KeyOrder.{key_cmp}
-use Rattle.entry_slots.specs.Accounts.{account_of, account_at}
-use Rattle.entry_slots.specs.Balances.{balance_of, balance_at}
-use Rattle.entry_slots.specs.Lines.{line_of, line_at}
-use Rattle.probe.specs.Ready.{IsPlainLedger, IsReadyLedger}
 
 nobody : (id : AccountId) (account : AccountEntry) → account_at (from_entries []) id ≡ Some account → ⊥
 unfolding account_at

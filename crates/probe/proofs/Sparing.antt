@@ -1,9 +1,7 @@
 -- What a ready outcome spares.
-use Rattle.std.proofs.Common.{◌≡◌, ◌≢◌, ℕ, zero, suc, ◌+◌, ◌<◌, ◌≤◌, Bool, true, false, inl, inr, length, refl}
-use Rattle.std.proofs.Common.{sym, ap, subst, ◌∙◌, arith}
-use Rattle.std.proofs.lemmas.Bool.{cases_eq}
+use Rattle.probe.proofs.Prelude.{◌≡◌, ◌≢◌, ℕ, zero, suc, ◌+◌, ◌<◌, ◌≤◌, Bool, true, false, inl, inr, length, refl, sym}
+use Rattle.probe.proofs.Prelude.{ap, subst, ◌∙◌, arith, cases_eq, not, ◌&&◌, if◌then◌else◌}
 use Rattle.std.proofs.lemmas.List.{get_or-set_same, get_or-set_other}
-use Rattle.std.specs.Prelude.{not, ◌&&◌, if◌then◌else◌}
 use Rattle.bucket_core.specs.Bucket.{Contents}
 use Rattle.bucket_core.specs.File.{count_of}
 use Rattle.bucket_merge.specs.Job.{Job}
@@ -36,11 +34,11 @@ no_work seq fresh l above lt over =
     ∙ ap (λ (p : PendingAt). if not p.ready then all else 0)
     (get_or-set_same l.pending (suc above) (handed_in (pending_at l.pending (suc above))) not_pending lt)
 
-whole_work : (seq : ℕ) (fresh : Contents) (l : LevelsAt) (above : ℕ) → spills above seq ≡ true
+entire_work : (seq : ℕ) (fresh : Contents) (l : LevelsAt) (above : ℕ) → spills above seq ≡ true
     → (pending_at l.pending (suc above)).ready ≡ false
     → work_at seq fresh l (suc above)
     ≡ count_of (base_at seq l.pairs (suc above)) + count_of (pair_at l.pairs above).snap
-whole_work seq fresh l above over unready =
+entire_work seq fresh l above over unready =
     let all = count_of (base_at seq l.pairs (suc above)) + count_of (pair_at l.pairs above).snap in
     ap (λ (b : Bool). if b && not (pending_at l.pending (suc above)).ready then all else 0) over
     ∙ ap (λ (b : Bool). if not b then all else 0) unready
@@ -90,7 +88,7 @@ spares_at l (suc above) fresh out is lt count over unready =
     (omega (
       arith,
       no_work (l.seq + 1) fresh l above (omega (arith, lt, count)) over,
-      whole_work (l.seq + 1) fresh l above over unready,
+      entire_work (l.seq + 1) fresh l above over unready,
       inputs_of l above out is over,
     )) lt
 

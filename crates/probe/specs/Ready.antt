@@ -43,7 +43,7 @@ pub record IsPlain (b : LedgerEntryBody) : Type 0 where
   pub line : (line : TrustLineEntry) → line_in b ≡ Some line → IsPlainLine line
   pub no_pool : pool_in b ≡ None
 
--- it stands under its own key too
+-- it is under its own key too
 pub record IsPlainUnder (k : LedgerKey) (e : LedgerEntry) : Type 0 where
   pub own : key_of e ≡ k
   pub plain : IsPlain e.body

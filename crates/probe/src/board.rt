@@ -5,9 +5,9 @@
 //!     close FILE                        the next ledger, by what it changed
 //!     draw                              keeps each merge that began; writes their levels and starts
 //!     make LEVEL START OLDER NEWER      keeps a merge; writes its file
-//!     again PLACE LATER MORE MORE       keeps the merge at a place in the row in another form: with a later start, and
-//!                                       with more at the end of its older and of its newer input
-//!     hand_in PLACE                     the merge at a place in the row; writes why it comes back, if it does
+//!     again INDEX LATER MORE MORE       keeps the merge at an index in the row in another form: with a later start,
+//!                                       and with more at the end of its older and of its newer input
+//!     hand_in INDEX                     the merge at an index in the row; writes why it comes back, if it does
 //!     others NEW SEQ                    hands in all merges of levels after a ledger that have the files of earlier
 //!                                       levels: where NEW is 1, of these, which are the earlier ones from now on
 //!
@@ -160,17 +160,17 @@ impl Board {
     }
 
     fn again(&mut self, alloc: Global, input: &mut Cursor<'_>) -> Option<()> {
-        let place = input.u32().ok()? as usize;
-        let job = changed_job(alloc, self.kept.get(place)?, input)?;
+        let index = input.u32().ok()? as usize;
+        let job = changed_job(alloc, self.kept.get(index)?, input)?;
         self.keep(job)
     }
 
     fn hand_in(&mut self, input: &mut Cursor<'_>, output: &mut Output) -> Option<()> {
-        let place = input.u32().ok()? as usize;
-        if place >= self.kept.len() {
+        let index = input.u32().ok()? as usize;
+        if index >= self.kept.len() {
             return None;
         }
-        hand_in(&mut self.closing, self.kept.remove(place), output);
+        hand_in(&mut self.closing, self.kept.remove(index), output);
         Some(())
     }
 

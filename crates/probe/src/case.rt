@@ -2,8 +2,8 @@
 //! or the name of a change of sponsorship.
 //!
 //! The arguments are what operations are applied in; how many entries there are, and which; the operation, or the
-//! arguments of the change; and last what is wanted: the sponsorships that are open then, and all entries in the order
-//! of their keys.
+//! arguments of the change; and last what is expected: the sponsorships that are open then, and all entries in the
+//! order of their keys.
 
 ghost use Rattle.std.specs.Prelude.{◌≡◌, [], IfSome};
 ghost use Rattle.std.specs.FinMap.{from_entries};
@@ -58,7 +58,7 @@ fn read_ctx(alloc: Global, input: &mut Cursor<'_>) -> Option<Ctx> {
 /// Whether the sponsorship that comes next is the same.
 fn is_next_open(open: &Sponsorship, input: &mut Cursor<'_>) -> bool {
     match read_sponsorship(input) {
-        Some(wanted) => open.sponsored == wanted.sponsored && open.sponsor == wanted.sponsor,
+        Some(expected) => open.sponsored == expected.sponsored && open.sponsor == expected.sponsor,
         None => false,
     }
 }
@@ -66,7 +66,7 @@ fn is_next_open(open: &Sponsorship, input: &mut Cursor<'_>) -> bool {
 /// Whether the entry that comes next is the same.
 fn is_next_left(alloc: Global, entry: &LedgerEntry, input: &mut Cursor<'_>) -> bool {
     match read_ledger_entry(alloc, input) {
-        Ok(wanted) => entry.has_same_parts(&wanted),
+        Ok(expected) => entry.has_same_parts(&expected),
         Err(_) => false,
     }
 }
@@ -91,7 +91,7 @@ fn are_left(alloc: Global, left: &[LedgerEntry], input: &mut Cursor<'_>) -> bool
     input.end().is_ok()
 }
 
-/// Writes where a ledger isn't as wanted.
+/// Writes where a ledger isn't as expected.
 fn write_difference(
     alloc: Global,
     entries: &Entries<'_, MapBase>,
@@ -102,7 +102,7 @@ fn write_difference(
     match entries.changes() {
         Ok(left) => {
             if !are_open(open, input) || !are_left(alloc, left.init.as_slice(), input) {
-                output.word("and the ledger is otherwise than wanted");
+                output.word("and the ledger is otherwise than expected");
             }
         }
         Err(_) => output.word("BAD"),

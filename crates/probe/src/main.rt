@@ -4,7 +4,7 @@
 //! The program's one argument is the file of the cases. Blank lines part them. The first line of a case says what it is
 //! of: `ledgers`, `maps` with the files of levels, `levels`, `streams` or `calls`. Each further line is the name of a
 //! step and its arguments, as XDR in hexadecimal. The scripts in `tests/probe` at the top write the cases, and what is
-//! wanted of them.
+//! expected of them.
 #![tactic(auto)]
 
 mod answers;

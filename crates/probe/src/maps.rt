@@ -77,20 +77,20 @@ fn write_offers(output: &mut Output, word: &str, offers: &[OfferEntry]) {
     }
 }
 
-/// Writes the numbers of the offers of a book, each found by the place of the one before it.
+/// Writes the numbers of the offers of a book, each found by the position of the one before it.
 fn write_book(output: &mut Output, sheet: &Sheet<'_>, of: &OfferEntry) -> Option<()> {
     output.word("book");
-    let mut place = None;
+    let mut index = None;
     for _offer in 0..100u32 {
         let next = sheet
             .entries
-            .offer_after(&of.selling, &of.buying, place)
+            .offer_after(&of.selling, &of.buying, index)
             .ok()?;
         let Some(offer) = next else {
             return Some(());
         };
         output.number(offer.offer_id as i128);
-        place = Some((offer.price, offer.offer_id));
+        index = Some((offer.price, offer.offer_id));
     }
     None
 }
@@ -187,7 +187,7 @@ fn table_of(alloc: Global, digits: &str) -> Option<EntryTable> {
     level_entries(alloc, pairs.as_slice()).ok()?
 }
 
-/// Takes the steps of lines over the entries of levels, if these stand for some.
+/// Takes the steps of lines over the entries of levels, if these represent some.
 pub fn run_maps(alloc: Global, digits: &str, lines: &str, output: &mut Output) -> Option<()> {
     let table = table_of(alloc, digits)?;
     let mut sheet = Sheet::new(alloc, &table)?;

@@ -6,7 +6,7 @@ ghost use Rattle.probe.specs.Ready.{IsReadyLedger};
 ghost use Rattle.probe.specs.Ready as spec;
 
 use entry_map::{Entries, MapBase};
-use op_form::stands;
+use op_form::exists;
 use op_types::{Operation, OperationBody, OperationResult};
 use sponsor_rules::Ctx;
 use std::alloc::{AllocError, Global};
@@ -23,7 +23,7 @@ pub fn asks_for_pools(op: &Operation) -> bool
     }
 }
 
-/// Reads an operation and applies it. Answers none where it may not be: its source doesn't stand, the ledger is the
+/// Reads an operation and applies it. Answers none where it may not be: its source doesn't exist, the ledger is the
 /// last, or it asks that pools are sound in a ledger that isn't plain. Operations on offers and pools, payments along
 /// paths, ALLOW_TRUST and SET_TRUST_LINE_FLAGS aren't applied here: they ask for a legal ledger, which these small ones
 /// aren't.
@@ -40,7 +40,7 @@ pub fn applied(
     if ctx.seq >= 2_147_483_647 {
         return None;
     }
-    if !stands(entries, &ctx.op_source).ok()? {
+    if !exists(entries, &ctx.op_source).ok()? {
         return None;
     }
     if asks_for_pools(&op) && !are_plain {

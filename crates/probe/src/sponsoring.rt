@@ -15,7 +15,7 @@ use xdr_entries::{
     AccountIdFormat, read_account_id, read_ledger_entry, read_ledger_key, read_signer_key,
 };
 
-/// What a change answers. `NoMemory` stands for a change that can't be made too.
+/// What a change answers. `NoMemory` also represents a change that can't be made.
 pub type Change = Result<(), AddFault>;
 
 /// What all changes say: whose thing is added or whose signer changes, who pays then, where that isn't the owner, and

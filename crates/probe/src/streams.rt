@@ -40,7 +40,7 @@ fn read_terms<'a>(input: &mut Cursor<'a>) -> Option<Terms<'a>> {
     })
 }
 
-/// Reads a source, and writes what it gave or why it wasn't read whole.
+/// Reads a source, and writes what it gave or why it wasn't read entirely.
 fn read_to<S: Source>(alloc: Global, source: &mut S, limit: u32, output: &mut Output) {
     match read_all(alloc, source, limit as usize) {
         Ok(bytes) => output.bytes(bytes.as_slice()),

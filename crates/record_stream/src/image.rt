@@ -1,4 +1,4 @@
-//! An image, taken from the bytes of which it is the front. No bytes stand twice at the end, and the longest file is
+//! An image, taken from the bytes of which it is a prefix. No bytes are held twice at the end, and the longest file is
 //! never copied: it keeps the memory into which all of them were read.
 
 ghost use Rattle.std.specs.Prelude.{◌≡◌, ◌<◌, ◌≤◌, ℕ, map, length, IfOk, OnErr, Ok};
@@ -6,23 +6,23 @@ ghost use Rattle.xdr_core.specs.Format.{IsBytes};
 ghost use Rattle.record_stream.specs.Measured.{image_end};
 ghost use Rattle.record_stream.specs.Layouts as spec;
 
-use crate::ahead::without_front;
+use crate::ahead::without_prefix;
 use crate::layout::{Layout, NOTHING, Span, layout_of};
 use item_list::ItemList;
 use std::alloc::{AllocError, Global};
 use std::mem;
 use xdr_header::StartImage;
 
-/// The place of a file that no other one is longer than.
+/// The index of a file that no other one is longer than.
 fn longest(files: &[Span]) -> usize
     requires { 0 < length files.now }
     ensures within { result < length files.now }
     ensures longest { spec.IsLongest files.now result }
 {
     let mut longest = 0;
-    for place in 1..files.len() {
-        if files[longest].len < files[place].len {
-            longest = place;
+    for index in 1..files.len() {
+        if files[longest].len < files[index].len {
+            longest = index;
         }
     }
     longest
@@ -75,7 +75,7 @@ fn only(mut bytes: Vec<u8>, span: Span) -> Vec<u8>
     bytes
 }
 
-/// Takes the image at the front of the bytes ahead away from them. Where memory is refused they stay as they were.
+/// Takes the image at the start of the bytes ahead away from them. Where memory is refused they stay as they were.
 pub fn take_image(alloc: Global, ahead: &mut Vec<u8>) -> Result<StartImage, AllocError>
     requires { (end : ℕ) × (image_end ahead.old.items ≡ Ok end) }
     ensures fits { IsBytes ahead.old.items }
@@ -85,14 +85,14 @@ pub fn take_image(alloc: Global, ahead: &mut Vec<u8>) -> Result<StartImage, Allo
     let Ok(mut layout) = layout_of(ahead.as_slice()) else {
         unreachable!()
     };
-    let place = longest(&layout.files);
-    let file = layout.files[place];
+    let index = longest(&layout.files);
+    let file = layout.files[index];
     // the longest file stays where it is, and nothing is copied in its place
-    layout.files[place] = NOTHING;
+    layout.files[index] = NOTHING;
     let mut image = image_of(alloc, ahead.as_slice(), &layout)?;
-    let rest = without_front(alloc, ahead.as_slice(), layout.end)?;
+    let rest = without_prefix(alloc, ahead.as_slice(), layout.end)?;
     let bytes = mem::replace(ahead, rest);
     let left = ItemList::from_vec(only(bytes, file));
-    image.files.set(place, left);
+    image.files.set(index, left);
     Ok(image)
 }

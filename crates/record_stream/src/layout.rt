@@ -1,4 +1,4 @@
-//! Where the parts of a start image stand in its text. No memory is taken for it.
+//! Where the parts of a start image are in its text. No memory is taken for it.
 
 ghost use Rattle.std.specs.Prelude.{◌≡◌, ◌≤◌, ℕ, List, IfOk, IfErr, Err};
 ghost use Rattle.xdr_header.specs.Image as image;
@@ -13,13 +13,13 @@ pub(crate) struct Span {
     pub(crate) len: usize,
 }
 
-/// The piece without bytes at the front of each text.
+/// The piece without bytes at the start of each text.
 pub(crate) const NOTHING: Span = Span { start: 0, len: 0 };
 
 /// How many files there are.
 const FILES: usize = 22;
 
-/// Where the parts of an image stand in the text that it is the front of, and where it ends.
+/// Where the parts of an image are in the text that it is a prefix of, and where it ends.
 #[derive(Clone, Copy)]
 pub(crate) struct Layout {
     pub(crate) header: Span,
@@ -36,7 +36,7 @@ const MAX_HEADER_LEN: u32 = 16777216;
 /// The most bytes of the files together.
 const MAX_FILES_LEN: u64 = 536870912;
 
-/// Passes by a file of at most `max` bytes behind their number.
+/// Passes by a file of at most `max` bytes after their number.
 #[tactic(auto, unfolding(xdr_header::specs::Image::file))]
 fn pass_file(max: u64, cursor: &mut Cursor<'_>) -> Result<Span, XdrFault>
     ensures passes { (text : List ℕ) → spec.IsIn text cursor.old
@@ -58,7 +58,7 @@ fn pass_file(max: u64, cursor: &mut Cursor<'_>) -> Result<Span, XdrFault>
     })
 }
 
-/// Where the parts of the image at the front of a text stand, or the first fault.
+/// Where the parts of the image at the start of a text are, or the first fault.
 pub(crate) fn layout_of(text: &[u8]) -> Result<Layout, XdrFault>
     ensures { spec.IsLaidOut text.now result }
 {

@@ -1,4 +1,4 @@
-//! What comes piece by piece from a source: a start image, and records of closes behind it. The source is read no
+//! What comes piece by piece from a source: a start image, and records of closes after it. The source is read no
 //! further than the piece at hand needs, but for the rest of the last read.
 #![tactic(auto)]
 
@@ -9,7 +9,7 @@ mod layout;
 mod measure;
 mod piece;
 
-pub use ahead::without_front;
+pub use ahead::without_prefix;
 pub use image::take_image;
 pub use measure::{ImageLength, Measure, RecordLength};
 pub use piece::{PieceFault, read_piece};

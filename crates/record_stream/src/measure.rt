@@ -1,4 +1,4 @@
-//! How long the piece at the front of a text is. No memory is taken for it.
+//! How long the piece at the start of a text is. No memory is taken for it.
 
 ghost use Rattle.std.specs.Prelude.{◌≡◌, ℕ, List, Result};
 ghost use Rattle.xdr_core.specs.declared.fault.XdrFault.{XdrFault as Fault};
@@ -9,15 +9,15 @@ use xdr_core::{Cursor, XdrFault};
 
 /// A kind of piece. The type that is one is a marker.
 pub trait Measure {
-    // Where the piece at the front of a text ends, or the first fault.
+    // Where the piece at the start of a text ends, or the first fault.
     ghost measured: { List ℕ → Result ℕ Fault };
 
-    /// Where the piece at the front of a text ends, or the first fault.
+    /// Where the piece at the start of a text ends, or the first fault.
     fn measure(text: &[u8]) -> Result<usize, XdrFault>
         ensures { result ≡ measured text.now };
 }
 
-/// A record of a close behind its mark, of at most 16777216 bytes.
+/// A record of a close after its mark, of at most 16777216 bytes.
 pub struct RecordLength;
 
 /// The most bytes of a record.

@@ -1,43 +1,33 @@
--- `catchup` behind an image of a state comes to what `run` comes to from that state.
-use Rattle.std.proofs.Common.{◌≡◌, ℕ, ◌+◌, List, [], ◌∷◌, length, Result, Ok, Err, sym, ap, subst, zero-add}
-use Rattle.ledger_types.specs.declared.ids.Hash.{Hash}
-use Rattle.xdr_core.specs.declared.fault.XdrFault.{XdrFault}
-use Rattle.xdr_core.specs.Leaves.{mark}
-use Rattle.xdr_core.specs.Place.{Place, Reading, start_of}
-use Rattle.xdr_header.specs.declared.image.StartImage.{StartImage}
-use Rattle.hash_ids.specs.Ids.{network_id_of}
-use Rattle.stored_outcome.specs.close_rules.declared.image_fault.ImageFault.{ImageFault}
-use Rattle.stored_outcome.specs.close_rules.State.{ClosingState}
-use Rattle.stored_outcome.specs.close_rules.Images.{IsJudged}
-use Rattle.worker_merges.proofs.close_laws_proofs.OneImage.{images_are_one}
-use Rattle.stored_outcome.specs.run_outcome.Outcome.{Outcome, IsStopped, IsEnd, IsRun, IsStarted, IsOutcomeOf, frames}
-use Rattle.stored_outcome.specs.run_outcome.Outcome.{max_record_len}
-use Rattle.replay.specs.CommandLaws.{outcome_behind, CatchupsAgree}
+-- `catchup` after an image of a state yields what `run` yields from that state.
+use Rattle.replay.proofs.Prelude.{◌≡◌, ℕ, ◌+◌, List, [], ◌∷◌, length, Result, Ok, Err, sym, ap, subst, zero-add, Hash}
+use Rattle.replay.proofs.Prelude.{XdrFault, mark, Position, Reading, start_of, StartImage, network_id_of, ImageFault}
+use Rattle.replay.proofs.Prelude.{ClosingState, IsJudged, images_are_one, Outcome, IsStopped, IsEnd, IsRun, IsStarted}
+use Rattle.replay.proofs.Prelude.{IsOutcomeOf, frames, max_record_len, outcome_after, CatchupsAgree}
 use Rattle.replay.proofs.Marking.{moved, Moved, mark_moves}
 use Rattle.replay.proofs.OneOutcome.{runs_are_one}
 
 -- ---- n bytes further on
 
-stopped_behind : (s : ClosingState) (n : ℕ) (read later : Reading XdrFault (List ℕ)) (last : Outcome)
-    → Moved n read later → IsStopped s read last → IsStopped s later (outcome_behind n last)
-stopped_behind s n (Err wrong) later last moves is =
-    subst (λ (r : Reading XdrFault (List ℕ)). IsStopped s r (outcome_behind n last)) (sym moves)
-    (ap (outcome_behind n) is)
-stopped_behind s n (Ok x) later last moves (wrong, closes, is) =
-    subst (λ (r : Reading XdrFault (List ℕ)). IsStopped s r (outcome_behind n last)) (sym moves)
-    (wrong, closes, ap (outcome_behind n) is)
+stopped_after : (s : ClosingState) (n : ℕ) (read later : Reading XdrFault (List ℕ)) (last : Outcome)
+    → Moved n read later → IsStopped s read last → IsStopped s later (outcome_after n last)
+stopped_after s n (Err wrong) later last moves is =
+    subst (λ (r : Reading XdrFault (List ℕ)). IsStopped s r (outcome_after n last)) (sym moves)
+    (ap (outcome_after n) is)
+stopped_after s n (Ok x) later last moves (wrong, closes, is) =
+    subst (λ (r : Reading XdrFault (List ℕ)). IsStopped s r (outcome_after n last)) (sym moves)
+    (wrong, closes, ap (outcome_after n) is)
 
-end_behind : (s : ClosingState) (n at : ℕ) (rest : List ℕ) (last : Outcome) → IsEnd s at rest last
-    → IsEnd s (n + at) rest (outcome_behind n last)
-end_behind s n at [] last is = ap (outcome_behind n) is
-end_behind s n at (byte ∷ rest) last is =
-    let p : Place = record { at = at; rest = byte ∷ rest } in
-    stopped_behind s n ((mark max_record_len).read p) ((mark max_record_len).read (moved n p)) last
+end_after : (s : ClosingState) (n at : ℕ) (rest : List ℕ) (last : Outcome) → IsEnd s at rest last
+    → IsEnd s (n + at) rest (outcome_after n last)
+end_after s n at [] last is = ap (outcome_after n) is
+end_after s n at (byte ∷ rest) last is =
+    let p : Position = record { at = at; rest = byte ∷ rest } in
+    stopped_after s n ((mark max_record_len).read p) ((mark max_record_len).read (moved n p)) last
     (mark_moves max_record_len n p) is
 
-run_behind : (s : ClosingState) (n : ℕ) (rest : List ℕ) (o : Outcome) → IsRun s (start_of rest) o
-    → IsRun s (record { at = n; rest = rest }) (outcome_behind n o)
-run_behind s n rest o run = record {
+run_after : (s : ClosingState) (n : ℕ) (rest : List ℕ) (o : Outcome) → IsRun s (start_of rest) o
+    → IsRun s (record { at = n; rest = rest }) (outcome_after n o)
+run_after s n rest o run = record {
   records = run.records;
   rest = run.rest;
   cut = run.cut;
@@ -45,19 +35,19 @@ run_behind s n rest o run = record {
   lines = run.lines;
   state = run.state;
   closed = run.closed;
-  last = outcome_behind n run.last;
-  ends = subst (λ (at : ℕ). IsEnd run.state (n + at) run.rest (outcome_behind n run.last))
+  last = outcome_after n run.last;
+  ends = subst (λ (at : ℕ). IsEnd run.state (n + at) run.rest (outcome_after n run.last))
       (zero-add (length (frames run.records)))
-      (end_behind run.state n (0 + length (frames run.records)) run.rest run.last run.ends);
-  is = ap (outcome_behind n) run.is;
+      (end_after run.state n (0 + length (frames run.records)) run.rest run.last run.ends);
+  is = ap (outcome_after n) run.is;
 }
 
--- ---- behind an image
+-- ---- after an image
 
 abbrev judged : Result ClosingState ImageFault → Result ClosingState ImageFault
 judged r = r
 
-started_from : (network : Hash) (image : StartImage) (p : Place) (s : ClosingState) (o : Outcome)
+started_from : (network : Hash) (image : StartImage) (p : Position) (s : ClosingState) (o : Outcome)
     → IsJudged network image (Ok s) → IsOutcomeOf network (Ok (image, p)) o → IsRun s p o
 started_from network image p s o is (answer, other, started) =
     let same : judged answer ≡ Ok s = images_are_one network image answer (Ok s) other is in
@@ -65,7 +55,7 @@ started_from network image p s o is (answer, other, started) =
 
 pub catchups_agree : CatchupsAgree
 catchups_agree passphrase input image p s o own reads is outcome run =
-    runs_are_one s p o (outcome_behind p.at own)
+    runs_are_one s p o (outcome_after p.at own)
     (started_from (network_id_of passphrase) image p s o is
     (subst (λ (r : Reading XdrFault StartImage). IsOutcomeOf (network_id_of passphrase) r o) reads outcome))
-    (run_behind s p.at p.rest own run)
+    (run_after s p.at p.rest own run)

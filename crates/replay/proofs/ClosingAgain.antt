@@ -1,16 +1,9 @@
--- The records of a journal, closed one behind another.
-use Rattle.std.proofs.Common.{◌≡◌, ℕ, suc, ◌+◌, ◌<◌, ◌^◌, List, [], ◌∷◌, ◌++◌, length, take, drop, get_or, Ok}
-use Rattle.std.proofs.Common.{Err, sym, ap, subst, ◌∙◌, append_assoc, arith}
-use Rattle.std.proofs.Math.Seq.{take-suc}
-use Rattle.std.proofs.lemmas.List.{length-append, take-append-drop}
-use Rattle.byteorder.specs.Endian.{big_bytes}
-use Rattle.xdr_core.proofs.Numbers.{wide4}
-use Rattle.stored_outcome.specs.close_rules.declared.close_fault.CloseFault.{CloseFault}
-use Rattle.stored_outcome.specs.close_rules.State.{ClosingState}
-use Rattle.stored_outcome.specs.close_rules.Close.{PreparedClose, IsClose}
-use Rattle.image_store.specs.gate_journal.Records.{block, blocks}
-use Rattle.replay.proofs.Comes.{closed_more}
-use Rattle.replay.specs.ClosingAgain.{AreClosedTo, IsRefusedAt}
+-- The records of a journal, closed one after another.
+use Rattle.replay.proofs.Prelude.{◌≡◌, ℕ, suc, ◌+◌, ◌<◌, ◌^◌, List, [], ◌∷◌, ◌++◌, length, take, drop, get_or, Ok, Err}
+use Rattle.replay.proofs.Prelude.{sym, ap, subst, ◌∙◌, append_assoc, arith, take-suc, length-append, take-append-drop}
+use Rattle.replay.proofs.Prelude.{big_bytes, wide4, CloseFault, ClosingState, PreparedClose, IsClose, block, blocks}
+use Rattle.replay.proofs.Prelude.{AreClosedTo, IsRefusedAt}
+use Rattle.replay.proofs.Yields.{closed_more}
 
 pub taken_more : (xs : List (List ℕ)) (i : ℕ) (x : List ℕ) → i < length xs → x ≡ get_or xs i x
     → take (i + 1) xs ≡ take i xs ++ x ∷ []
@@ -36,17 +29,17 @@ blocks_len (r ∷ rs) ss =
 one_len : (x : List ℕ) → length (blocks (x ∷ [])) ≡ 5 + length x
 one_len x = omega (arith, length-append (block x) [], block_len x)
 
-pub place_more : (xs : List (List ℕ)) (i : ℕ) (x : List ℕ) (at : ℕ) → i < length xs → x ≡ get_or xs i x
+pub offset_more : (xs : List (List ℕ)) (i : ℕ) (x : List ℕ) (at : ℕ) → i < length xs → x ≡ get_or xs i x
     → at ≡ length (blocks (take i xs)) → at + (5 + length x) ≡ length (blocks (take (i + 1) xs))
-place_more xs i x at lt is e =
-    let whole = ap (λ (t : List (List ℕ)). length (blocks t)) (taken_more xs i x lt is) in
-    omega (arith, e, whole, blocks_len (take i xs) (x ∷ []), one_len x)
+offset_more xs i x at lt is e =
+    let entire = ap (λ (t : List (List ℕ)). length (blocks t)) (taken_more xs i x lt is) in
+    omega (arith, e, entire, blocks_len (take i xs) (x ∷ []), one_len x)
 
-pub place_fits : (xs : List (List ℕ)) (i : ℕ) (x : List ℕ) (at : ℕ) → i < length xs → x ≡ get_or xs i x
+pub offset_fits : (xs : List (List ℕ)) (i : ℕ) (x : List ℕ) (at : ℕ) → i < length xs → x ≡ get_or xs i x
     → at ≡ length (blocks (take i xs)) → length (blocks xs) < 2 ^ 64 → at + (5 + length x) < 2 ^ 64
-place_fits xs i x at lt is e fits =
-    let whole = ap (λ (t : List (List ℕ)). length (blocks t)) (take-append-drop (i + 1) xs) in
-    omega (arith, fits, place_more xs i x at lt is e, whole, blocks_len (take (i + 1) xs) (drop (i + 1) xs))
+offset_fits xs i x at lt is e fits =
+    let entire = ap (λ (t : List (List ℕ)). length (blocks t)) (take-append-drop (i + 1) xs) in
+    omega (arith, fits, offset_more xs i x at lt is e, entire, blocks_len (take (i + 1) xs) (drop (i + 1) xs))
 
 pub again_more : (s now next : ClosingState) (xs : List (List ℕ)) (i : ℕ) (x : List ℕ) (c : PreparedClose)
     → i < length xs
@@ -61,7 +54,7 @@ pub refused_at : (s now : ClosingState) (xs : List (List ℕ)) (i : ℕ) (x : Li
     → i < length xs → x ≡ get_or xs i x → AreClosedTo s (take i xs) now → IsClose now x (Err wrong)
     → at ≡ length (blocks (take i xs)) → IsRefusedAt s xs at
 refused_at s now xs i x at wrong lt is closed refused e = record {
-  front = take i xs;
+  prefix = take i xs;
   bytes = x;
   others = drop (i + 1) xs;
   cut = cut_at xs i x lt is;

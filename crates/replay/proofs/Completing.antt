@@ -1,48 +1,36 @@
--- Where nothing failed a run is whole, and an outcome is answered unless something failed.
-use Rattle.std.proofs.Common.{◌≡◌, ℕ, List, [], ◌++◌, Option, Some, IfSome, Ok, refl, sym, subst, ◌∙◌, inl, inr, ◌⊎◌}
-use Rattle.std.proofs.Common.{append-nil}
-use Rattle.stored_outcome.specs.run_streams.Seen.{Seen, Failed, Received}
-use Rattle.xdr_core.specs.declared.fault.XdrFault.{XdrFault}
-use Rattle.xdr_core.specs.Place.{Reading}
-use Rattle.xdr_header.specs.declared.image.StartImage.{StartImage}
-use Rattle.hash_ids.specs.Ids.{network_id_of}
-use Rattle.stored_outcome.specs.close_rules.State.{ClosingState}
-use Rattle.stored_outcome.specs.run_outcome.declared.status.Status.{Status}
+-- Where nothing failed a run is complete, and an outcome is answered unless something failed.
+use Rattle.replay.proofs.Prelude.{◌≡◌, ℕ, List, [], ◌++◌, Option, Some, IfSome, Ok, refl, sym, subst, ◌∙◌, inl, inr}
+use Rattle.replay.proofs.Prelude.{◌⊎◌, append-nil, Seen, Failed, Received, XdrFault, Reading, StartImage, network_id_of}
+use Rattle.replay.proofs.Prelude.{ClosingState, Status, IsCutShort, end_line, Outcome, frames, IsOutcomeOf, IsOutcome}
+use Rattle.replay.proofs.Prelude.{AnsweredTo, DidCatchUp, SeenVolume, Command, CatchUp, Parses, commands_are_one}
+use Rattle.replay.proofs.Prelude.{DidNothing, RanAs, Ran}
 use Rattle.stored_outcome.specs.run_outcome.declared.status.Status.TheVariants as status
-use Rattle.stored_outcome.specs.run_outcome.Statuses.{IsCutShort}
-use Rattle.stored_outcome.specs.run_outcome.Lines.{end_line}
-use Rattle.stored_outcome.specs.run_outcome.Outcome.{Outcome, frames, IsOutcomeOf, IsOutcome}
-use Rattle.stored_outcome.specs.run_outcome.Run.{AnsweredTo, DidCatchUp}
-use Rattle.stored_outcome.specs.run_streams.SeenVolume.{SeenVolume}
-use Rattle.command_words.specs.Words.{Command, CatchUp, Spells}
-use Rattle.command_words.proofs.OneCommand.{commands_are_one}
-use Rattle.stored_outcome.specs.Program.{DidNothing, RanAs, Ran}
 use Rattle.replay.specs.Completeness.{NoneFailed, Catchups, Runs, IsComplete, AreAccepted, IsDone, IsAnswered}
 use Rattle.replay.proofs.OneOutcome.{outcomes_are_one}
 
 -- the run that the words ask for
 catchup_of : (words : List (List ℕ)) (passphrase : List ℕ) (input out err : Seen) (vol : SeenVolume) (end : Status)
-    → Ran words input out err vol end → Spells words (CatchUp passphrase)
+    → Ran words input out err vol end → Parses words (CatchUp passphrase)
     → DidCatchUp passphrase input out err end ⊎ DidNothing status.NoMemory input out err vol end
-catchup_of words passphrase input out err vol end (inl (command, spelled, ran)) is =
+catchup_of words passphrase input out err vol end (inl (command, encoded, ran)) is =
     inl (subst (λ (c : Command). RanAs c input out err vol end)
-    (commands_are_one words command (CatchUp passphrase) spelled is) ran).0
+    (commands_are_one words command (CatchUp passphrase) encoded is) ran).0
 catchup_of words passphrase input out err vol end (inr (inl (none, did))) is = absurd (none (CatchUp passphrase) is)
-catchup_of words passphrase input out err vol end (inr (inr (command, spelled, did))) is = inr did
+catchup_of words passphrase input out err vol end (inr (inr (command, encoded, did))) is = inr did
 
 -- what is claimed of each run of `catchup` is of those that words ask for
 runs_of : (vol : SeenVolume) (P : (passphrase input : List ℕ) → (Seen → Seen → Seen → Status → Type 0)) → Catchups P
     → Runs vol P
-runs_of vol P h words passphrase bytes input out err end ran command told =
+runs_of vol P h words passphrase bytes input out err end ran command reported =
     elim (catchup_of words passphrase input out err vol end ran command) [
-      | inl did ↦ inl (h passphrase bytes input out err end did told)
+      | inl did ↦ inl (h passphrase bytes input out err end did reported)
       | inr nothing ↦ inr nothing
     ]
 
 answered_to : (passphrase bytes : List ℕ) (input out err : Seen) (end : Status)
     → DidCatchUp passphrase input out err end → input.before ≡ Some bytes → AnsweredTo passphrase bytes out end
-answered_to passphrase bytes input out err end did told =
-    subst (λ (before : Option (List ℕ)). IfSome before (λ given. AnsweredTo passphrase given out end)) told did.answered
+answered_to passphrase bytes input out err end did reported =
+    subst (λ (before : Option (List ℕ)). IfSome before (λ given. AnsweredTo passphrase given out end)) reported did.answered
 
 -- ---- the other side
 
@@ -61,7 +49,7 @@ failing passphrase input out err status.DiskFault did short = absurd did.is_end
 failing passphrase input out err status.Done did short = absurd short
 failing passphrase input out err status.Usage did short = absurd short
 failing passphrase input out err status.Refused did short = absurd short
-failing passphrase input out err (status.BadStore file place) did short = absurd short
+failing passphrase input out err (status.BadStore file offset) did short = absurd short
 failing passphrase input out err status.Missing did short = absurd short
 failing passphrase input out err status.AlreadyThere did short = absurd short
 failing passphrase input out err (status.BadInput at) did short = absurd short
@@ -78,8 +66,8 @@ answered_own passphrase bytes input out err end o did (text, h, inr (short, f)) 
     inr (failing passphrase input out err end did short)
 
 pub catchups_answered : Catchups IsAnswered
-catchups_answered passphrase bytes input out err end did told o is =
-    answered_own passphrase bytes input out err end o did (answered_to passphrase bytes input out err end did told) is
+catchups_answered passphrase bytes input out err end did reported o is =
+    answered_own passphrase bytes input out err end o did (answered_to passphrase bytes input out err end did reported) is
 
 pub runs_answered : (vol : SeenVolume) → Runs vol IsAnswered
 runs_answered vol = runs_of vol IsAnswered catchups_answered
@@ -102,8 +90,8 @@ complete passphrase bytes input out err end did none (text, h, inr (short, f)) =
     inr (only_memory input out err end none (failing passphrase input out err end did short))
 
 pub catchups_complete : Catchups IsComplete
-catchups_complete passphrase bytes input out err end did told none =
-    complete passphrase bytes input out err end did none (answered_to passphrase bytes input out err end did told)
+catchups_complete passphrase bytes input out err end did reported none =
+    complete passphrase bytes input out err end did none (answered_to passphrase bytes input out err end did reported)
 
 pub runs_complete : (vol : SeenVolume) → Runs vol IsComplete
 runs_complete vol = runs_of vol IsComplete catchups_complete
@@ -138,9 +126,9 @@ done input out err end text none (inl h) = inl h
 done input out err end text none (inr failed) = inr (only_memory input out err end none failed)
 
 pub catchups_done : Catchups IsDone
-catchups_done passphrase bytes input out err end did told lines now a none =
+catchups_done passphrase bytes input out err end did reported lines now a none =
     done input out err end (lines ++ end_line now.header) none
-    (catchups_answered passphrase bytes input out err end did told
+    (catchups_answered passphrase bytes input out err end did reported
     (record { status = status.Done; text = lines ++ end_line now.header }) (accepted passphrase bytes lines now a))
 
 pub runs_done : (vol : SeenVolume) → Runs vol IsDone

@@ -1,41 +1,23 @@
--- How many whole `closed` lines a text has, and what is printed of records.
-use Rattle.std.proofs.Common.{◌≡◌, ℕ, ◌+◌, ◌-◌, ◌<◌, ◌≤◌, zero, suc, List, [], ◌∷◌, ◌++◌, length, take, refl, sym}
-use Rattle.std.proofs.Common.{ap, subst, ◌∙◌, append_assoc, append-nil, zero-add, arith, Ok, Err}
-use Rattle.std.proofs.Common.{inl, inr}
-use Rattle.std.proofs.Common.{◌⊎◌}
-use Rattle.std.specs.Prelude.{codes, cond, count_by}
-use Rattle.std.specs.List.{flat_map}
-use Rattle.std.specs.Fmt.{decimal, signed_decimal}
-use Rattle.std.proofs.lemmas.List.{take-append-le, length-append, length-take-le}
-use Rattle.std.proofs.lemmas.List.Sums.{sum_by-cons}
-use Rattle.std.proofs.lemmas.Bool.Decides.{leb_tells}
-use Rattle.std.proofs.Math.Seq.{take-append-add}
-use Rattle.ledger_types.specs.declared.header.LedgerHeader.{LedgerHeader}
-use Rattle.run_text.specs.op_types.declared.transaction_result.TransactionResultPair.{TransactionResultPair}
+-- How many complete `closed` lines a text has, and what is printed of records.
+use Rattle.replay.proofs.Prelude.{◌≡◌, ℕ, ◌+◌, ◌-◌, ◌<◌, ◌≤◌, zero, suc, List, [], ◌∷◌, ◌++◌, length, take, refl, sym}
+use Rattle.replay.proofs.Prelude.{ap, subst, ◌∙◌, append_assoc, append-nil, zero-add, arith, Ok, Err, inl, inr, ◌⊎◌}
+use Rattle.replay.proofs.Prelude.{codes, cond, count_by, flat_map, decimal, signed_decimal, take-append-le}
+use Rattle.replay.proofs.Prelude.{length-append, length-take-le, sum_by-cons, leb_tells, take-append-add, LedgerHeader}
+use Rattle.replay.proofs.Prelude.{TransactionResultPair, XdrFault, XdrKind, Reading, ledger_hash_of, CloseFault}
+use Rattle.replay.proofs.Prelude.{ClosingState, PreparedClose, ended_line, spaced, hash_text, success_count, tx_line}
+use Rattle.replay.proofs.Prelude.{closed_line, closed_lines, end_line, kind_name, fault_text, refused_line, Outcome}
+use Rattle.replay.proofs.Prelude.{lines_of, IsPrefix, IsStopped, IsEnd, complete_lines, is_closed_line, closed_count}
 use Rattle.run_text.specs.op_types.Codes.{outcome_code}
-use Rattle.xdr_core.specs.declared.fault.XdrFault.{XdrFault}
-use Rattle.xdr_core.specs.declared.fault.XdrKind.{XdrKind}
 use Rattle.xdr_core.specs.declared.fault.XdrKind.TheVariants as kind
-use Rattle.xdr_core.specs.Place.{Reading}
-use Rattle.stored_outcome.specs.value_hashes.Hashes.{ledger_hash_of}
-use Rattle.stored_outcome.specs.close_rules.declared.close_fault.CloseFault.{CloseFault}
 use Rattle.stored_outcome.specs.close_rules.declared.close_fault.CloseFault.TheVariants as fault
-use Rattle.stored_outcome.specs.close_rules.State.{ClosingState}
-use Rattle.stored_outcome.specs.close_rules.Close.{PreparedClose}
-use Rattle.stored_outcome.specs.run_outcome.Statuses.{ended_line}
-use Rattle.stored_outcome.specs.run_outcome.Lines.{spaced, hash_text, success_count, tx_line, closed_line, closed_lines}
-use Rattle.stored_outcome.specs.run_outcome.Lines.{end_line}
-use Rattle.stored_outcome.specs.run_outcome.Lines.{kind_name, fault_text, refused_line}
-use Rattle.stored_outcome.specs.run_outcome.Outcome.{Outcome, lines_of, IsFront, IsStopped, IsEnd}
-use Rattle.stored_outcome.specs.Behind.{whole_lines, is_closed_line, closed_count}
-use Rattle.replay.proofs.Fronts.{whole_or_less}
+use Rattle.replay.proofs.Prefixes.{complete_or_less}
 use Rattle.replay.proofs.LineEnds.{IsUnbroken, both_unbroken, lines_none, lines_one, decimal_unbroken, signed_unbroken}
 use Rattle.replay.proofs.LineEnds.{hex_unbroken, plain}
 use Rattle.replay.proofs.Marking.{read_mark}
 
--- ---- texts of whole lines
+-- ---- texts of complete lines
 
--- so many whole `closed` lines, and nothing behind the last line
+-- so many complete `closed` lines, and nothing after the last line
 abbrev pub Counts : ℕ → List ℕ → Type 0
 Counts k text = (rest : List ℕ) → closed_count (text ++ rest) ≡ k + closed_count rest
 
@@ -58,61 +40,61 @@ one_line : (text rest : List ℕ) → IsUnbroken text
     → closed_count (ended_line text ++ rest) ≡ closed_in text + closed_count rest
 one_line text rest h =
     ap closed_count (append_assoc text (10 ∷ []) rest) ∙ ap (count_by is_closed_line) (lines_one [] text rest h)
-    ∙ sum_by-cons closed_in text (whole_lines [] rest)
+    ∙ sum_by-cons closed_in text (complete_lines [] rest)
 
 counts_line : (text : List ℕ) (k : ℕ) → IsUnbroken text → closed_in text ≡ k
     → Counts k (ended_line text)
 counts_line text k h is rest = one_line text rest h ∙ ap (λ (n : ℕ). n + closed_count rest) is
 
 pub nothing_counted : closed_count [] ≡ 0
-unfolding whole_lines
+unfolding complete_lines
 nothing_counted = refl
 
-counts_whole : (k : ℕ) (text : List ℕ) → Counts k text → closed_count text ≡ k
-counts_whole k text h =
+counts_complete : (k : ℕ) (text : List ℕ) → Counts k text → closed_count text ≡ k
+counts_complete k text h =
     let e = h [] in
     let f : closed_count (text ++ []) ≡ closed_count text = ap closed_count (append-nil text) in
     omega (arith, e, f, nothing_counted)
 
--- ---- fronts that count none
+-- ---- prefixes that count none
 
--- no front of a text has a whole `closed` line
+-- no prefix of a text has a complete `closed` line
 abbrev pub IsPoor : List ℕ → Type 0
-IsPoor text = (front : List ℕ) → IsFront front text → closed_count front ≡ 0
+IsPoor text = (prefix : List ℕ) → IsPrefix prefix text → closed_count prefix ≡ 0
 
 count_unbroken : (text : List ℕ) → IsUnbroken text → closed_count text ≡ 0
 count_unbroken text h = ap (count_by is_closed_line) (lines_none [] text h)
 
-front_unbroken : (n : ℕ) (text : List ℕ) → IsUnbroken text → IsUnbroken (take n text)
-front_unbroken zero text h = tt
-front_unbroken (suc n) [] h = tt
-front_unbroken (suc n) (byte ∷ text) h = (h.0, front_unbroken n text h.1)
+prefix_unbroken : (n : ℕ) (text : List ℕ) → IsUnbroken text → IsUnbroken (take n text)
+prefix_unbroken zero text h = tt
+prefix_unbroken (suc n) [] h = tt
+prefix_unbroken (suc n) (byte ∷ text) h = (h.0, prefix_unbroken n text h.1)
 
--- a front of a line that isn't all of it
-short_front : (front text : List ℕ) → IsUnbroken text → IsFront front (ended_line text)
-    → length front < length (ended_line text) → closed_count front ≡ 0
-short_front front text h (n, le, e) less =
+-- a prefix of a line that isn't all of it
+short_prefix : (prefix text : List ℕ) → IsUnbroken text → IsPrefix prefix (ended_line text)
+    → length prefix < length (ended_line text) → closed_count prefix ≡ 0
+short_prefix prefix text h (n, le, e) less =
     let small : n ≤ length text =
     omega (arith, less, ap length e, length-take-le n (ended_line text) le, length-append text (10 ∷ [])) in
-    ap closed_count (e ∙ take-append-le n text (10 ∷ []) small) ∙ count_unbroken (take n text) (front_unbroken n text h)
+    ap closed_count (e ∙ take-append-le n text (10 ∷ []) small) ∙ count_unbroken (take n text) (prefix_unbroken n text h)
 
 pub poor_line : (text : List ℕ) → IsUnbroken text → closed_in text ≡ 0 → IsPoor (ended_line text)
-poor_line text h is front f = elim (whole_or_less front (ended_line text) f) [
-  | inl same ↦ ap closed_count same ∙ counts_whole 0 (ended_line text) (counts_line text 0 h is)
-  | inr less ↦ short_front front text h f less
+poor_line text h is prefix f = elim (complete_or_less prefix (ended_line text) f) [
+  | inl same ↦ ap closed_count same ∙ counts_complete 0 (ended_line text) (counts_line text 0 h is)
+  | inr less ↦ short_prefix prefix text h f less
 ]
 
 poor_none : IsPoor []
-poor_none front (n, le, e) = let empty : front ≡ [] = e ∙ nothing n in ap closed_count empty ∙ nothing_counted
+poor_none prefix (n, le, e) = let empty : prefix ≡ [] = e ∙ nothing n in ap closed_count empty ∙ nothing_counted
   where
     nothing : (n : ℕ) → take {A = ℕ} n [] ≡ []
     nothing zero = refl
     nothing (suc n) = refl
 
--- a front of two texts is one of the first, or has that and a front of the second
-pub split_front : (a b front : List ℕ) → IsFront front (a ++ b)
-    → IsFront front a ⊎ ((more : List ℕ) × (front ≡ a ++ more) × IsFront more b)
-split_front a b front (n, le, e) = elim (leb_tells n (length a)) [
+-- a prefix of two texts is one of the first, or has that and a prefix of the second
+pub split_prefix : (a b prefix : List ℕ) → IsPrefix prefix (a ++ b)
+    → IsPrefix prefix a ⊎ ((more : List ℕ) × (prefix ≡ a ++ more) × IsPrefix more b)
+split_prefix a b prefix (n, le, e) = elim (leb_tells n (length a)) [
   | inl small ↦ inl (n, small.1, e ∙ take-append-le n a b small.1)
   | inr large ↦ let m : ℕ = n - length a in
       let same : n ≡ length a + m = omega (arith, large.1) in
@@ -124,16 +106,16 @@ split_front a b front (n, le, e) = elim (leb_tells n (length a)) [
 ]
 
 poor_both : (a b : List ℕ) → Counts 0 a → IsPoor a → IsPoor b → IsPoor (a ++ b)
-poor_both a b counts poor_a poor_b front f = elim (split_front a b front f) [
-  | inl g ↦ poor_a front g
-  | inr rest ↦ let first : closed_count front ≡ closed_count (a ++ rest.0) = ap closed_count rest.1 in
+poor_both a b counts poor_a poor_b prefix f = elim (split_prefix a b prefix f) [
+  | inl g ↦ poor_a prefix g
+  | inr rest ↦ let first : closed_count prefix ≡ closed_count (a ++ rest.0) = ap closed_count rest.1 in
       omega (arith, first, counts rest.0, poor_b rest.0 rest.2)
 ]
 
 -- ---- the lines of a close
 
-then_spaced : (front word : List ℕ) → IsUnbroken front → IsUnbroken word → IsUnbroken (front ++ spaced word)
-then_spaced front word h i = both_unbroken front (spaced word) h (refl, i)
+then_spaced : (prefix word : List ℕ) → IsUnbroken prefix → IsUnbroken word → IsUnbroken (prefix ++ spaced word)
+then_spaced prefix word h i = both_unbroken prefix (spaced word) h (refl, i)
 
 abbrev tx_text : TransactionResultPair → List ℕ
 tx_text pair =
@@ -191,12 +173,12 @@ closed_counts : (header : LedgerHeader) (pairs : List TransactionResultPair) →
 unfolding closed_line
 closed_counts header pairs = counts_line (closed_text header pairs) 1 (closed_unbroken header pairs) refl
 
-closed_short : (header : LedgerHeader) (pairs : List TransactionResultPair) (front : List ℕ)
-    → IsFront front (closed_line header pairs) → length front < length (closed_line header pairs)
-    → closed_count front ≡ 0
+closed_short : (header : LedgerHeader) (pairs : List TransactionResultPair) (prefix : List ℕ)
+    → IsPrefix prefix (closed_line header pairs) → length prefix < length (closed_line header pairs)
+    → closed_count prefix ≡ 0
 unfolding closed_line
-closed_short header pairs front f less =
-    short_front front (closed_text header pairs) (closed_unbroken header pairs) f less
+closed_short header pairs prefix f less =
+    short_prefix prefix (closed_text header pairs) (closed_unbroken header pairs) f less
 
 -- all lines of a close have one `closed` line
 pub counts_close : (c : PreparedClose) → Counts 1 (lines_of c)
@@ -205,14 +187,14 @@ counts_close c =
     counts_both 0 1 (flat_map tx_line c.results) (closed_line c.state.header c.results) (txs_count c.results)
     (closed_counts c.state.header c.results)
 
--- a front that isn't all of them has none
-pub poor_close : (c : PreparedClose) (front : List ℕ) → IsFront front (lines_of c) → length front < length (lines_of c)
-    → closed_count front ≡ 0
+-- a prefix that isn't all of them has none
+pub poor_close : (c : PreparedClose) (prefix : List ℕ) → IsPrefix prefix (lines_of c) → length prefix < length (lines_of c)
+    → closed_count prefix ≡ 0
 unfolding closed_lines
-poor_close c front f less =
-    elim (split_front (flat_map tx_line c.results) (closed_line c.state.header c.results) front f) [
-      | inl g ↦ txs_poor c.results front g
-      | inr rest ↦ let first : closed_count front ≡ closed_count (flat_map tx_line c.results ++ rest.0) =
+poor_close c prefix f less =
+    elim (split_prefix (flat_map tx_line c.results) (closed_line c.state.header c.results) prefix f) [
+      | inl g ↦ txs_poor c.results prefix g
+      | inr rest ↦ let first : closed_count prefix ≡ closed_count (flat_map tx_line c.results ++ rest.0) =
           ap closed_count rest.1 in
           let small : length rest.0 < length (closed_line c.state.header c.results) =
           omega (
@@ -303,7 +285,7 @@ poor_stop s (Err wrong) last h = subst IsPoor (sym (ap (λ (o : Outcome). o.text
 poor_stop s (Ok x) last h =
     subst IsPoor (sym (ap (λ (o : Outcome). o.text) h.2)) (refused_poor s.header h.0)
 
--- what ends a run has no whole `closed` line
+-- what ends a run has no complete `closed` line
 pub poor_end : (s : ClosingState) (at : ℕ) (rest : List ℕ) (last : Outcome) → IsEnd s at rest last → IsPoor last.text
 poor_end s at [] last h = subst IsPoor (sym (ap (λ (o : Outcome). o.text) h)) (end_poor s.header)
 poor_end s at (byte ∷ rest) last h =

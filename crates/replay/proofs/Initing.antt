@@ -1,48 +1,29 @@
--- What the parts of `init` come to, and what a run of it leaves.
-use Rattle.std.proofs.Common.{◌≡◌, ◌≢◌, ℕ, ◌<◌, List, [], ◌++◌, length, Option, Some, None, IfSome}
-use Rattle.std.proofs.Common.{Ok, Err, refl, sym, ap, subst, ◌∙◌, append_assoc, append-nil, arith, ◌⊎◌, inl, inr}
-use Rattle.std.specs.Io.KnownBytes.{Consumes}
-use Rattle.std.proofs.KnownBytes.{Consumes-trans}
-use Rattle.std.proofs.lemmas.List.{length-append}
-use Rattle.ledger_types.specs.declared.ids.Hash.{Hash}
-use Rattle.xdr_core.specs.Place.{Place, start_of}
-use Rattle.xdr_header.specs.declared.image.StartImage.{StartImage}
-use Rattle.xdr_header.specs.Image.{start_image}
-use Rattle.hash_ids.specs.Ids.{network_id_of}
-use Rattle.stored_outcome.specs.close_rules.declared.image_fault.ImageRule.{ImageRule}
+-- What the parts of `init` yield, and what a run of it leaves.
+use Rattle.replay.proofs.Prelude as prelude
+use prelude.{◌≡◌, ℕ, ◌<◌, List, [], ◌++◌, length, Option, Some, None, IfSome, Ok, Err, refl, sym, ap, subst, ◌∙◌}
+use prelude.{append_assoc, append-nil, arith, ◌⊎◌, inl, inr, Consumes, Consumes-trans, length-append, Hash, Position}
+use prelude.{start_of, StartImage, start_image, network_id_of, ImageRule, ClosingState, IsJudged, Image, Disk, Runs}
+use prelude.{Seen, Failed, SeenVolume, StoreFault, StoreState, IsImage, Holds, HoldsNothing, IsSettled, first_kept}
+use prelude.{Creates, IsCreated, IsCreateFault, Status, IsReported, OpensTo, OpensOn, IsSound, IsBadInput, IsBadImage}
+use prelude.{MomentsOfInit, Asked, Stored, IsInitEnd, InitLeft, DidInit, Begins, Cut, IsFaulty, IsUncut, IsJudgedSo}
+use prelude.{IsReportedOrRefused, IsReportedSo, status_of, IsEnded, IsFollowed, IsUnended, IsInput, IsUnread, IsLedgers}
+use prelude.{IsStoringEnd, Storing}
+use Rattle.std.proofs.Common.{◌≢◌}
 use Rattle.stored_outcome.specs.close_rules.declared.image_fault.ImageFault.TheVariants as image_fault
-use Rattle.stored_outcome.specs.close_rules.State.{ClosingState}
-use Rattle.stored_outcome.specs.close_rules.Images.{IsJudged}
-use Rattle.outside.specs.Disk.{Image, Disk, Runs}
-use Rattle.stored_outcome.specs.run_streams.Seen.{Seen, Failed}
-use Rattle.stored_outcome.specs.run_streams.SeenVolume.{SeenVolume}
-use Rattle.image_store.specs.gate_journal.declared.fault.StoreFault.{StoreFault}
 use Rattle.image_store.specs.gate_journal.declared.fault.StoreFault.TheVariants as fault
-use Rattle.image_store.specs.State.{StoreState}
-use Rattle.image_store.specs.ImageFiles.{IsImage}
-use Rattle.image_store.specs.Opening.{Holds, HoldsNothing}
-use Rattle.image_store.specs.Calls.{IsSettled, first_kept, Creates, IsCreated, IsCreateFault}
-use Rattle.stored_outcome.specs.run_outcome.declared.status.Status.{Status}
 use Rattle.stored_outcome.specs.run_outcome.declared.status.Status.TheVariants as status
-use Rattle.stored_outcome.specs.run_outcome.Run.{IsTold}
-use Rattle.stored_outcome.specs.Opening.{OpensTo, OpensOn, IsSound}
-use Rattle.stored_outcome.specs.Init.{IsBadInput, IsBadImage, MomentsOfInit, Asked, Stored, IsInitEnd, InitLeft}
-use Rattle.stored_outcome.specs.Init.{DidInit}
-use Rattle.replay.specs.Starting.{Begins, Cut, IsFaulty, IsUncut, IsJudgedSo}
-use Rattle.replay.specs.Telling.{IsToldOrRefused, IsToldSo}
-use Rattle.replay.specs.StoredRuns.{status_of}
-use Rattle.replay.specs.Initing.{IsEnded, IsFollowed, IsUnended, IsInput, IsUnread, IsLedgers}
-use Rattle.replay.specs.Initing.{IsStoringEnd, Storing, Keeps}
-use Rattle.replay.proofs.Turning.{told_front, none_left, rose_before}
+use Rattle.replay.specs.Initing.{Keeps}
+use Rattle.replay.proofs.Turning.{reported_prefix, rose_before}
+use Rattle.replay.proofs.Turning.{nothing_after_end}
 
 -- ---- the input
 
 -- nothing is left where nothing more was given
-ended_front : (front : List ℕ) (image : StartImage) → Begins front image → IsImage front image
-ended_front front image begins =
-    let p : Place = record { at = length front; rest = [] } in (
+ended_prefix : (prefix : List ℕ) (image : StartImage) → Begins prefix image → IsImage prefix image
+ended_prefix prefix image begins =
+    let p : Position = record { at = length prefix; rest = [] } in (
       p,
-      subst (λ (t : List ℕ). start_image.read (start_of t) ≡ Ok (image, p)) (append-nil front) (begins []),
+      subst (λ (t : List ℕ). start_image.read (start_of t) ≡ Ok (image, p)) (append-nil prefix) (begins []),
       refl,
     )
 
@@ -52,14 +33,14 @@ pub input_is : (before mid now : Option (List ℕ)) (faults faults_mid faults_no
     → IsEnded ahead (record { before = mid; now = now; faults_before = faults_mid; faults_now = faults_now })
     → IsInput image (record { before = before; now = now; faults_before = faults; faults_now = faults_now })
 input_is before mid now faults faults_mid faults_now image at ahead c e =
-    let all : (c.front ++ ahead) ++ [] ≡ c.front =
-    append-nil (c.front ++ ahead) ∙ ap (λ (t : List ℕ). c.front ++ t) e.none ∙ append-nil c.front in
+    let all : (c.prefix ++ ahead) ++ [] ≡ c.prefix =
+    append-nil (c.prefix ++ ahead) ∙ ap (λ (t : List ℕ). c.prefix ++ t) e.none ∙ append-nil c.prefix in
     record {
-      given = c.front;
+      given = c.prefix;
       gave = subst (λ (t : List ℕ). Consumes before now t) all
-          (Consumes-trans before mid now (c.front ++ ahead) [] c.gave e.gave);
+          (Consumes-trans before mid now (c.prefix ++ ahead) [] c.gave e.gave);
       ended = e.ended;
-      are = ended_front c.front image c.begins;
+      are = ended_prefix c.prefix image c.begins;
       within = c.within;
     }
 
@@ -69,21 +50,21 @@ some_rest ahead more others some e =
     omega (arith, some, n, length-append ahead (more ++ others), length-append more others, length-append ahead more)
 
 input_goes_on : (before mid now : Option (List ℕ)) (faults faults_mid faults_now : ℕ) (image : StartImage)
-    (at place : ℕ) (ahead : List ℕ)
+    (at offset : ℕ) (ahead : List ℕ)
     → Cut image at ahead (record { before = before; now = mid; faults_before = faults; faults_now = faults_mid })
-    → place ≡ at
+    → offset ≡ at
     → IsFollowed ahead (record { before = mid; now = now; faults_before = faults_mid; faults_now = faults_now })
-    → IfSome before (λ bytes. IsBadInput bytes place)
-input_goes_on before mid now faults faults_mid faults_now image at place ahead c same f =
-    told_front before now ((c.front ++ ahead) ++ f.more) (λ bytes. IsBadInput bytes place)
-    (Consumes-trans before mid now (c.front ++ ahead) f.more c.gave f.gave)
-    (λ others told.
+    → IfSome before (λ bytes. IsBadInput bytes offset)
+input_goes_on before mid now faults faults_mid faults_now image at offset ahead c same f =
+    reported_prefix before now ((c.prefix ++ ahead) ++ f.more) (λ bytes. IsBadInput bytes offset)
+    (Consumes-trans before mid now (c.prefix ++ ahead) f.more c.gave f.gave)
+    (λ others reported.
     let rest : List ℕ = ahead ++ (f.more ++ others) in
-    let text : ((c.front ++ ahead) ++ f.more) ++ others ≡ c.front ++ rest =
-    append_assoc (c.front ++ ahead) f.more others ∙ append_assoc c.front ahead (f.more ++ others) in
+    let text : ((c.prefix ++ ahead) ++ f.more) ++ others ≡ c.prefix ++ rest =
+    append_assoc (c.prefix ++ ahead) f.more others ∙ append_assoc c.prefix ahead (f.more ++ others) in
     inr (
       image,
-      record { at = length c.front; rest = rest },
+      record { at = length c.prefix; rest = rest },
       ap (λ (t : List ℕ). start_image.read (start_of t)) text ∙ c.begins rest,
       some_rest ahead f.more others f.some,
       same ∙ c.len,
@@ -94,8 +75,8 @@ pub input_unended : (before mid now : Option (List ℕ)) (faults faults_mid faul
     → Cut image at ahead (record { before = before; now = mid; faults_before = faults; faults_now = faults_mid })
     → IsUnended at ahead (record { before = mid; now = now; faults_before = faults_mid; faults_now = faults_now }) end
     → IsUnread (record { before = before; now = now; faults_before = faults; faults_now = faults_now }) end
-input_unended before mid now faults faults_mid faults_now image at ahead (status.BadInput place) c h =
-    input_goes_on before mid now faults faults_mid faults_now image at place ahead c h.0 h.1
+input_unended before mid now faults faults_mid faults_now image at ahead (status.BadInput offset) c h =
+    input_goes_on before mid now faults faults_mid faults_now image at offset ahead c h.0 h.1
 input_unended before mid now faults faults_mid faults_now image at ahead status.ReadFault c h =
     rose_before faults faults_mid faults_now c.later h
 input_unended before mid now faults faults_mid faults_now image at ahead status.Done c h = absurd h
@@ -103,7 +84,7 @@ input_unended before mid now faults faults_mid faults_now image at ahead status.
 input_unended before mid now faults faults_mid faults_now image at ahead status.Refused c h = absurd h
 input_unended before mid now faults faults_mid faults_now image at ahead status.WriteFault c h = absurd h
 input_unended before mid now faults faults_mid faults_now image at ahead status.DiskFault c h = absurd h
-input_unended before mid now faults faults_mid faults_now image at ahead (status.BadStore file place) c h = absurd h
+input_unended before mid now faults faults_mid faults_now image at ahead (status.BadStore file offset) c h = absurd h
 input_unended before mid now faults faults_mid faults_now image at ahead status.NoMemory c h = absurd h
 input_unended before mid now faults faults_mid faults_now image at ahead (status.BadImage rule) c h = absurd h
 input_unended before mid now faults faults_mid faults_now image at ahead status.Missing c h = absurd h
@@ -124,7 +105,7 @@ uncut_unread input status.Usage h = absurd h
 uncut_unread input status.Refused h = absurd h
 uncut_unread input status.WriteFault h = absurd h
 uncut_unread input status.DiskFault h = absurd h
-uncut_unread input (status.BadStore file place) h = absurd h
+uncut_unread input (status.BadStore file offset) h = absurd h
 uncut_unread input (status.BadImage rule) h = absurd h
 uncut_unread input status.Missing h = absurd h
 uncut_unread input status.AlreadyThere h = absurd h
@@ -186,10 +167,10 @@ sound_still network start before now here runs sound =
     (let x = runs.crash c may in opens_still network sound.network start x.0 c (sound.crash x.0 x.1) x.2) in
     record { network = sound.network; crash = crash; reads = crash now.reads here }
 
--- what `create` tells, as `init` says it
+-- what `create` answers, as `init` says it
 pub storing_done : (network : Hash) (start : StartImage) (vol : SeenVolume) (store : StoreState)
-    → (vol.tells → MomentsOfInit network start vol) → (vol.tells → IsSound vol.before → IsSound vol.now)
-    → (vol.tells → Creates network start vol.before vol.now (Ok store)) → Storing network start vol status.Done
+    → (vol.reports → MomentsOfInit network start vol) → (vol.reports → IsSound vol.before → IsSound vol.now)
+    → (vol.reports → Creates network start vol.before vol.now (Ok store)) → Storing network start vol status.Done
 storing_done network start vol store moments sound creates = record {
   moments = moments;
   sound = sound;
@@ -201,9 +182,9 @@ storing_done network start vol store moments sound creates = record {
 }
 
 pub storing_fault : (network : Hash) (start : StartImage) (vol : SeenVolume) (wrong : StoreFault)
-    → (vol.tells → MomentsOfInit network start vol) → (vol.tells → IsSound vol.before → IsSound vol.now)
+    → (vol.reports → MomentsOfInit network start vol) → (vol.reports → IsSound vol.before → IsSound vol.now)
     → IsCreateFault vol.faults_before vol.faults_now wrong → (wrong ≡ fault.NoMemory → vol.same)
-    → (vol.tells → Creates network start vol.before vol.now (Err wrong)) → Storing network start vol (status_of wrong)
+    → (vol.reports → Creates network start vol.before vol.now (Err wrong)) → Storing network start vol (status_of wrong)
 storing_fault network start vol fault.DiskFault moments sound rose same creates = record {
   moments = moments;
   sound = sound;
@@ -232,7 +213,7 @@ storing_fault network start vol fault.NoMemory moments sound rose same creates =
   is_end = tt;
 }
 storing_fault network start vol fault.Failed moments sound rose same creates = absurd rose
-storing_fault network start vol (fault.BadStore file place) moments sound rose same creates = absurd rose
+storing_fault network start vol (fault.BadStore file offset) moments sound rose same creates = absurd rose
 storing_fault network start vol fault.Missing moments sound rose same creates = absurd rose
 
 -- ---- a run
@@ -243,8 +224,8 @@ bad_input_at at = status.BadInput at
 abbrev bad_image_of : ImageRule → Status
 bad_image_of rule = status.BadImage rule
 
-same_place : (at place : ℕ) → bad_input_at at ≡ status.BadInput place → at ≡ place
-same_place at place e = cc
+same_offset : (at offset : ℕ) → bad_input_at at ≡ status.BadInput offset → at ≡ offset
+same_offset at offset e = cc
 
 same_rule : (rule other : ImageRule) → bad_image_of rule ≡ status.BadImage other → rule ≡ other
 same_rule rule other e = cc
@@ -282,9 +263,9 @@ module _ (network : Hash) (input : Seen) (vol : SeenVolume) where
   bad_input same at bad = record {
     left = inl same;
     done = λ e. absurd cc;
-    bad_input = λ place e. (
+    bad_input = λ offset e. (
       same,
-      subst (λ (n : ℕ). IfSome input.before (λ bytes. IsBadInput bytes n)) (same_place at place e) bad,
+      subst (λ (n : ℕ). IfSome input.before (λ bytes. IsBadInput bytes n)) (same_offset at offset e) bad,
     );
     bad_image = λ rule e. absurd cc;
     already = λ e. absurd cc;
@@ -322,7 +303,7 @@ module _ (network : Hash) (input : Seen) (vol : SeenVolume) where
   unread_made same status.Refused h = absurd h
   unread_made same status.WriteFault h = absurd h
   unread_made same status.DiskFault h = absurd h
-  unread_made same (status.BadStore file place) h = absurd h
+  unread_made same (status.BadStore file offset) h = absurd h
   unread_made same (status.BadImage rule) h = absurd h
   unread_made same status.Missing h = absurd h
   unread_made same status.AlreadyThere h = absurd h
@@ -332,9 +313,9 @@ module _ (network : Hash) (input : Seen) (vol : SeenVolume) where
       → IsJudged network image (Err (image_fault.BadImage rule))
       → IfSome input.before (λ bytes. IsBadImage network bytes rule)
   broken image rule i judged =
-      told_front input.before input.now i.given (λ bytes. IsBadImage network bytes rule) i.gave
-      (λ others told. subst (λ (t : List ℕ). IsBadImage network t rule)
-      (sym (ap (λ (t : List ℕ). i.given ++ t) (none_left input.now others i.ended told) ∙ append-nil i.given))
+      reported_prefix input.before input.now i.given (λ bytes. IsBadImage network bytes rule) i.gave
+      (λ others reported. subst (λ (t : List ℕ). IsBadImage network t rule)
+      (sym (ap (λ (t : List ℕ). i.given ++ t) (nothing_after_end input.now others i.ended reported) ∙ append-nil i.given))
       (image, i.are, judged))
 
   unjudged_made : vol.same → (image : StartImage) (end : Status) → IsInput image input
@@ -348,7 +329,7 @@ module _ (network : Hash) (input : Seen) (vol : SeenVolume) where
   unjudged_made same image status.Refused i h = absurd cc
   unjudged_made same image status.WriteFault i h = absurd cc
   unjudged_made same image status.DiskFault i h = absurd cc
-  unjudged_made same image (status.BadStore file place) i h = absurd cc
+  unjudged_made same image (status.BadStore file offset) i h = absurd cc
   unjudged_made same image status.Missing i h = absurd cc
   unjudged_made same image status.AlreadyThere i h = absurd cc
 
@@ -363,7 +344,7 @@ module _ (network : Hash) (input : Seen) (vol : SeenVolume) where
   storing_end status.Usage h = absurd h
   storing_end status.Refused h = absurd h
   storing_end status.WriteFault h = absurd h
-  storing_end (status.BadStore file place) h = absurd h
+  storing_end (status.BadStore file offset) h = absurd h
   storing_end (status.BadImage rule) h = absurd h
   storing_end status.Missing h = absurd h
 
@@ -376,7 +357,7 @@ module _ (network : Hash) (input : Seen) (vol : SeenVolume) where
         ended = i.ended;
         start = image;
         state = ledgers.0;
-        whole = record { are = i.are; judged = ledgers.1 };
+        entire = record { are = i.are; judged = ledgers.1 };
         moments = stores.moments;
         sound = stores.sound;
       } in
@@ -392,7 +373,7 @@ module _ (network : Hash) (input : Seen) (vol : SeenVolume) where
         is_end = storing_end end stores.is_end;
       }
 
-  -- the line isn't told
+  -- the line isn't written
   as_write : (end : Status) → InitLeft network input vol end → InitLeft network input vol status.WriteFault
   as_write end m = record {
     left = m.left;
@@ -428,39 +409,39 @@ unread_no_write input end h e = subst (IsUnread input) e h
 -- ---- a run with its line on standard error
 
 module _ (passphrase : List ℕ) (input err : Seen) (vol : SeenVolume) where
-  told_as : (end after : Status) → InitLeft (network_id_of passphrase) input vol end → end ≢ status.WriteFault
-      → IsTold end err after → DidInit passphrase input err vol after
-  told_as end after m no_write (inl (e, h)) = subst (DidInit passphrase input err vol) (sym e) (record {
+  reported_as : (end after : Status) → InitLeft (network_id_of passphrase) input vol end → end ≢ status.WriteFault
+      → IsReported end err after → DidInit passphrase input err vol after
+  reported_as end after m no_write (inl (e, h)) = subst (DidInit passphrase input err vol) (sym e) (record {
     left = m;
     write_fault = λ w. absurd (no_write w);
-    told = inl h;
+    reported = inl h;
   })
-  told_as end after m no_write (inr (e, failed)) = subst (DidInit passphrase input err vol) (sym e) (record {
+  reported_as end after m no_write (inr (e, failed)) = subst (DidInit passphrase input err vol) (sym e) (record {
     left = as_write (network_id_of passphrase) input vol end m;
     write_fault = λ w. failed;
-    told = inr (refl, failed);
+    reported = inr (refl, failed);
   })
 
   -- memory may be refused for the line
-  told_or : (end after : Status) → InitLeft (network_id_of passphrase) input vol end → end ≢ status.WriteFault
-      → vol.same → IsToldOrRefused end err after → DidInit passphrase input err vol after
-  told_or end after m no_write same (inl told) = told_as end after m no_write told
-  told_or end after m no_write same (inr told) =
-      told_as status.NoMemory after (no_memory (network_id_of passphrase) input vol same) (λ e. cc) told
+  shown_or : (end after : Status) → InitLeft (network_id_of passphrase) input vol end → end ≢ status.WriteFault
+      → vol.same → IsReportedOrRefused end err after → DidInit passphrase input err vol after
+  shown_or end after m no_write same (inl reported) = reported_as end after m no_write reported
+  shown_or end after m no_write same (inr reported) =
+      reported_as status.NoMemory after (no_memory (network_id_of passphrase) input vol same) (λ e. cc) reported
 
   pub did_init : (end after : Status) → InitLeft (network_id_of passphrase) input vol end → end ≢ status.WriteFault
-      → IsToldSo end err after → DidInit passphrase input err vol after
-  did_init (status.BadInput at) after m no_write told =
-      told_or (status.BadInput at) after m no_write (m.bad_input at refl).0 told
-  did_init (status.BadImage rule) after m no_write told =
-      told_or (status.BadImage rule) after m no_write (m.bad_image rule refl).0 told
-  did_init (status.BadStore file place) after m no_write told = absurd m.is_end
-  did_init status.Done after m no_write told = told_as status.Done after m no_write told
-  did_init status.Usage after m no_write told = absurd m.is_end
-  did_init status.Refused after m no_write told = absurd m.is_end
-  did_init status.ReadFault after m no_write told = told_as status.ReadFault after m no_write told
-  did_init status.WriteFault after m no_write told = absurd (no_write refl)
-  did_init status.DiskFault after m no_write told = told_as status.DiskFault after m no_write told
-  did_init status.NoMemory after m no_write told = told_as status.NoMemory after m no_write told
-  did_init status.Missing after m no_write told = absurd m.is_end
-  did_init status.AlreadyThere after m no_write told = told_as status.AlreadyThere after m no_write told
+      → IsReportedSo end err after → DidInit passphrase input err vol after
+  did_init (status.BadInput at) after m no_write reported =
+      shown_or (status.BadInput at) after m no_write (m.bad_input at refl).0 reported
+  did_init (status.BadImage rule) after m no_write reported =
+      shown_or (status.BadImage rule) after m no_write (m.bad_image rule refl).0 reported
+  did_init (status.BadStore file offset) after m no_write reported = absurd m.is_end
+  did_init status.Done after m no_write reported = reported_as status.Done after m no_write reported
+  did_init status.Usage after m no_write reported = absurd m.is_end
+  did_init status.Refused after m no_write reported = absurd m.is_end
+  did_init status.ReadFault after m no_write reported = reported_as status.ReadFault after m no_write reported
+  did_init status.WriteFault after m no_write reported = absurd (no_write refl)
+  did_init status.DiskFault after m no_write reported = reported_as status.DiskFault after m no_write reported
+  did_init status.NoMemory after m no_write reported = reported_as status.NoMemory after m no_write reported
+  did_init status.Missing after m no_write reported = absurd m.is_end
+  did_init status.AlreadyThere after m no_write reported = reported_as status.AlreadyThere after m no_write reported

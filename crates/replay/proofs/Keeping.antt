@@ -1,47 +1,27 @@
 -- What a run leaves of the volume upon which it keeps its records.
-use Rattle.std.proofs.Common.{◌≡◌, ℕ, ◌+◌, ◌≤◌, ◌<◌, List, [], ◌∷◌, ◌++◌, length, take, drop, Option, Some, None}
-use Rattle.std.proofs.Common.{Ok, Err, refl, sym, ap, subst, ◌∙◌}
-use Rattle.std.proofs.Common.{append_assoc, append-nil, arith, ◌⊎◌, inl, inr}
-use Rattle.std.proofs.KnownBytes.{Appends-trans, Consumes-trans}
-use Rattle.xdr_core.specs.declared.fault.XdrFault.{XdrFault}
-use Rattle.xdr_core.specs.Place.{Place, start_of}
-use Rattle.xdr_core.specs.Format.{IsBytes}
-use Rattle.std.specs.Prelude.{◌≢◌}
-use Rattle.stored_outcome.specs.run_streams.Seen.{Seen, Gave, Received, ReceivedPrefix}
-use Rattle.record_stream.specs.Filling.{Grown}
-use Rattle.record_stream.specs.Measured.{record_end}
-use Rattle.record_stream.specs.Piece.{IsShort, IsPiece}
-use Rattle.record_stream.specs.declared.piece.PieceFault.{PieceFault}
+use Rattle.replay.proofs.Prelude as prelude
+use prelude.{◌≡◌, ℕ, ◌+◌, ◌≤◌, ◌<◌, List, [], ◌++◌, length, take, drop, Option, Some, None, Ok, Err, refl, sym, ap}
+use prelude.{subst, ◌∙◌, append_assoc, append-nil, arith, ◌⊎◌, inl, inr, Appends-trans, Consumes-trans, XdrFault}
+use prelude.{Position, start_of, IsBytes, ◌≢◌, Seen, Gave, Received, ReceivedPrefix, Grown, record_end, IsShort}
+use prelude.{IsPiece, PieceFault, CloseFault, ClosingState, PreparedClose, IsClose, FaultIs, Status, IsCutShort}
+use prelude.{end_line, refused_line, Outcome, silent, framed, max_record_len, lines_of, IsRun, IsRunPrefix, IsEnd}
+use prelude.{IsAnswer, Image, Disk, Runs, Same, IsSafe, widened, onward, OpensTo, OpensWithin, RunPosition, Goes, Wrote}
+use prelude.{Refuses, EndsAt, MayBeAhead, IsFailedEnd, IsUnbrokenEnd, OpensAcknowledged, OpensEither, OpensOnward}
+use prelude.{Keeps, Answers, KeptOn, IsWritten, IsUnkept, IsHalfway, KeptClose, KeptPass, KeptTurn, IsWriting}
+use prelude.{KeptWriting, nil_from_length}
 use Rattle.record_stream.specs.declared.piece.PieceFault.TheVariants as piece
-use Rattle.stored_outcome.specs.close_rules.declared.close_fault.CloseFault.{CloseFault}
 use Rattle.stored_outcome.specs.close_rules.declared.close_fault.CloseFault.TheVariants as close
-use Rattle.stored_outcome.specs.close_rules.State.{ClosingState}
-use Rattle.stored_outcome.specs.close_rules.Close.{PreparedClose, IsClose}
-use Rattle.worker_merges.specs.ledger_close.Answers.{FaultIs}
-use Rattle.stored_outcome.specs.run_outcome.declared.status.Status.{Status}
 use Rattle.stored_outcome.specs.run_outcome.declared.status.Status.TheVariants as status
-use Rattle.stored_outcome.specs.run_outcome.Statuses.{IsCutShort}
-use Rattle.stored_outcome.specs.run_outcome.Lines.{end_line, refused_line}
-use Rattle.stored_outcome.specs.run_outcome.Outcome.{Outcome, silent, framed, max_record_len, lines_of, IsRun}
-use Rattle.stored_outcome.specs.run_outcome.Outcome.{IsRunFront}
-use Rattle.stored_outcome.specs.run_outcome.Outcome.{IsEnd}
-use Rattle.stored_outcome.specs.run_outcome.Run.{IsAnswer}
-use Rattle.outside.specs.Disk.{Image, Disk, Runs, Same, IsSafe}
-use Rattle.outside.proofs.Running.{widened, onward}
-use Rattle.stored_outcome.specs.Opening.{OpensTo}
-use Rattle.stored_outcome.specs.Behind.{OpensWithin}
-use Rattle.replay.specs.Following.{Standing, Goes, Wrote, Refuses, EndsAt}
-use Rattle.stored_outcome.specs.StoredRun.{MayBeAhead, IsFailedEnd, IsUnbrokenEnd, OpensAcknowledged}
-use Rattle.replay.specs.Keeping.{OpensEither, OpensOnward, Keeps, Answers, KeptOn, IsWritten, IsUnkept, IsHalfway}
-use Rattle.replay.specs.Keeping.{KeptClose, KeptPass, KeptTurn, IsTelling, KeptTelling}
 use Rattle.replay.proofs.Lines.{lines_some}
-use Rattle.replay.proofs.Fronts.{nothing_front, whole_front, whole_or_less}
-use Rattle.replay.proofs.Marking.{read_mark, front_of}
-use Rattle.replay.proofs.Runs.{not_both, framed_apart, nothing_framed, ended_run, no_records, empty_front}
-use Rattle.replay.proofs.Turning.{over, no_record, end_err, bad_end, refused_end, cut_answer, answer_behind}
-use Rattle.replay.proofs.Turning.{whole_behind}
-use Rattle.replay.proofs.Behind.{ClosesNothing, ack_stopped, ack_empty, ack_partial, ack_one, ack_more}
-use Rattle.replay.proofs.Behind.{opens_none, opens_one, opens_more}
+use Rattle.replay.proofs.Prefixes.{nothing_prefix, complete_prefix, complete_or_less}
+use Rattle.replay.proofs.Marking.{read_mark, prefix_of}
+use Rattle.replay.proofs.Runs.{not_both, framed_apart, nothing_framed, ended_run, no_records, empty_prefix}
+use Rattle.replay.proofs.Turning.{over, no_record, end_err, bad_end, refused_end, cut_answer, answer_after}
+use Rattle.replay.proofs.Turning.{complete_after}
+use Rattle.replay.proofs.After.{ClosesNothing, ack_stopped, ack_empty, ack_partial, ack_one, ack_more}
+use Rattle.replay.proofs.After.{opens_none, opens_one, opens_more}
+use Rattle.replay.proofs.Surviving.{safe_opens}
+use Rattle.replay.proofs.Turning.{empty_or_some}
 
 -- ---- steps
 
@@ -75,10 +55,6 @@ one_of : (s : ClosingState) (c : Image) → OpensTo c s ⊎ OpensTo c s → Open
 one_of s c (inl o) = o
 one_of s c (inr o) = o
 
--- all that a crash may leave opens to what is read
-safe_opens : (d : Disk) (s : ClosingState) → IsSafe d → OpensTo d.reads s → (c : Image) → d.may_leave c → OpensTo c s
-safe_opens d s safe o c may = subst (λ (x : Image). OpensTo x s) (sym (safe c may)) o
-
 -- a record was kept, and then what is kept stays
 pub kept_then : (s next : ClosingState) (old mid new : Disk) → IsSafe mid → OpensTo mid.reads next
     → Runs (OpensEither s next) old mid → Runs (OpensEither next next) mid new → Runs (OpensEither s next) old new
@@ -87,57 +63,57 @@ kept_then s next old mid new safe opens first second =
     (λ d e c may_d may_e one two o. to_next s next c (two (safe_opens mid next safe opens e may_e)))
     (λ d e one o. one o) first second
 
--- what may be left behind a step from a state that is safe
+-- what may be left after a step from a state that is safe
 pub either_left : (s next : ClosingState) (old new : Disk) → IsSafe old → OpensTo old.reads s
     → Runs (OpensEither s next) old new → (c : Image) → new.may_leave c → OpensTo c s ⊎ OpensTo c next
 either_left s next old new safe opens runs c may =
     let x = runs.crash c may in x.2 (safe_opens old s safe opens x.0 x.1)
 
--- ---- what is told of a close
+-- ---- what is written of a close
 
-pub telling_failed : (s : ClosingState) (text : List ℕ) (out : Seen) (d : Disk) → IsSafe d → OpensTo d.reads s
-    → ReceivedPrefix out text → IsTelling s text out d d status.WriteFault
-telling_failed s text out d safe opens (n, le, h) = record {
+pub writing_failed : (s : ClosingState) (text : List ℕ) (out : Seen) (d : Disk) → IsSafe d → OpensTo d.reads s
+    → ReceivedPrefix out text → IsWriting s text out d d status.WriteFault
+writing_failed s text out d safe opens (n, le, h) = record {
   failed = tt;
-  front = take n text;
+  prefix = take n text;
   received = h;
   some = (n, le, refl);
   runs = stays_either s s d;
   crash = safe_opens d s safe opens;
-  told = inl refl;
+  reported = inl refl;
 }
 
 pub settle_failed : (s : ClosingState) (text : List ℕ) (out : Seen) (old new : Disk) → IsSafe old → OpensTo old.reads s
-    → Runs (OpensEither s s) old new → Received out text → IsTelling s text out old new status.DiskFault
+    → Runs (OpensEither s s) old new → Received out text → IsWriting s text out old new status.DiskFault
 settle_failed s text out old new safe opens runs h = record {
   failed = tt;
-  front = text;
+  prefix = text;
   received = h;
-  some = whole_front text;
+  some = complete_prefix text;
   runs = runs;
   crash = λ c may. one_of s c (either_left s s old new safe opens runs c may);
-  told = inr (inr refl);
+  reported = inr (inr refl);
 }
 
 pub settle_refused : (s : ClosingState) (text : List ℕ) (out : Seen) (old new : Disk) → IsSafe new
     → OpensTo new.reads s → Runs (OpensEither s s) old new → Received out text
-    → IsTelling s text out old new status.NoMemory
+    → IsWriting s text out old new status.NoMemory
 settle_refused s text out old new safe opens runs h = record {
   failed = tt;
-  front = text;
+  prefix = text;
   received = h;
-  some = whole_front text;
+  some = complete_prefix text;
   runs = runs;
   crash = safe_opens new s safe opens;
-  told = inr (inr refl);
+  reported = inr (inr refl);
 }
 
--- ---- what a close comes to
+-- ---- what a close yields
 
 pub unkept_nothing : (s : ClosingState) (bytes : List ℕ) (out : Seen) (d : Disk) → Received out []
     → IsUnkept s bytes out d d status.NoMemory
 unkept_nothing s bytes out d h = record {
-  front = [];
+  prefix = [];
   received = h;
   nothing = inl (refl, refl);
   runs = stays_same d;
@@ -155,54 +131,54 @@ keep_failed s bytes c out old new closes safe opens runs h = record {
   closed = c;
   closes = closes;
   failed = tt;
-  front = [];
+  prefix = [];
   received = h;
-  some = nothing_front (lines_of c);
+  some = nothing_prefix (lines_of c);
   runs = runs;
   crash = either_left s c.state old new safe opens runs;
-  whole = λ e. absurd (no_lines c e);
-  told = inr (inl (refl, refl));
+  entire = λ e. absurd (no_lines c e);
+  reported = inr (inl (refl, refl));
 }
 
-pub kept_told : (s : ClosingState) (bytes : List ℕ) (c : PreparedClose) (next : ClosingState) (out : Seen) (old mid
+pub kept_written : (s : ClosingState) (bytes : List ℕ) (c : PreparedClose) (next : ClosingState) (out : Seen) (old mid
     new : Disk)
     (r : Option Status) → IsClose s bytes (Ok c) → next ≡ c.state → IsSafe mid → OpensTo mid.reads c.state
-    → Runs (OpensEither s c.state) old mid → KeptTelling c.state (lines_of c) out mid new r
+    → Runs (OpensEither s c.state) old mid → KeptWriting c.state (lines_of c) out mid new r
     → KeptClose s bytes next out old new r
-kept_told s bytes c next out old mid new None closes same safe opens runs t = record {
+kept_written s bytes c next out old mid new None closes same safe opens runs t = record {
   closed = c;
   closes = closes;
   state = same;
   runs = kept_then s c.state old mid new safe opens runs t;
 }
-kept_told s bytes c next out old mid new (Some end) closes same safe opens runs t = inr (record {
+kept_written s bytes c next out old mid new (Some end) closes same safe opens runs t = inr (record {
   closed = c;
   closes = closes;
   failed = t.failed;
-  front = t.front;
+  prefix = t.prefix;
   received = t.received;
   some = t.some;
   runs = kept_then s c.state old mid new safe opens runs t.runs;
   crash = λ x may. inr (t.crash x may);
-  whole = λ e x may. t.crash x may;
-  told = t.told;
+  entire = λ e x may. t.crash x may;
+  reported = t.reported;
 })
 
-abbrev Written : (out : Seen) (text : List ℕ) (whole end : Status) → Type 0
-Written out text whole end = (front : List ℕ) × Received out front × IsWritten text whole front end
+abbrev Written : (out : Seen) (text : List ℕ) (entire end : Status) → Type 0
+Written out text entire end = (prefix : List ℕ) × Received out prefix × IsWritten text entire prefix end
 
-wrote_front : (out : Seen) (text : List ℕ) (whole end : Status) → Wrote out text whole end → Written out text whole end
-wrote_front out text whole end (inl (e, h)) = (text, h, inl (e, refl))
-wrote_front out text whole end (inr (inl (e, failed, (n, le, h)))) = (take n text, h, inr (inl (e, (n, le, refl))))
-wrote_front out text whole end (inr (inr (e, h))) = ([], h, inr (inr (e, refl)))
+wrote_prefix : (out : Seen) (text : List ℕ) (entire end : Status) → Wrote out text entire end → Written out text entire end
+wrote_prefix out text entire end (inl (e, h)) = (text, h, inl (e, refl))
+wrote_prefix out text entire end (inr (inl (e, failed, (n, le, h)))) = (take n text, h, inr (inl (e, (n, le, refl))))
+wrote_prefix out text entire end (inr (inr (e, h))) = ([], h, inr (inr (e, refl)))
 
 refused_by : (s : ClosingState) (bytes : List ℕ) (out : Seen) (d : Disk) (wrong : CloseFault) (end : Status)
     → IsClose s bytes (Err wrong) → Wrote out (refused_line s.header wrong) status.Refused end
     → IsUnkept s bytes out d d end
 refused_by s bytes out d wrong end closes wrote =
-    let w = wrote_front out (refused_line s.header wrong) status.Refused end wrote in
+    let w = wrote_prefix out (refused_line s.header wrong) status.Refused end wrote in
     record {
-      front = w.0;
+      prefix = w.0;
       received = w.1;
       nothing = inr (wrong, closes, w.2);
       runs = stays_same d;
@@ -243,21 +219,21 @@ untouched_crash s text old new end safe opens runs c may =
     inl (opens_none s text c (subst (λ (y : Image). OpensTo y s) (sym x.2) (safe_opens old s safe opens x.0 x.1)))
 
 -- nothing changed
-untouched : (s : ClosingState) (text front : List ℕ) (old new : Disk) (end : Status) → IsSafe old → OpensTo old.reads s
-    → Runs Same old new → (IsUnbrokenEnd end → front ≡ [])
-    → (ClosesNothing s text ⊎ (front ≡ [])) → Keeps s text front old new end
-untouched s text front old new end safe opens runs whole (inl none) = record {
+untouched : (s : ClosingState) (text prefix : List ℕ) (old new : Disk) (end : Status) → IsSafe old → OpensTo old.reads s
+    → Runs Same old new → (IsUnbrokenEnd end → prefix ≡ [])
+    → (ClosesNothing s text ⊎ (prefix ≡ [])) → Keeps s text prefix old new end
+untouched s text prefix old new end safe opens runs entire (inl none) = record {
   runs = widened {step = Same} {wider = OpensOnward s text} old new (λ d c e. same_opens s text d c e) runs;
   count = 0;
-  acknowledged = ack_stopped s text front none;
-  unbroken = whole;
+  acknowledged = ack_stopped s text prefix none;
+  unbroken = entire;
   crash = untouched_crash s text old new end safe opens runs;
 }
-untouched s text front old new end safe opens runs whole (inr empty) = record {
+untouched s text prefix old new end safe opens runs entire (inr empty) = record {
   runs = widened {step = Same} {wider = OpensOnward s text} old new (λ d c e. same_opens s text d c e) runs;
   count = 0;
-  acknowledged = ack_empty s text front empty;
-  unbroken = whole;
+  acknowledged = ack_empty s text prefix empty;
+  unbroken = entire;
   crash = untouched_crash s text old new end safe opens runs;
 }
 
@@ -268,24 +244,24 @@ refused_closes_nothing s bytes others text wrong fits cut refused other more c s
     let apart = framed_apart other bytes more others short fits (sym same ∙ cut) in
     not_both s bytes c wrong (subst (λ (b : List ℕ). IsClose s b (Ok c)) apart.0 closes) refused
 
-written_unbroken : (text front : List ℕ) (whole end : Status) → IsWritten text whole front end
-    → (IsUnbrokenEnd whole → ⊥) → IsUnbrokenEnd end → front ≡ []
-written_unbroken text front whole end (inl (e, same)) broken un = absurd (broken (subst IsUnbrokenEnd e un))
-written_unbroken text front whole end (inr (inl (e, f))) broken un = absurd (subst IsUnbrokenEnd e un)
-written_unbroken text front whole end (inr (inr (e, empty))) broken un = empty
+written_unbroken : (text prefix : List ℕ) (entire end : Status) → IsWritten text entire prefix end
+    → (IsUnbrokenEnd entire → ⊥) → IsUnbrokenEnd end → prefix ≡ []
+written_unbroken text prefix entire end (inl (e, same)) broken un = absurd (broken (subst IsUnbrokenEnd e un))
+written_unbroken text prefix entire end (inr (inl (e, f))) broken un = absurd (subst IsUnbrokenEnd e un)
+written_unbroken text prefix entire end (inr (inr (e, empty))) broken un = empty
 
 unkept_unbroken : (s : ClosingState) (bytes : List ℕ) (out : Seen) (old new : Disk) (end : Status)
-    → (u : IsUnkept s bytes out old new end) → IsUnbrokenEnd end → u.front ≡ []
+    → (u : IsUnkept s bytes out old new end) → IsUnbrokenEnd end → u.prefix ≡ []
 unkept_unbroken s bytes out old new end u un = elim u.nothing [
   | inl empty ↦ empty.1
-  | inr refused ↦ written_unbroken (refused_line s.header refused.0) u.front status.Refused end refused.2 (λ no. no) un
+  | inr refused ↦ written_unbroken (refused_line s.header refused.0) u.prefix status.Refused end refused.2 (λ no. no) un
 ]
 
 unkept_end : (s : ClosingState) (bytes others text : List ℕ) (out : Seen) (old new : Disk) (end : Status)
     → length bytes ≤ max_record_len → text ≡ framed bytes ++ others → IsSafe old → OpensTo old.reads s
-    → (u : IsUnkept s bytes out old new end) → Keeps s text u.front old new end
+    → (u : IsUnkept s bytes out old new end) → Keeps s text u.prefix old new end
 unkept_end s bytes others text out old new end fits cut safe opens u =
-    untouched s text u.front old new end safe opens u.runs (unkept_unbroken s bytes out old new end u) (elim u.nothing [
+    untouched s text u.prefix old new end safe opens u.runs (unkept_unbroken s bytes out old new end u) (elim u.nothing [
       | inl empty ↦ inr empty.1
       | inr refused ↦ inl (refused_closes_nothing s bytes others text refused.0 fits cut refused.1)
     ])
@@ -305,21 +281,21 @@ runs_onward s bytes others c old new fits closes runs =
     widened {step = OpensEither s c.state} {wider = OpensOnward s (framed bytes ++ others)} old new
     (either_onward s bytes others c fits closes) runs
 
-halfway_whole : (s : ClosingState) (bytes others : List ℕ) (out : Seen) (old new : Disk) (end : Status)
-    → length bytes ≤ max_record_len → (h : IsHalfway s bytes out old new end) → h.front ≡ lines_of h.closed
-    → Keeps s (framed bytes ++ others) h.front old new end
-halfway_whole s bytes others out old new end fits h same = record {
+halfway_complete : (s : ClosingState) (bytes others : List ℕ) (out : Seen) (old new : Disk) (end : Status)
+    → length bytes ≤ max_record_len → (h : IsHalfway s bytes out old new end) → h.prefix ≡ lines_of h.closed
+    → Keeps s (framed bytes ++ others) h.prefix old new end
+halfway_complete s bytes others out old new end fits h same = record {
   runs = runs_onward s bytes others h.closed old new fits h.closes h.runs;
   count = 1;
-  acknowledged = ack_one s bytes h.closed others h.front fits h.closes same;
+  acknowledged = ack_one s bytes h.closed others h.prefix fits h.closes same;
   unbroken = λ un. same ∙ sym (append-nil (lines_of h.closed));
-  crash = λ c may. inl (opens_one s bytes h.closed others c fits h.closes (h.whole same c may));
+  crash = λ c may. inl (opens_one s bytes h.closed others c fits h.closes (h.entire same c may));
 }
 
 -- not all lines were written: a device failed
 halfway_ahead : (s : ClosingState) (bytes : List ℕ) (out : Seen) (old new : Disk) (end : Status)
-    → (h : IsHalfway s bytes out old new end) → length h.front < length (lines_of h.closed) → MayBeAhead end
-halfway_ahead s bytes out old new end h less = elim h.told [
+    → (h : IsHalfway s bytes out old new end) → length h.prefix < length (lines_of h.closed) → MayBeAhead end
+halfway_ahead s bytes out old new end h less = elim h.reported [
   | inl write ↦ subst MayBeAhead (sym write) tt
   | inr rest ↦ elim rest [
     | inl disk ↦ subst MayBeAhead (sym disk.0) tt
@@ -328,9 +304,9 @@ halfway_ahead s bytes out old new end h less = elim h.told [
 ]
 
 halfway_unbroken : (s : ClosingState) (bytes : List ℕ) (out : Seen) (old new : Disk) (end : Status)
-    → (h : IsHalfway s bytes out old new end) → length h.front < length (lines_of h.closed) → IsUnbrokenEnd end
-    → h.front ≡ []
-halfway_unbroken s bytes out old new end h less un = elim h.told [
+    → (h : IsHalfway s bytes out old new end) → length h.prefix < length (lines_of h.closed) → IsUnbrokenEnd end
+    → h.prefix ≡ []
+halfway_unbroken s bytes out old new end h less un = elim h.reported [
   | inl write ↦ absurd (subst IsUnbrokenEnd write un)
   | inr rest ↦ elim rest [
     | inl disk ↦ disk.1
@@ -340,11 +316,11 @@ halfway_unbroken s bytes out old new end h less un = elim h.told [
 
 halfway_part : (s : ClosingState) (bytes others : List ℕ) (out : Seen) (old new : Disk) (end : Status)
     → length bytes ≤ max_record_len → (h : IsHalfway s bytes out old new end)
-    → length h.front < length (lines_of h.closed) → Keeps s (framed bytes ++ others) h.front old new end
+    → length h.prefix < length (lines_of h.closed) → Keeps s (framed bytes ++ others) h.prefix old new end
 halfway_part s bytes others out old new end fits h less = record {
   runs = runs_onward s bytes others h.closed old new fits h.closes h.runs;
   count = 0;
-  acknowledged = ack_partial s bytes h.closed others h.front fits h.closes less;
+  acknowledged = ack_partial s bytes h.closed others h.prefix fits h.closes less;
   unbroken = halfway_unbroken s bytes out old new end h less;
   crash = λ c may. elim (h.crash c may) [
     | inl same ↦ inl (opens_none s (framed bytes ++ others) c same)
@@ -357,45 +333,45 @@ halfway_part s bytes others out old new end fits h less = record {
 
 halfway_end : (s : ClosingState) (bytes others : List ℕ) (out : Seen) (old new : Disk) (end : Status)
     → length bytes ≤ max_record_len → (h : IsHalfway s bytes out old new end)
-    → Keeps s (framed bytes ++ others) h.front old new end
-halfway_end s bytes others out old new end fits h = elim (whole_or_less h.front (lines_of h.closed) h.some) [
-  | inl same ↦ halfway_whole s bytes others out old new end fits h same
+    → Keeps s (framed bytes ++ others) h.prefix old new end
+halfway_end s bytes others out old new end fits h = elim (complete_or_less h.prefix (lines_of h.closed) h.some) [
+  | inl same ↦ halfway_complete s bytes others out old new end fits h same
   | inr less ↦ halfway_part s bytes others out old new end fits h less
 ]
 
 -- ---- the text of such an end
 
 -- memory was refused, and nothing was written
-memory_answers : (s : ClosingState) (p : Place) (end : Status) → end ≡ status.NoMemory → Answers s p [] end
+memory_answers : (s : ClosingState) (p : Position) (end : Status) → end ≡ status.NoMemory → Answers s p [] end
 memory_answers s p end e = record {
-  answer = inr (subst IsCutShort (sym e) tt, empty_front s p);
-  whole = λ r. let no : status.NoMemory ≡ status.ReadFault = sym e ∙ r in absurd cc;
+  answer = inr (subst IsCutShort (sym e) tt, empty_prefix s p);
+  entire = λ r. let no : status.NoMemory ≡ status.ReadFault = sym e ∙ r in absurd cc;
 }
 
--- what ends a run here is answered, or a front of its line is
-written_answers : (s : ClosingState) (at : ℕ) (text front : List ℕ) (last : Outcome) (end : Status)
-    → IsEnd s at text last → last.status ≢ status.ReadFault → IsWritten last.text last.status front end
-    → Answers s (record { at = at; rest = text }) front end
-written_answers s at text front last end ends no_read (inl (e, same)) = record {
+-- what ends a run here is answered, or a prefix of its line is
+written_answers : (s : ClosingState) (at : ℕ) (text prefix : List ℕ) (last : Outcome) (end : Status)
+    → IsEnd s at text last → last.status ≢ status.ReadFault → IsWritten last.text last.status prefix end
+    → Answers s (record { at = at; rest = text }) prefix end
+written_answers s at text prefix last end ends no_read (inl (e, same)) = record {
   answer = inl (last, ended_run s at text last ends, e, same);
-  whole = λ r. absurd (no_read (sym e ∙ r));
+  entire = λ r. absurd (no_read (sym e ∙ r));
 }
-written_answers s at text front last end ends no_read (inr (inl (e, f))) = record {
+written_answers s at text prefix last end ends no_read (inr (inl (e, f))) = record {
   answer = inr (subst IsCutShort (sym e) tt, inr (last, ended_run s at text last ends, f));
-  whole = λ r. let no : status.WriteFault ≡ status.ReadFault = sym e ∙ r in absurd cc;
+  entire = λ r. let no : status.WriteFault ≡ status.ReadFault = sym e ∙ r in absurd cc;
 }
-written_answers s at text front last end ends no_read (inr (inr (e, same))) =
+written_answers s at text prefix last end ends no_read (inr (inr (e, same))) =
     subst (λ (t : List ℕ). Answers s (record { at = at; rest = text }) t end) (sym same)
     (memory_answers s (record { at = at; rest = text }) end e)
 
 unkept_answers : (s : ClosingState) (at : ℕ) (bytes others : List ℕ) (out : Seen) (old new : Disk) (end : Status)
     → length bytes ≤ max_record_len → (u : IsUnkept s bytes out old new end)
-    → Answers s (record { at = at; rest = framed bytes ++ others }) u.front end
+    → Answers s (record { at = at; rest = framed bytes ++ others }) u.prefix end
 unkept_answers s at bytes others out old new end fits u = elim u.nothing [
   | inl empty ↦ subst (λ (t : List ℕ). Answers s (record { at = at; rest = framed bytes ++ others }) t end)
       (sym empty.1)
       (memory_answers s (record { at = at; rest = framed bytes ++ others }) end empty.0)
-  | inr refused ↦ written_answers s at (framed bytes ++ others) u.front
+  | inr refused ↦ written_answers s at (framed bytes ++ others) u.prefix
       (record { status = status.Refused; text = refused_line s.header refused.0 }) end
       (refused_end s at bytes others refused.0 fits refused.1) (λ r. cc) refused.2
 ]
@@ -408,7 +384,7 @@ failed_cut status.ReadFault failed = absurd failed
 failed_cut status.Done failed = absurd failed
 failed_cut status.Usage failed = absurd failed
 failed_cut status.Refused failed = absurd failed
-failed_cut (status.BadStore file place) failed = absurd failed
+failed_cut (status.BadStore file offset) failed = absurd failed
 failed_cut (status.BadInput at) failed = absurd failed
 failed_cut (status.BadImage rule) failed = absurd failed
 failed_cut status.Missing failed = absurd failed
@@ -416,12 +392,12 @@ failed_cut status.AlreadyThere failed = absurd failed
 
 halfway_answers : (s : ClosingState) (at : ℕ) (bytes others : List ℕ) (out : Seen) (old new : Disk) (end : Status)
     → length bytes ≤ max_record_len → (h : IsHalfway s bytes out old new end)
-    → Answers s (record { at = at; rest = framed bytes ++ others }) h.front end
+    → Answers s (record { at = at; rest = framed bytes ++ others }) h.prefix end
 halfway_answers s at bytes others out old new end fits h =
     let f = failed_cut end h.failed in
     record {
-      answer = cut_answer s bytes h.closed at others h.front end fits h.closes f.0 h.some;
-      whole = λ r. absurd (f.1 r);
+      answer = cut_answer s bytes h.closed at others h.prefix end fits h.closes f.0 h.some;
+      entire = λ r. absurd (f.1 r);
     }
 
 record_end_kept : (s : ClosingState) (at : ℕ) (ahead mid bytes others : List ℕ) (input out : Seen) (old new : Disk)
@@ -431,20 +407,20 @@ record_end_kept : (s : ClosingState) (at : ℕ) (ahead mid bytes others : List �
 record_end_kept s at ahead mid bytes others input out old new end grown cut fits safe opens (inl u) = record {
   given = grown.given;
   gave = grown.gave;
-  front = u.front;
+  prefix = u.prefix;
   received = u.received;
-  answers = subst (λ (t : List ℕ). Answers s (record { at = at; rest = t }) u.front end) (sym (sym grown.grown ∙ cut))
+  answers = subst (λ (t : List ℕ). Answers s (record { at = at; rest = t }) u.prefix end) (sym (sym grown.grown ∙ cut))
       (unkept_answers s at bytes others out old new end fits u);
   keeps = unkept_end s bytes others (ahead ++ grown.given) out old new end fits (sym grown.grown ∙ cut) safe opens u;
 }
 record_end_kept s at ahead mid bytes others input out old new end grown cut fits safe opens (inr h) = record {
   given = grown.given;
   gave = grown.gave;
-  front = h.front;
+  prefix = h.prefix;
   received = h.received;
-  answers = subst (λ (t : List ℕ). Answers s (record { at = at; rest = t }) h.front end) (sym (sym grown.grown ∙ cut))
+  answers = subst (λ (t : List ℕ). Answers s (record { at = at; rest = t }) h.prefix end) (sym (sym grown.grown ∙ cut))
       (halfway_answers s at bytes others out old new end fits h);
-  keeps = subst (λ (t : List ℕ). Keeps s t h.front old new end) (sym (sym grown.grown ∙ cut))
+  keeps = subst (λ (t : List ℕ). Keeps s t h.prefix old new end) (sym (sym grown.grown ∙ cut))
       (halfway_end s bytes others out old new end fits h);
 }
 
@@ -456,42 +432,34 @@ pub kept_at : (s : ClosingState) (at : ℕ) (ahead mid : List ℕ) (end : ℕ) (
 kept_at s at ahead mid end next input out old new None fits grown measured safe opens p =
     subst (λ (x : ClosingState). Runs (OpensEither s x) old new) (sym p.kept.state) p.kept.runs
 kept_at s at ahead mid end next input out old new (Some last) fits grown measured safe opens p =
-    let f = front_of mid end fits measured in
+    let f = prefix_of mid end fits measured in
     record_end_kept s at ahead mid p.bytes (drop end mid) input out old new last grown
-    (f.whole ∙ ap (λ (t : List ℕ). t ++ drop end mid) (f.framed_is ∙ sym p.framed_is)) p.short safe opens p.kept
+    (f.entire ∙ ap (λ (t : List ℕ). t ++ drop end mid) (f.framed_is ∙ sym p.framed_is)) p.short safe opens p.kept
 
 -- ---- the end of a run where no record is ahead
 
 still : (s : ClosingState) (at : ℕ) (ahead : List ℕ) (input out : Seen) (d : Disk) (end : Status)
-    (given front : List ℕ) → IsSafe d → OpensTo d.reads s → Gave input given → Received out front
-    → Answers s (record { at = at; rest = ahead ++ given }) front end → (IsUnbrokenEnd end → front ≡ [])
-    → ClosesNothing s (ahead ++ given) ⊎ (front ≡ []) → KeptOn s at ahead input out d d end
-still s at ahead input out d end given front safe opens gave received answers whole nothing = record {
+    (given prefix : List ℕ) → IsSafe d → OpensTo d.reads s → Gave input given → Received out prefix
+    → Answers s (record { at = at; rest = ahead ++ given }) prefix end → (IsUnbrokenEnd end → prefix ≡ [])
+    → ClosesNothing s (ahead ++ given) ⊎ (prefix ≡ []) → KeptOn s at ahead input out d d end
+still s at ahead input out d end given prefix safe opens gave received answers entire nothing = record {
   given = given;
   gave = gave;
-  front = front;
+  prefix = prefix;
   received = received;
   answers = answers;
-  keeps = untouched s (ahead ++ given) front d d end safe opens (stays_same d) whole nothing;
+  keeps = untouched s (ahead ++ given) prefix d d end safe opens (stays_same d) entire nothing;
 }
-
-no_bytes : (new : List ℕ) → length new ≡ 0 → new ≡ []
-no_bytes [] e = refl
-no_bytes (byte ∷ rest) e = absurd (omega arith)
-
-none_or_some : (text : List ℕ) → (length text ≡ 0) ⊎ (0 < length text)
-none_or_some [] = inl refl
-none_or_some (byte ∷ rest) = inr (omega arith)
 
 empty_closes_nothing : (s : ClosingState) (text : List ℕ) → text ≡ [] → ClosesNothing s text
 empty_closes_nothing s text empty bytes more c short same closes = nothing_framed bytes more (sym empty ∙ same)
 
 -- nothing is ahead: the run is done
-done_answers : (s : ClosingState) (at : ℕ) (text front : List ℕ) (end : Status) → text ≡ []
-    → IsWritten (end_line s.header) status.Done front end → Answers s (record { at = at; rest = text }) front end
-done_answers s at text front end empty written =
+done_answers : (s : ClosingState) (at : ℕ) (text prefix : List ℕ) (end : Status) → text ≡ []
+    → IsWritten (end_line s.header) status.Done prefix end → Answers s (record { at = at; rest = text }) prefix end
+done_answers s at text prefix end empty written =
     let last : Outcome = record { status = status.Done; text = end_line s.header } in
-    written_answers s at text front last end (subst (λ (t : List ℕ). IsEnd s at t last) (sym empty) refl) (λ r. cc)
+    written_answers s at text prefix last end (subst (λ (t : List ℕ). IsEnd s at t last) (sym empty) refl) (λ r. cc)
     written
 
 -- what is ahead is no mark, or is cut
@@ -502,12 +470,12 @@ bad_answers s at text wrong end measured some e =
     written_answers s at text [] (silent (status.BadInput (at + wrong.at))) end
     (bad_end s at text wrong some (end_err (read_mark (start_of text)) wrong measured)) (λ r. cc) (inl (e, refl))
 
--- a read failed, and no whole record is ahead
+-- a read failed, and no complete record is ahead
 unread_answers : (s : ClosingState) (at : ℕ) (text : List ℕ) (end : Status) → IsShort record_end text
     → end ≡ status.ReadFault → Answers s (record { at = at; rest = text }) [] end
 unread_answers s at text end short e = record {
-  answer = inr (subst IsCutShort (sym e) tt, empty_front s (record { at = at; rest = text }));
-  whole = λ r. record {
+  answer = inr (subst IsCutShort (sym e) tt, empty_prefix s (record { at = at; rest = text }));
+  entire = λ r. record {
     ahead = no_records s (record { at = at; rest = text });
     partial = λ bytes more fits cut. no_record text bytes more short.0 short.1 fits cut;
   };
@@ -517,9 +485,9 @@ pub kept_off : (s : ClosingState) (at : ℕ) (ahead mid : List ℕ) (input out :
     (end : Status) → IsSafe d → OpensTo d.reads s
     → IsPiece record_end input.before input.now input.faults_before input.faults_now ahead mid (Err why)
     → EndsAt s at mid out why end → KeptOn s at ahead input out d d end
-kept_off s at ahead mid input out d (piece.Xdr wrong) end safe opens h e = elim (none_or_some mid) [
-  | inl none ↦ let w = wrote_front out (end_line s.header) status.Done end (e.0 none) in
-      let empty : ahead ++ h.0.given ≡ [] = sym h.0.grown ∙ no_bytes mid none in
+kept_off s at ahead mid input out d (piece.Xdr wrong) end safe opens h e = elim (empty_or_some mid) [
+  | inl none ↦ let w = wrote_prefix out (end_line s.header) status.Done end (e.0 none) in
+      let empty : ahead ++ h.0.given ≡ [] = sym h.0.grown ∙ nil_from_length mid none in
       still s at ahead input out d end h.0.given w.0 safe opens h.0.gave w.1
       (done_answers s at (ahead ++ h.0.given) w.0 end empty w.2)
       (written_unbroken (end_line s.header) w.0 status.Done end w.2 (λ no. no))
@@ -563,14 +531,14 @@ gone_runs s bytes c others old mid new fits closes safe opens first second =
     (two (safe_opens mid c.state safe opens e may_e)))
     (either_onward s bytes others c fits closes) first second
 
-gone_keeps : (s : ClosingState) (bytes : List ℕ) (c : PreparedClose) (others front : List ℕ) (old mid new : Disk)
+gone_keeps : (s : ClosingState) (bytes : List ℕ) (c : PreparedClose) (others prefix : List ℕ) (old mid new : Disk)
     (end : Status) → length bytes ≤ max_record_len → IsClose s bytes (Ok c) → IsSafe mid → OpensTo mid.reads c.state
-    → Runs (OpensEither s c.state) old mid → Keeps c.state others front mid new end
-    → Keeps s (framed bytes ++ others) (lines_of c ++ front) old new end
-gone_keeps s bytes c others front old mid new end fits closes safe opens runs k = record {
+    → Runs (OpensEither s c.state) old mid → Keeps c.state others prefix mid new end
+    → Keeps s (framed bytes ++ others) (lines_of c ++ prefix) old new end
+gone_keeps s bytes c others prefix old mid new end fits closes safe opens runs k = record {
   runs = gone_runs s bytes c others old mid new fits closes safe opens runs k.runs;
   count = k.count + 1;
-  acknowledged = ack_more s bytes c others front k.count fits closes k.acknowledged;
+  acknowledged = ack_more s bytes c others prefix k.count fits closes k.acknowledged;
   unbroken = λ un. ap (λ (t : List ℕ). lines_of c ++ t) (k.unbroken un);
   crash = λ x may. elim (k.crash x may) [
     | inl o ↦ inl (opens_more s bytes c others k.count x fits closes o)
@@ -578,24 +546,24 @@ gone_keeps s bytes c others front old mid new end fits closes safe opens runs k 
   ];
 }
 
-gone_answers : (s : ClosingState) (at next : ℕ) (bytes : List ℕ) (c : PreparedClose) (others front : List ℕ)
+gone_answers : (s : ClosingState) (at next : ℕ) (bytes : List ℕ) (c : PreparedClose) (others prefix : List ℕ)
     (end : Status) → length bytes ≤ max_record_len → IsClose s bytes (Ok c) → next ≡ at + length (framed bytes)
-    → Answers c.state (record { at = next; rest = others }) front end
-    → Answers s (record { at = at; rest = framed bytes ++ others }) (lines_of c ++ front) end
-gone_answers s at next bytes c others front end fits closes place a = record {
-  answer = answer_behind s bytes c at others front end fits closes
+    → Answers c.state (record { at = next; rest = others }) prefix end
+    → Answers s (record { at = at; rest = framed bytes ++ others }) (lines_of c ++ prefix) end
+gone_answers s at next bytes c others prefix end fits closes offset a = record {
+  answer = answer_after s bytes c at others prefix end fits closes
       (subst (λ (n : ℕ). IsAnswer (IsRun c.state (record { at = n; rest = others }))
-      (IsRunFront c.state (record { at = n; rest = others })) front end) place a.answer);
-  whole = λ e. whole_behind s bytes c at next others front fits closes (a.whole e);
+      (IsRunPrefix c.state (record { at = n; rest = others })) prefix end) offset a.answer);
+  entire = λ e. complete_after s bytes c at next others prefix fits closes (a.entire e);
 }
 
--- the text from the old place on, by what was given
-text_behind : (ahead given framed_one rest later : List ℕ) → ahead ++ given ≡ framed_one ++ rest
+-- the text from the old offset on, by what was given
+text_after : (ahead given framed_one rest later : List ℕ) → ahead ++ given ≡ framed_one ++ rest
     → ahead ++ (given ++ later) ≡ framed_one ++ (rest ++ later)
-text_behind ahead given framed_one rest later cut =
+text_after ahead given framed_one rest later cut =
     sym (append_assoc ahead given later) ∙ ap (λ (t : List ℕ). t ++ later) cut ∙ append_assoc framed_one rest later
 
-pub gone_on : (old new : Standing) (input out : Seen) (g : Goes old new input out) (now out_now : Option (List ℕ))
+pub gone_on : (old new : RunPosition) (input out : Seen) (g : Goes old new input out) (now out_now : Option (List ℕ))
     (faults out_faults : ℕ) (before mid after : Disk) (end : Status) → IsSafe mid → OpensTo mid.reads new.state
     → Runs (OpensEither old.state new.state) before mid
     → KeptOn new.state new.at new.ahead (over input.now now input.faults_now faults)
@@ -605,23 +573,23 @@ pub gone_on : (old new : Standing) (input out : Seen) (g : Goes old new input ou
 gone_on old new input out g now out_now faults out_faults before mid after end safe opens runs k = record {
   given = g.given ++ k.given;
   gave = Consumes-trans input.before input.now now g.given k.given g.gave k.gave;
-  front = lines_of g.closed ++ k.front;
-  received = Appends-trans out.before out.now out_now (lines_of g.closed) k.front g.received k.received;
+  prefix = lines_of g.closed ++ k.prefix;
+  received = Appends-trans out.before out.now out_now (lines_of g.closed) k.prefix g.received k.received;
   answers = subst
-      (λ (t : List ℕ). Answers old.state (record { at = old.at; rest = t }) (lines_of g.closed ++ k.front) end)
-      (sym (text_behind old.ahead g.given (framed g.bytes) new.ahead k.given g.cut))
-      (gone_answers old.state old.at new.at g.bytes g.closed (new.ahead ++ k.given) k.front end g.short g.closes g.at
-      (subst (λ (x : ClosingState). Answers x (record { at = new.at; rest = new.ahead ++ k.given }) k.front end) g.state
+      (λ (t : List ℕ). Answers old.state (record { at = old.at; rest = t }) (lines_of g.closed ++ k.prefix) end)
+      (sym (text_after old.ahead g.given (framed g.bytes) new.ahead k.given g.cut))
+      (gone_answers old.state old.at new.at g.bytes g.closed (new.ahead ++ k.given) k.prefix end g.short g.closes g.at
+      (subst (λ (x : ClosingState). Answers x (record { at = new.at; rest = new.ahead ++ k.given }) k.prefix end) g.state
       k.answers));
-  keeps = subst (λ (t : List ℕ). Keeps old.state t (lines_of g.closed ++ k.front) before after end)
-      (sym (text_behind old.ahead g.given (framed g.bytes) new.ahead k.given g.cut))
-      (gone_keeps old.state g.bytes g.closed (new.ahead ++ k.given) k.front before mid after end g.short g.closes safe
+  keeps = subst (λ (t : List ℕ). Keeps old.state t (lines_of g.closed ++ k.prefix) before after end)
+      (sym (text_after old.ahead g.given (framed g.bytes) new.ahead k.given g.cut))
+      (gone_keeps old.state g.bytes g.closed (new.ahead ++ k.given) k.prefix before mid after end g.short g.closes safe
       (subst (λ (x : ClosingState). OpensTo mid.reads x) g.state opens)
       (subst (λ (x : ClosingState). Runs (OpensEither old.state x) before mid) g.state runs)
-      (subst (λ (x : ClosingState). Keeps x (new.ahead ++ k.given) k.front mid after end) g.state k.keeps));
+      (subst (λ (x : ClosingState). Keeps x (new.ahead ++ k.given) k.prefix mid after end) g.state k.keeps));
 }
 
--- whatever the rest of a run leaves from here, the whole left from its start
+-- whatever the rest of a run leaves from here, the entire run left from its start
 abbrev pub CarriesKept : {W : Type 0} → (W → Disk)
     → (s s0 : ClosingState) (at at0 : ℕ) (ahead ahead0 : List ℕ) (input input0 out out0 : Seen)
     → (d d0 : Disk) → Type 0

@@ -3,18 +3,18 @@ pub mod StoredCompleting
 pub mod OneOutcome
 pub mod OneState
 pub mod Marking
-pub mod Fronts
+pub mod Prefixes
 pub mod Lines
 pub mod Runs
 pub mod Turning
-pub mod Behind
+pub mod After
 pub mod Keeping
-pub mod Comes
+pub mod Yields
 pub mod Faults
 pub mod Surviving
 pub mod ClosingAgain
 pub mod Opening
-pub mod Whole
+pub mod Complete
 pub mod Initing
 pub mod Starts
 pub mod Tellings
@@ -30,7 +30,7 @@ pub mod Commands
 pub mod Agreeing
 pub mod Sampling
 pub mod SampleSteps
-pub mod SampleTelling
+pub mod SampleReporting
 pub use Rattle.stored_outcome.proofs.bucket_core_proofs
 pub use Rattle.worker_merges.proofs.bucket_merge_proofs
 pub use Rattle.stored_outcome.proofs.entry_sums_proofs
@@ -38,3 +38,4 @@ pub use Rattle.worker_merges.proofs.entry_table_proofs
 pub use Rattle.worker_merges.proofs.image_rules_proofs
 pub use Rattle.worker_merges.proofs.ledger_close_proofs
 pub use Rattle.xdr_core.proofs as xdr_core_proofs
+pub mod Prelude

@@ -1,12 +1,10 @@
 -- Texts without the end of a line, and the lines of a text that end.
-use Rattle.std.proofs.Common.{◌≡◌, ℕ, ◌+◌, ◌/◌, ◌%◌, ◌≤◌, List, [], ◌∷◌, ◌++◌, refl, sym, ap}
-use Rattle.std.proofs.Common.{◌∙◌}
-use Rattle.std.proofs.Common.{append_assoc, append-nil, ne_eqb, arith, suc, zero}
-use Rattle.std.specs.Prelude.{nat_eq, nat_lt, Bool, true, false, if◌then◌else◌, slice_index, ℤ}
-use Rattle.std.specs.Prelude.{pos, negsuc}
-use Rattle.std.specs.Fmt.{decimal, signed_decimal, digits, digits_onto, digit_glyph}
+use Rattle.replay.proofs.Prelude.{◌≡◌, ℕ, ◌+◌, ◌/◌, ◌%◌, ◌≤◌, List, [], ◌∷◌, ◌++◌, refl, sym, ap, ◌∙◌, append_assoc}
+use Rattle.replay.proofs.Prelude.{append-nil, ne_eqb, arith, suc, zero, nat_eq, nat_lt, if◌then◌else◌, slice_index, ℤ}
+use Rattle.replay.proofs.Prelude.{pos, negsuc, decimal, signed_decimal, digits, digits_onto, digit_glyph}
+use Rattle.replay.proofs.Prelude.{complete_lines}
+use Rattle.std.specs.Prelude.{Bool, true, false}
 use Rattle.hex.specs.Hex.{encode_with, encode_lower, lower_digits}
-use Rattle.stored_outcome.specs.Behind.{whole_lines}
 
 -- no line ends in a text
 abbrev pub IsUnbroken : List ℕ → Type 0
@@ -76,19 +74,19 @@ hex_unbroken (byte ∷ bytes) = (lower (byte / 16), (lower (byte % 16), hex_unbr
 
 -- ---- lines
 
-pub lines_none : (begun text : List ℕ) → IsUnbroken text → whole_lines begun text ≡ []
-unfolding whole_lines
+pub lines_none : (begun text : List ℕ) → IsUnbroken text → complete_lines begun text ≡ []
+unfolding complete_lines
 lines_none begun [] h = refl
 lines_none begun (byte ∷ rest) h =
-    ap (λ (b : Bool). if b then begun ∷ whole_lines [] rest else whole_lines (begun ++ byte ∷ []) rest) h.0
+    ap (λ (b : Bool). if b then begun ∷ complete_lines [] rest else complete_lines (begun ++ byte ∷ []) rest) h.0
     ∙ lines_none (begun ++ byte ∷ []) rest h.1
 
 pub lines_one : (begun text rest : List ℕ) → IsUnbroken text
-    → whole_lines begun (text ++ 10 ∷ rest) ≡ (begun ++ text) ∷ whole_lines [] rest
-unfolding whole_lines
-lines_one begun [] rest h = ap (λ (line : List ℕ). line ∷ whole_lines [] rest) (sym (append-nil begun))
+    → complete_lines begun (text ++ 10 ∷ rest) ≡ (begun ++ text) ∷ complete_lines [] rest
+unfolding complete_lines
+lines_one begun [] rest h = ap (λ (line : List ℕ). line ∷ complete_lines [] rest) (sym (append-nil begun))
 lines_one begun (byte ∷ text) rest h =
-    ap (λ (b : Bool). if b then begun ∷ whole_lines [] (text ++ 10 ∷ rest)
-    else whole_lines (begun ++ byte ∷ []) (text ++ 10 ∷ rest)) h.0
+    ap (λ (b : Bool). if b then begun ∷ complete_lines [] (text ++ 10 ∷ rest)
+    else complete_lines (begun ++ byte ∷ []) (text ++ 10 ∷ rest)) h.0
     ∙ lines_one (begun ++ byte ∷ []) text rest h.1
-    ∙ ap (λ (line : List ℕ). line ∷ whole_lines [] rest) (append_assoc begun (byte ∷ []) text)
+    ∙ ap (λ (line : List ℕ). line ∷ complete_lines [] rest) (append_assoc begun (byte ∷ []) text)

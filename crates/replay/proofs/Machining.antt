@@ -1,10 +1,9 @@
 -- What the machine keeps, whatever happens.
-use Rattle.std.proofs.Common.{◌≡◌, ◌⊎◌, inl, inr, ℕ, zero, suc, ◌+◌, ◌≤◌, ◌<◌, List, [], ◌∷◌, ◌++◌, length}
-use Rattle.std.proofs.Common.{Some}
-use Rattle.std.proofs.Common.{Ok, IsSome, refl, sym, ap, subst, ◌∙◌, arith, append_assoc}
-use Rattle.std.specs.Prelude.{slice_get}
-use Rattle.std.proofs.lemmas.Bool.{cases_eq, cases_lt}
-use Rattle.std.proofs.lemmas.List.{append-nil, ext_get_or, length-append}
+use Rattle.replay.proofs.Prelude.{◌≡◌, ◌⊎◌, inl, inr, ℕ, zero, suc, ◌+◌, ◌≤◌, ◌<◌, List, [], ◌∷◌, ◌++◌, length, Some}
+use Rattle.replay.proofs.Prelude.{Ok, IsSome, refl, sym, ap, subst, ◌∙◌, arith, append_assoc, slice_get, cases_eq}
+use Rattle.replay.proofs.Prelude.{cases_lt, ext_get_or, length-append, ClosingState, max_file_total, PreparedClose}
+use Rattle.replay.proofs.Prelude.{IsClosed, ClosesWith, IsClose, AreClosedTo}
+use Rattle.std.proofs.lemmas.List.{append-nil}
 use Rattle.std.proofs.lemmas.Option.{none-some, same_Some}
 use Rattle.stored_outcome.specs.bucket_core.Bucket.{Contents}
 use Rattle.worker_merges.specs.bucket_merge.Merge.{IsMerge}
@@ -14,14 +13,12 @@ use Rattle.stored_outcome.specs.bucket_levels.Step.{IsStep}
 use Rattle.stored_outcome.specs.bucket_levels.Size.{file_total}
 use Rattle.stored_outcome.specs.bucket_levels.InOrder.{PendingInputs, InOrder, put_at, IsOfFiles}
 use Rattle.stored_outcome.proofs.bucket_levels_proofs.Ordering.{put_same, put_other, steps_are_in_order}
-use Rattle.stored_outcome.specs.close_rules.State.{ClosingState, max_file_total}
-use Rattle.stored_outcome.specs.close_rules.Close.{PreparedClose, IsTaken, IsClosed, ClosesWith, IsClose}
+use Rattle.stored_outcome.specs.close_rules.Close.{IsTaken}
 use Rattle.stored_outcome.specs.close_rules.declared.close_fault.CloseFault.TheVariants as fault
-use Rattle.replay.specs.ClosingAgain.{AreClosedTo}
 use Rattle.replay.specs.Machine.{Machine, MadeMerge, IsTake, MayGo, IsWrite, StepsInOrder, IsInstall, IsDue, IsHandIn}
 use Rattle.replay.specs.Machine.{IsLeft, IsReopening, Event, Take, Write, Install, HandIn, Reopen, Happens, AllHappen}
 use Rattle.replay.specs.Machine.{IsFirst, MayLeave, MachinesKeepUp, LogsGrow}
-use Rattle.replay.proofs.Comes.{closed_more}
+use Rattle.replay.proofs.Yields.{closed_more}
 use Rattle.replay.proofs.Runs.{not_both, next_seq}
 
 abbrev in_order : Machine → InOrder
@@ -33,17 +30,17 @@ record IsSound (s : ClosingState) (m : Machine) : Type 0 where
   files : IsOfFiles m.state.levels m.state.header.ledger_seq (in_order m)
   accepted : (bytes : List ℕ) → m.hand ≡ Some bytes → (closed : PreparedClose) × IsClose m.state bytes (Ok closed)
   acked : m.acked ≤ length m.log
-  may : (place count : ℕ) → slice_get m.may place ≡ Some count → MayLeave m count
+  may : (index count : ℕ) → slice_get m.may index ≡ Some count → MayLeave m count
 
 -- ---- lists of one and two numbers
 
-only : (a place count : ℕ) → slice_get (a ∷ []) place ≡ Some count → count ≡ a
-only a zero count e = sym (same_Some a count e)
-only a (suc place) count e = absurd (none-some count e)
+index_of_one : (a index count : ℕ) → slice_get (a ∷ []) index ≡ Some count → count ≡ a
+index_of_one a zero count e = sym (same_Some a count e)
+index_of_one a (suc index) count e = absurd (none-some count e)
 
-either : (a b place count : ℕ) → slice_get (a ∷ b ∷ []) place ≡ Some count → (count ≡ a) ⊎ (count ≡ b)
-either a b zero count e = inl (sym (same_Some a count e))
-either a b (suc place) count e = inr (only b place count e)
+index_of_two : (a b index count : ℕ) → slice_get (a ∷ b ∷ []) index ≡ Some count → (count ≡ a) ⊎ (count ≡ b)
+index_of_two a b zero count e = inl (sym (same_Some a count e))
+index_of_two a b (suc index) count e = inr (index_of_one b index count e)
 
 -- ---- records
 
@@ -60,18 +57,18 @@ take_kept s bytes old new take sound = subst (IsSound s) (sym take.is) (record {
   accepted = λ other e. subst (λ (b : List ℕ). (closed : PreparedClose) × IsClose old.state b (Ok closed))
       (same_Some bytes other e) (take.closed, take.accepted);
   acked = sound.acked;
-  may = λ place count e. still_leaves bytes old count (sound.may place count e);
+  may = λ index count e. still_leaves bytes old count (sound.may index count e);
 })
 
-may_go : (m : Machine) (may : List ℕ) (place count : ℕ) → IsSome m.hand → MayGo (length m.log) m.may may
-    → slice_get may place ≡ Some count → MayLeave m count
-may_go m may place count some (inl x) e =
-    elim (either (length m.log) (length m.log + 1) place count
-    (subst (λ (l : List ℕ). slice_get l place ≡ Some count) x.1 e)) [ inl is ↦ inl is | inr is ↦ inr (is, some) ]
-may_go m may place count some (inr (inl x)) e =
-    inr (only (length m.log + 1) place count (subst (λ (l : List ℕ). slice_get l place ≡ Some count) x.1 e), some)
-may_go m may place count some (inr (inr x)) e =
-    inr (only (length m.log + 1) place count (subst (λ (l : List ℕ). slice_get l place ≡ Some count) x.1 e), some)
+may_go : (m : Machine) (may : List ℕ) (index count : ℕ) → IsSome m.hand → MayGo (length m.log) m.may may
+    → slice_get may index ≡ Some count → MayLeave m count
+may_go m may index count some (inl x) e =
+    elim (index_of_two (length m.log) (length m.log + 1) index count
+    (subst (λ (l : List ℕ). slice_get l index ≡ Some count) x.1 e)) [ inl is ↦ inl is | inr is ↦ inr (is, some) ]
+may_go m may index count some (inr (inl x)) e =
+    inr (index_of_one (length m.log + 1) index count (subst (λ (l : List ℕ). slice_get l index ≡ Some count) x.1 e), some)
+may_go m may index count some (inr (inr x)) e =
+    inr (index_of_one (length m.log + 1) index count (subst (λ (l : List ℕ). slice_get l index ≡ Some count) x.1 e), some)
 
 write_kept : (s : ClosingState) (old new : Machine) → IsWrite old new → IsSound s old → IsSound s new
 write_kept s old new (inl same) sound = subst (IsSound s) (sym same) sound
@@ -80,12 +77,12 @@ write_kept s old new (inr (some, go, is)) sound = subst (IsSound s) (sym is) (re
   files = sound.files;
   accepted = sound.accepted;
   acked = sound.acked;
-  may = λ place count e. may_go old new.may place count some go e;
+  may = λ index count e. may_go old new.may index count some go e;
 })
 
 -- ---- closes
 
--- files of so many levels are told by each of them
+-- files of so many levels are determined by each of them
 same_pairs : (some others : List Pair) → length some ≡ level_count → length others ≡ level_count
     → ((level : ℕ) → level < level_count → pair_at some level ≡ pair_at others level) → some ≡ others
 same_pairs some others a b each = ext_get_or empty_pair some others (a ∙ sym b) (λ i lt. each i (omega (arith, lt, a)))
@@ -127,7 +124,7 @@ install_closes s old new sound i = record {
   network = i.closes.network;
   entries = i.closes.entries;
   fresh = i.closes.fresh;
-  told = i.closes.told;
+  reported = i.closes.reported;
   levels = (levelled old new old.state.header.ledger_seq i.closes.fresh i.closed.state.levels sound.files
       i.closes.levels).step;
   header = i.closes.header;
@@ -158,8 +155,8 @@ install_kept s old new i sound =
           })) (sym seq) files);
       accepted = λ bytes e. absurd (none-some bytes (sym i.free ∙ e));
       acked = omega (arith, i.acked);
-      may = λ place count e.
-          inl (only (length new.log) place count (subst (λ (l : List ℕ). slice_get l place ≡ Some count) i.may e));
+      may = λ index count e.
+          inl (index_of_one (length new.log) index count (subst (λ (l : List ℕ). slice_get l index ≡ Some count) i.may e));
     }
 
 -- ---- merges
@@ -199,7 +196,7 @@ hand_in_kept s made old new (inr (other, same)) sound = subst (IsSound s) (sym s
 
 -- ---- crashes
 
--- what is behind a crash, on the files of a state with all its levels
+-- what is there after a crash, on the files of a state with all its levels
 reopened : (s : ClosingState) (old new : Machine) → IsReopening old new → AreClosedTo s new.log new.state
     → length new.state.levels ≡ level_count → new.acked ≤ length new.log → IsSound s new
 reopened s old new r closed count acked = record {
@@ -212,8 +209,8 @@ reopened s old new r closed count acked = record {
   };
   accepted = λ bytes e. absurd (none-some bytes (sym r.free ∙ e));
   acked = acked;
-  may = λ place at e.
-      inl (only (length new.log) place at (subst (λ (l : List ℕ). slice_get l place ≡ Some at) r.may e));
+  may = λ index at e.
+      inl (index_of_one (length new.log) index at (subst (λ (l : List ℕ). slice_get l index ≡ Some at) r.may e));
 }
 
 reopening_kept : (s : ClosingState) (old new : Machine) (r : IsReopening old new) → IsLeft r.count old new
@@ -263,7 +260,7 @@ first_sound s m count first = record {
       });
   accepted = λ bytes e. absurd (none-some bytes (sym first.free ∙ e));
   acked = omega (arith, first.acked);
-  may = λ place count e. inl (only 0 place count (subst (λ (l : List ℕ). slice_get l place ≡ Some count) first.may e)
+  may = λ index count e. inl (index_of_one 0 index count (subst (λ (l : List ℕ). slice_get l index ≡ Some count) first.may e)
       ∙ sym (ap (λ (l : List (List ℕ)). length l) first.log));
 }
 

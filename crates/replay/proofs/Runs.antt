@@ -1,27 +1,16 @@
--- One record more or less at the front of a run, and the end of a run.
-use Rattle.std.proofs.Common.{◌≡◌, ℕ, ◌+◌, ◌≤◌, List, [], ◌∷◌, ◌++◌, length, Result, Ok, Err, refl, sym, ap}
-use Rattle.std.proofs.Common.{subst, ◌∙◌, add-zero, append_assoc, arith, inl, inr}
-use Rattle.std.specs.Prelude.{All, map, Option, Some, None}
-use Rattle.std.proofs.lemmas.List.{length-append}
-use Rattle.std.proofs.lemmas.List.Elements.{All-cons, All-head, All-tail}
-use Rattle.xdr_core.specs.declared.fault.XdrFault.{XdrFault}
-use Rattle.xdr_core.specs.Place.{Place, Reading}
-use Rattle.stored_outcome.specs.close_rules.declared.close_fault.CloseFault.{CloseFault}
-use Rattle.stored_outcome.specs.close_rules.State.{ClosingState}
-use Rattle.stored_outcome.specs.close_rules.Close.{PreparedClose, IsClose}
-use Rattle.stored_outcome.specs.close_rules.Close.{filled_header}
+-- One record more or less at the start of a run, and the end of a run.
+use Rattle.replay.proofs.Prelude.{◌≡◌, ℕ, ◌+◌, ◌≤◌, List, [], ◌∷◌, ◌++◌, length, Result, Ok, Err, refl, sym, ap, subst}
+use Rattle.replay.proofs.Prelude.{◌∙◌, add-zero, append_assoc, arith, inl, inr, All, map, length-append, All-cons}
+use Rattle.replay.proofs.Prelude.{All-head, All-tail, XdrFault, Position, Reading, CloseFault, ClosingState}
+use Rattle.replay.proofs.Prelude.{PreparedClose, IsClose, filled_header, LedgerHeader, closes_are_one, Status}
+use Rattle.replay.proofs.Prelude.{refused_line, Outcome, after, framed, frames, max_record_len, lines_of, AreClosed}
+use Rattle.replay.proofs.Prelude.{IsStopped, IsEnd, IsRun, AreClosedAhead, IsRunPrefix}
+use Rattle.std.specs.Prelude.{Option, Some, None}
 use Rattle.stored_outcome.specs.header_chain.Upgrades.{upgrade_in, upgraded_if, all_upgraded}
-use Rattle.ledger_types.specs.declared.header.LedgerHeader.{LedgerHeader}
 use Rattle.ledger_types.specs.declared.header.LedgerUpgrade.{LedgerUpgrade}
 use Rattle.ledger_types.specs.declared.header.LedgerUpgrade.TheVariants as upgrade
-use Rattle.worker_merges.proofs.close_laws_proofs.OneClose.{closes_are_one}
-use Rattle.stored_outcome.specs.run_outcome.declared.status.Status.{Status}
 use Rattle.stored_outcome.specs.run_outcome.declared.status.Status.TheVariants as status
-use Rattle.stored_outcome.specs.run_outcome.Lines.{refused_line}
-use Rattle.stored_outcome.specs.run_outcome.Outcome.{Outcome, behind, framed, frames, max_record_len, lines_of}
-use Rattle.stored_outcome.specs.run_outcome.Outcome.{AreClosed, IsStopped}
-use Rattle.stored_outcome.specs.run_outcome.Outcome.{IsEnd, IsRun, AreClosedAhead, IsRunFront}
-use Rattle.replay.proofs.Fronts.{front_later, nothing_front}
+use Rattle.replay.proofs.Prefixes.{prefix_later, nothing_prefix}
 use Rattle.replay.proofs.Marking.{read_mark, framed_is_read, framed_above}
 
 -- ---- closes
@@ -48,7 +37,7 @@ not_both s bytes a b h i = let e : answer (Ok a) ≡ Err b = closes_are_one s by
 abbrev read_of : Reading XdrFault (List ℕ) → Reading XdrFault (List ℕ)
 read_of r = r
 
-ok_of : (a b : List ℕ × Place) → read_of (Ok a) ≡ Ok b → a ≡ b
+ok_of : (a b : List ℕ × Position) → read_of (Ok a) ≡ Ok b → a ≡ b
 ok_of a b h = cc
 
 pub framed_apart : (v w x y : List ℕ) → length v ≤ max_record_len → length w ≤ max_record_len
@@ -60,7 +49,7 @@ framed_apart v w x y short_v short_w e =
     ≡ Ok (w, record { at = 0 + length (framed w); rest = y }) =
     sym first ∙ ap (λ (t : List ℕ). read_mark (record { at = 0; rest = t })) e ∙ second in
     let same = ok_of _ _ both in
-    (ap (λ (r : List ℕ × Place). r.0) same, ap (λ (r : List ℕ × Place). r.1.rest) same)
+    (ap (λ (r : List ℕ × Position). r.0) same, ap (λ (r : List ℕ × Position). r.1.rest) same)
 
 -- ---- the end of a run
 
@@ -69,7 +58,7 @@ nothing_framed bytes rest e =
     let sizes : length (framed bytes ++ rest) ≡ 0 = sym (ap length e) in
     absurd (omega (arith, sizes, length-append (framed bytes) rest, framed_above bytes))
 
--- a record at the front of what is left is refused
+-- a record at the start of what is left is refused
 pub refused_at : (s : ClosingState) (at : ℕ) (text : List ℕ) (last : Outcome) (bytes rest : List ℕ)
     → IsEnd s at text last → text ≡ framed bytes ++ rest → length bytes ≤ max_record_len
     → (wrong : CloseFault) × IsClose s bytes (Err wrong)
@@ -99,21 +88,21 @@ same_end s at (byte ∷ more) a b h i =
 abbrev pub AreShort : List (List ℕ) → Type 0
 AreShort records = All (λ bytes. length bytes ≤ max_record_len) records
 
--- no record: what ends the run stands at its front
-pub at_front : (s state : ClosingState) (at : ℕ) (text rest : List ℕ) (end : Outcome) → IsEnd state (at + 0) rest end
+-- no record: what ends the run is at its start
+pub at_prefix : (s state : ClosingState) (at : ℕ) (text rest : List ℕ) (end : Outcome) → IsEnd state (at + 0) rest end
     → state ≡ s → text ≡ rest → IsEnd s at text end
-at_front s state at text rest end ends same e =
+at_prefix s state at text rest end ends same e =
     let first = subst (λ (x : ClosingState). IsEnd x (at + 0) rest end) same ends in
     let second = subst (λ (a : ℕ). IsEnd s a rest end) (add-zero at) first in
     subst (λ (t : List ℕ). IsEnd s at t end) (sym e) second
 
 ends_by : (s : ClosingState) (at : ℕ) (text : List ℕ) (last o : Outcome) (records : List (List ℕ)) (rest lines : List ℕ)
     (state : ClosingState) (end : Outcome) → IsEnd s at text last → text ≡ frames records ++ rest → AreShort records
-    → AreClosed s records lines state → IsEnd state (at + length (frames records)) rest end → o ≡ behind lines end
+    → AreClosed s records lines state → IsEnd state (at + length (frames records)) rest end → o ≡ after lines end
     → o ≡ last
 ends_by s at text last o [] rest lines state end h cut short closed ends is =
-    is ∙ ap (λ (l : List ℕ). behind l end) closed.0
-    ∙ same_end s at text end last (at_front s state at text rest end ends closed.1 cut) h
+    is ∙ ap (λ (l : List ℕ). after l end) closed.0
+    ∙ same_end s at text end last (at_prefix s state at text rest end ends closed.1 cut) h
 ends_by s at text last o (w ∷ ws) rest lines state end h cut short closed ends is =
     let r = refused_at s at text last w (frames ws ++ rest) h (cut ∙ append_assoc (framed w) (frames ws) rest)
     (All-head (λ bytes. length bytes ≤ max_record_len) w ws short) in
@@ -143,18 +132,18 @@ ended_run s at text last h = record {
 
 -- ---- one record
 
--- what is left of a run behind its first record
+-- what is left of a run after its first record
 abbrev pub Later : (s : ClosingState) (at : ℕ) (rest lines : List ℕ) (o : Outcome) → Type 0
-Later s at rest lines o = (later : Outcome) × IsRun s (record { at = at; rest = rest }) later × (o ≡ behind lines later)
+Later s at rest lines o = (later : Outcome) × IsRun s (record { at = at; rest = rest }) later × (o ≡ after lines later)
 
 peeled_by : (s : ClosingState) (bytes : List ℕ) (c : PreparedClose) (at : ℕ) (others : List ℕ) (o : Outcome)
     (records : List (List ℕ)) (rest lines : List ℕ) (state : ClosingState) (last : Outcome)
     → length bytes ≤ max_record_len → IsClose s bytes (Ok c) → framed bytes ++ others ≡ frames records ++ rest
     → AreShort records → AreClosed s records lines state → IsEnd state (at + length (frames records)) rest last
-    → o ≡ behind lines last → Later c.state (at + length (framed bytes)) others (lines_of c) o
+    → o ≡ after lines last → Later c.state (at + length (framed bytes)) others (lines_of c) o
 peeled_by s bytes c at others o [] rest lines state last fits closes cut short closed ends is =
     let r = refused_at s at (framed bytes ++ others) last bytes others
-    (at_front s state at (framed bytes ++ others) rest last ends closed.1 cut) refl fits in
+    (at_prefix s state at (framed bytes ++ others) rest last ends closed.1 cut) refl fits in
     absurd (not_both s bytes c r.0 closes r.1)
 peeled_by s bytes c at others o (w ∷ ws) rest lines state last fits closes cut short closed ends is =
     let P : List ℕ → Type 0 = λ (b : List ℕ). length b ≤ max_record_len in
@@ -162,12 +151,12 @@ peeled_by s bytes c at others o (w ∷ ws) rest lines state last fits closes cut
     (cut ∙ append_assoc (framed w) (frames ws) rest) in
     let same = same_close s w closed.0 c closed.2 (subst (λ (b : List ℕ). IsClose s b (Ok c)) apart.0 closes) in
     let sizes : length (framed bytes) ≡ length (framed w) = ap (λ (b : List ℕ). length (framed b)) apart.0 in
-    let place : at + length (framed w ++ frames ws) ≡ at + length (framed bytes) + length (frames ws) =
+    let offset : at + length (framed w ++ frames ws) ≡ at + length (framed bytes) + length (frames ws) =
     omega (arith, sizes, length-append (framed w) (frames ws)) in
     let text : (lines_of closed.0 ++ closed.1) ++ last.text ≡ lines_of c ++ (closed.1 ++ last.text) =
     append_assoc (lines_of closed.0) closed.1 last.text
     ∙ ap (λ (x : PreparedClose). lines_of x ++ (closed.1 ++ last.text)) same in (
-      behind closed.1 last,
+      after closed.1 last,
       record {
         records = ws;
         rest = rest;
@@ -177,10 +166,10 @@ peeled_by s bytes c at others o (w ∷ ws) rest lines state last fits closes cut
         state = state;
         closed = subst (λ (x : PreparedClose). AreClosed x.state ws closed.1 state) same closed.3;
         last = last;
-        ends = subst (λ (a : ℕ). IsEnd state a rest last) place ends;
+        ends = subst (λ (a : ℕ). IsEnd state a rest last) offset ends;
         is = refl;
       },
-      is ∙ ap (λ (l : List ℕ). behind l last) closed.4
+      is ∙ ap (λ (l : List ℕ). after l last) closed.4
           ∙ ap (λ (t : List ℕ). outcome last.status t) text,
     )
 
@@ -195,9 +184,9 @@ peeled s bytes c at others o fits closes run =
 pub prepended : (s : ClosingState) (bytes : List ℕ) (c : PreparedClose) (at : ℕ) (others : List ℕ) (o : Outcome)
     → length bytes ≤ max_record_len → IsClose s bytes (Ok c)
     → IsRun c.state (record { at = at + length (framed bytes); rest = others }) o
-    → IsRun s (record { at = at; rest = framed bytes ++ others }) (behind (lines_of c) o)
+    → IsRun s (record { at = at; rest = framed bytes ++ others }) (after (lines_of c) o)
 prepended s bytes c at others o fits closes run =
-    let place : at + length (framed bytes) + length (frames run.records)
+    let offset : at + length (framed bytes) + length (frames run.records)
     ≡ at + length (framed bytes ++ frames run.records) =
     omega (arith, length-append (framed bytes) (frames run.records)) in
     record {
@@ -210,15 +199,15 @@ prepended s bytes c at others o fits closes run =
       state = run.state;
       closed = (c, run.lines, closes, run.closed, refl);
       last = run.last;
-      ends = subst (λ (a : ℕ). IsEnd run.state a run.rest run.last) place run.ends;
-      is = ap (λ (x : Outcome). behind (lines_of c) x) run.is
+      ends = subst (λ (a : ℕ). IsEnd run.state a run.rest run.last) offset run.ends;
+      is = ap (λ (x : Outcome). after (lines_of c) x) run.is
           ∙ ap (λ (t : List ℕ). outcome run.last.status t)
           (sym (append_assoc (lines_of c) run.lines run.last.text));
     }
 
 -- ---- records that close ledgers, in a run that may go on
 
-abbrev pub no_records : (s : ClosingState) (p : Place) → AreClosedAhead s p []
+abbrev pub no_records : (s : ClosingState) (p : Position) → AreClosedAhead s p []
 no_records s p = record {
   records = [];
   rest = p.rest;
@@ -241,22 +230,22 @@ one_more s bytes c at next others lines fits closes a = record {
   closed = (c, lines, closes, a.closed, refl);
 }
 
-pub empty_front : (s : ClosingState) (p : Place) → IsRunFront s p []
-empty_front s p = inl ([], no_records s p, nothing_front [])
+pub empty_prefix : (s : ClosingState) (p : Position) → IsRunPrefix s p []
+empty_prefix s p = inl ([], no_records s p, nothing_prefix [])
 
-pub later_front : (s : ClosingState) (bytes : List ℕ) (c : PreparedClose) (at : ℕ) (others front : List ℕ)
+pub later_prefix : (s : ClosingState) (bytes : List ℕ) (c : PreparedClose) (at : ℕ) (others prefix : List ℕ)
     → length bytes ≤ max_record_len → IsClose s bytes (Ok c)
-    → IsRunFront c.state (record { at = at + length (framed bytes); rest = others }) front
-    → IsRunFront s (record { at = at; rest = framed bytes ++ others }) (lines_of c ++ front)
-later_front s bytes c at others front fits closes (inl (lines, a, f)) = inl (
+    → IsRunPrefix c.state (record { at = at + length (framed bytes); rest = others }) prefix
+    → IsRunPrefix s (record { at = at; rest = framed bytes ++ others }) (lines_of c ++ prefix)
+later_prefix s bytes c at others prefix fits closes (inl (lines, a, f)) = inl (
   lines_of c ++ lines,
   one_more s bytes c at (at + length (framed bytes)) others lines fits closes a,
-  front_later (lines_of c) front lines f,
+  prefix_later (lines_of c) prefix lines f,
 )
-later_front s bytes c at others front fits closes (inr (o, run, f)) = inr (
-  behind (lines_of c) o,
+later_prefix s bytes c at others prefix fits closes (inr (o, run, f)) = inr (
+  after (lines_of c) o,
   prepended s bytes c at others o fits closes run,
-  front_later (lines_of c) front o.text f,
+  prefix_later (lines_of c) prefix o.text f,
 )
 
 -- ---- numbers of ledgers

@@ -1,35 +1,21 @@
 -- What the steps of a sample's run keep.
-use Rattle.std.proofs.Common.{◌≡◌, ℕ, suc, ◌+◌, ◌<◌, ◌^◌, List, ◌++◌, length, Result, Ok, Err, refl, sym, ap, subst}
-use Rattle.std.proofs.Common.{arith, length-append, inl, inr, ◌∙◌}
-use Rattle.std.specs.Prelude.{cond, MatchResult}
-use Rattle.std.proofs.lemmas.List.Sums.{sum_by-append}
-use Rattle.stored_outcome.specs.run_streams.Seen.{Seen}
-use Rattle.ledger_types.specs.declared.ids.Hash.{Hash}
-use Rattle.run_text.specs.op_types.declared.transaction_result.TransactionResultPair.{TransactionResultPair}
-use Rattle.xdr_header.specs.declared.image.StartImage.{StartImage}
+use Rattle.replay.proofs.Prelude as prelude
+use prelude.{◌≡◌, ℕ, suc, ◌+◌, ◌<◌, ◌^◌, List, ◌++◌, length, Result, Ok, Err, refl, sym, ap, subst, arith, inl, inr}
+use prelude.{◌∙◌, cond, MatchResult, sum_by-append, Seen, Hash, TransactionResultPair, StartImage, CloseFault}
+use prelude.{ImageFault, ClosingState, PreparedClose, IsClose, FaultIs, Status, is_success, success_count, sample_line}
+use prelude.{refused_line, HaveClosed, progress_after, first_progress, first_state, sample_network, record_bytes}
+use prelude.{FirstStatesClose, SamplesClose, Wrote, Refuses, IsJudgedSo, HasReached, Samples, add-one}
+use Rattle.std.proofs.Common.{length-append}
 use Rattle.xdr_header.specs.Header.{ledger_header}
-use Rattle.stored_outcome.specs.close_rules.declared.close_fault.CloseFault.{CloseFault}
 use Rattle.stored_outcome.specs.close_rules.declared.close_fault.CloseFault.TheVariants as close
-use Rattle.stored_outcome.specs.close_rules.declared.image_fault.ImageFault.{ImageFault}
 use Rattle.stored_outcome.specs.close_rules.declared.image_fault.ImageFault.TheVariants as image_fault
-use Rattle.stored_outcome.specs.close_rules.State.{ClosingState}
-use Rattle.stored_outcome.specs.close_rules.Close.{PreparedClose, IsClose}
 use Rattle.worker_merges.specs.close_laws.Images.{ImagesAreOne}
-use Rattle.worker_merges.specs.ledger_close.Answers.{FaultIs}
 use Rattle.worker_merges.specs.ledger_close.States.{LedgerAt}
-use Rattle.stored_outcome.specs.run_outcome.declared.status.Status.{Status}
 use Rattle.stored_outcome.specs.run_outcome.declared.status.Status.TheVariants as status
-use Rattle.stored_outcome.specs.run_outcome.Lines.{is_success, success_count, sample_line, refused_line}
 use Rattle.stored_outcome.specs.sample_ledger.Image.{first_image}
-use Rattle.stored_outcome.specs.sample_ledger.Samples.{HaveClosed, progress_behind, first_progress, first_state}
-use Rattle.stored_outcome.specs.sample_ledger.Samples.{sample_network}
-use Rattle.stored_outcome.specs.sample_ledger.Samples.{record_bytes, FirstStatesClose, SamplesStand}
-use Rattle.replay.specs.Following.{Wrote, Refuses}
-use Rattle.replay.specs.Starting.{IsJudgedSo}
-use Rattle.replay.specs.Sampling.{HasCome, Samples}
 
 -- before the first record
-pub nothing_closed : (seed : ℕ) (state : ClosingState) → state ≡ first_state seed → HasCome seed 0 state 0 0
+pub nothing_closed : (seed : ℕ) (state : ClosingState) → state ≡ first_state seed → HasReached seed 0 state 0 0
 unfolding HaveClosed
 nothing_closed seed state is = record {
   now = first_progress seed;
@@ -48,16 +34,16 @@ successes_more pairs more =
 
 -- one record more
 pub one_more : (seed k : ℕ) (state next : ClosingState) (transactions successes more_transactions more_successes : ℕ)
-    (closed : PreparedClose) → HasCome seed k state transactions successes
+    (closed : PreparedClose) → HasReached seed k state transactions successes
     → IsClose state (record_bytes seed (suc k) state) (Ok closed) → next ≡ closed.state
     → more_transactions ≡ transactions + length closed.results
     → more_successes ≡ successes + success_count closed.results
     → length closed.results < 2 ^ 64 → success_count closed.results < 2 ^ 64
-    → HasCome seed (suc k) next more_transactions more_successes
+    → HasReached seed (suc k) next more_transactions more_successes
 unfolding HaveClosed
 one_more seed k state next transactions successes more_transactions more_successes closed h closes next_is
     transactions_are successes_are fits success_fits = record {
-      now = progress_behind h.now closed;
+      now = progress_after h.now closed;
       closed = (
         h.now,
         closed,
@@ -96,7 +82,7 @@ judged_first seed low first one (Err status.Refused) judged = judged
 judged_first seed low first one (Err status.ReadFault) judged = judged
 judged_first seed low first one (Err status.WriteFault) judged = judged
 judged_first seed low first one (Err status.DiskFault) judged = judged
-judged_first seed low first one (Err (status.BadStore file place)) judged = judged
+judged_first seed low first one (Err (status.BadStore file offset)) judged = judged
 judged_first seed low first one (Err (status.BadInput at)) judged = judged
 judged_first seed low first one (Err status.Missing) judged = judged
 judged_first seed low first one (Err status.AlreadyThere) judged = judged
@@ -112,30 +98,27 @@ first_of seed low first one network image result network_is image_is judged =
 
 -- ---- the next record
 
-pub header_within : (seed k : ℕ) (state : ClosingState) (transactions successes : ℕ) → SamplesStand → seed < 2 ^ 32
-    → k < 20000 → HasCome seed k state transactions successes → ledger_header.within state.header
-header_within seed k state transactions successes stand low few h =
+pub header_within : (seed k : ℕ) (state : ClosingState) (transactions successes : ℕ) → SamplesClose → seed < 2 ^ 32
+    → k < 20000 → HasReached seed k state transactions successes → ledger_header.within state.header
+header_within seed k state transactions successes exist low few h =
     subst (λ (s : ClosingState). ledger_header.within s.header) (sym h.state_is)
-    (stand seed k h.now low (omega (arith, few)) h.closed).header.within
+    (exist seed k h.now low (omega (arith, few)) h.closed).header.within
 
 -- ---- the number of the next record
 
-number_next : (k : ℕ) → k + 1 ≡ suc k
-number_next k = omega arith
-
 pub bytes_next : (seed k : ℕ) (state : ClosingState) (bytes : List ℕ) → bytes ≡ record_bytes seed (k + 1) state
     → bytes ≡ record_bytes seed (suc k) state
-bytes_next seed k state bytes are = are ∙ ap (λ (n : ℕ). record_bytes seed n state) (number_next k)
+bytes_next seed k state bytes are = are ∙ ap (λ (n : ℕ). record_bytes seed n state) (add-one k)
 
-pub come_next : (seed k : ℕ) (state : ClosingState) (transactions successes : ℕ)
-    → HasCome seed (suc k) state transactions successes → HasCome seed (k + 1) state transactions successes
-come_next seed k state transactions successes h =
-    subst (λ (n : ℕ). HasCome seed n state transactions successes) (sym (number_next k)) h
+pub reached_next : (seed k : ℕ) (state : ClosingState) (transactions successes : ℕ)
+    → HasReached seed (suc k) state transactions successes → HasReached seed (k + 1) state transactions successes
+reached_next seed k state transactions successes h =
+    subst (λ (n : ℕ). HasReached seed n state transactions successes) (sym (add-one k)) h
 
 -- ---- the end
 
 refused_as : (seed k ledgers : ℕ) (state : ClosingState) (transactions successes : ℕ) (wrong : CloseFault) (out : Seen)
-    (end : Status) → k < ledgers → HasCome seed k state transactions successes
+    (end : Status) → k < ledgers → HasReached seed k state transactions successes
     → IsClose state (record_bytes seed (suc k) state) (Err wrong)
     → Wrote out (refused_line state.header wrong) status.Refused end → Samples seed ledgers out end
 refused_as seed k ledgers state transactions successes wrong out end below h closes wrote =
@@ -147,35 +130,35 @@ refused_as seed k ledgers state transactions successes wrong out end below h clo
     )
 
 -- the next record is refused, or memory is
-pub refused_behind : (seed k ledgers : ℕ) (state : ClosingState) (transactions successes : ℕ) (wrong : CloseFault)
-    (out : Seen) (end : Status) → k < ledgers → HasCome seed k state transactions successes
+pub refused_after : (seed k ledgers : ℕ) (state : ClosingState) (transactions successes : ℕ) (wrong : CloseFault)
+    (out : Seen) (end : Status) → k < ledgers → HasReached seed k state transactions successes
     → FaultIs wrong (λ f. IsClose state (record_bytes seed (suc k) state) (Err f))
     → Refuses state.header out wrong end → Samples seed ledgers out end
-refused_behind seed k ledgers state t s close.NoMemory out end below h closes r = inr r
-refused_behind seed k ledgers state t s close.SeqEnd out end below h closes r =
+refused_after seed k ledgers state t s close.NoMemory out end below h closes r = inr r
+refused_after seed k ledgers state t s close.SeqEnd out end below h closes r =
     refused_as seed k ledgers state t s close.SeqEnd out end below h closes r
-refused_behind seed k ledgers state t s (close.BadXdr at kind) out end below h closes r =
+refused_after seed k ledgers state t s (close.BadXdr at kind) out end below h closes r =
     refused_as seed k ledgers state t s (close.BadXdr at kind) out end below h closes r
-refused_behind seed k ledgers state t s (close.WrongSeq want given) out end below h closes r =
+refused_after seed k ledgers state t s (close.WrongSeq want given) out end below h closes r =
     refused_as seed k ledgers state t s (close.WrongSeq want given) out end below h closes r
-refused_behind seed k ledgers state t s (close.WrongPrevious own given) out end below h closes r =
+refused_after seed k ledgers state t s (close.WrongPrevious own given) out end below h closes r =
     refused_as seed k ledgers state t s (close.WrongPrevious own given) out end below h closes r
-refused_behind seed k ledgers state t s (close.WrongSetHash own given) out end below h closes r =
+refused_after seed k ledgers state t s (close.WrongSetHash own given) out end below h closes r =
     refused_as seed k ledgers state t s (close.WrongSetHash own given) out end below h closes r
-refused_behind seed k ledgers state t s (close.StaleTime last given) out end below h closes r =
+refused_after seed k ledgers state t s (close.StaleTime last given) out end below h closes r =
     refused_as seed k ledgers state t s (close.StaleTime last given) out end below h closes r
-refused_behind seed k ledgers state t s (close.BadUpgrade index) out end below h closes r =
+refused_after seed k ledgers state t s (close.BadUpgrade index) out end below h closes r =
     refused_as seed k ledgers state t s (close.BadUpgrade index) out end below h closes r
-refused_behind seed k ledgers state t s (close.UpgradeOutOfProfile index) out end below h closes r =
+refused_after seed k ledgers state t s (close.UpgradeOutOfProfile index) out end below h closes r =
     refused_as seed k ledgers state t s (close.UpgradeOutOfProfile index) out end below h closes r
-refused_behind seed k ledgers state t s (close.FeeSourceMissing index) out end below h closes r =
+refused_after seed k ledgers state t s (close.FeeSourceMissing index) out end below h closes r =
     refused_as seed k ledgers state t s (close.FeeSourceMissing index) out end below h closes r
-refused_behind seed k ledgers state t s (close.LedgerFull total) out end below h closes r =
+refused_after seed k ledgers state t s (close.LedgerFull total) out end below h closes r =
     refused_as seed k ledgers state t s (close.LedgerFull total) out end below h closes r
 
 -- all records closed ledgers
 pub all_closed : (seed ledgers : ℕ) (state : ClosingState) (transactions successes : ℕ) (out : Seen) (end : Status)
-    → HasCome seed ledgers state transactions successes
+    → HasReached seed ledgers state transactions successes
     → Wrote out (sample_line seed ledgers state.header transactions successes) status.Done end
     → Samples seed ledgers out end
 all_closed seed ledgers state transactions successes out end h wrote =

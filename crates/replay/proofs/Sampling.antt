@@ -1,34 +1,26 @@
--- What a sample comes to is one thing, and how its run is told.
-use Rattle.std.proofs.Common.{◌≡◌, ℕ, zero, suc, ◌<◌, length, Result, Ok, Err, refl, sym, ap, subst, ◌∙◌, arith}
-use Rattle.std.proofs.Common.{inl, inr, ◌⊎◌}
-use Rattle.stored_outcome.specs.run_streams.Seen.{Seen, Failed, Received}
-use Rattle.stored_outcome.specs.close_rules.declared.close_fault.CloseFault.{CloseFault}
+-- What a sample yields is one thing, and what is written of its run.
+use Rattle.replay.proofs.Prelude.{◌≡◌, ℕ, zero, suc, ◌<◌, length, Result, Ok, Err, refl, sym, ap, subst, ◌∙◌, arith}
+use Rattle.replay.proofs.Prelude.{inl, inr, ◌⊎◌, Seen, Failed, Received, CloseFault, PreparedClose, IsClose}
+use Rattle.replay.proofs.Prelude.{closes_are_one, Status, sample_line, refused_line, success_count, IsCutShort, Outcome}
+use Rattle.replay.proofs.Prelude.{Answered, Progress, HaveClosed, progress_after, record_bytes, SamplesGoOn}
+use Rattle.replay.proofs.Prelude.{IsAcceptedOrFull, IsEntire, IsRefusedAfter, IsSampled, IsSamplePrefix, IsSampleEnd}
+use Rattle.replay.proofs.Prelude.{DidSample, IsFullAt, SamplesAreCompleteOrFull, SamplesAreOne, SamplesAreComplete}
 use Rattle.stored_outcome.specs.close_rules.declared.close_fault.CloseFault.TheVariants as fault
-use Rattle.stored_outcome.specs.close_rules.Close.{PreparedClose, IsClose}
-use Rattle.worker_merges.proofs.close_laws_proofs.OneClose.{closes_are_one}
 use Rattle.stored_outcome.specs.run_outcome.declared.status.Status.TheVariants as status
-use Rattle.stored_outcome.specs.run_outcome.declared.status.Status.{Status}
-use Rattle.stored_outcome.specs.run_outcome.Lines.{sample_line, refused_line, success_count}
-use Rattle.stored_outcome.specs.run_outcome.Statuses.{IsCutShort}
-use Rattle.stored_outcome.specs.run_outcome.Outcome.{Outcome}
-use Rattle.stored_outcome.specs.run_outcome.Run.{Answered}
-use Rattle.stored_outcome.specs.sample_ledger.Samples.{Progress, HaveClosed, progress_behind, record_bytes, SamplesGoOn}
-use Rattle.stored_outcome.specs.sample_ledger.Samples.{IsAcceptedOrFull}
-use Rattle.stored_outcome.specs.Sample.{IsWhole, IsRefusedBehind, IsSampled, IsSampleFront, IsSampleEnd, DidSample}
-use Rattle.replay.specs.CommandLaws.{IsFullAt, SamplesAreWholeOrFull, SamplesAreOne, SamplesAreComplete}
 use Rattle.replay.proofs.Runs.{same_close}
+use Rattle.replay.proofs.ShowCompleting.{neither_failed}
 
 -- ---- one progress
 
 next_is_one : (seed k : ℕ) (was other : Progress) (closed again : PreparedClose) → was ≡ other
     → IsClose was.state (record_bytes seed (suc k) was.state) (Ok closed)
     → IsClose other.state (record_bytes seed (suc k) other.state) (Ok again)
-    → progress_behind was closed ≡ progress_behind other again
+    → progress_after was closed ≡ progress_after other again
 next_is_one seed k was other closed again same closes closes_again =
     let own = subst (λ (x : Progress). IsClose x.state (record_bytes seed (suc k) x.state) (Ok again)) (sym same)
     closes_again in
     let one : closed ≡ again = same_close was.state (record_bytes seed (suc k) was.state) closed again closes own in
-    λ i. progress_behind (same i) (one i)
+    λ i. progress_after (same i) (one i)
 
 progress_is_one : (seed k : ℕ) (a b : Progress) → HaveClosed seed k a → HaveClosed seed k b → a ≡ b
 unfolding HaveClosed
@@ -49,7 +41,7 @@ below_or_same (suc k) (suc n) below = elim (below_or_same k n (omega (arith, bel
   | inr same ↦ inr (ap suc same)
 ]
 
--- the record behind the first k ones closed its ledger
+-- the record after the first k ones closed its ledger
 abbrev ClosedNext : (seed k : ℕ) → Type 0
 ClosedNext seed k =
     (was : Progress) × (closed : PreparedClose) × HaveClosed seed k was
@@ -66,7 +58,7 @@ closed_before seed k (suc n) now below (was, closed, before, closes, is) = elim 
 abbrev answer : Result PreparedClose CloseFault → Result PreparedClose CloseFault
 answer r = r
 
-not_refused : (seed k : ℕ) (o : Outcome) → ClosedNext seed k → IsRefusedBehind seed k o → ⊥
+not_refused : (seed k : ℕ) (o : Outcome) → ClosedNext seed k → IsRefusedAfter seed k o → ⊥
 not_refused seed k o (was, closed, before, closes) (now, have, wrong, refused, is) =
     let same = progress_is_one seed k now was have before in
     let own = subst (λ (x : Progress). IsClose x.state (record_bytes seed (suc k) x.state) (Err wrong)) same refused in
@@ -76,8 +68,8 @@ not_refused seed k o (was, closed, before, closes) (now, have, wrong, refused, i
 
 -- ---- one outcome
 
-whole_is_one : (seed ledgers : ℕ) (a b : Outcome) → IsWhole seed ledgers a → IsWhole seed ledgers b → a ≡ b
-whole_is_one seed ledgers a b (now, have, is) (other, others, same) =
+complete_is_one : (seed ledgers : ℕ) (a b : Outcome) → IsEntire seed ledgers a → IsEntire seed ledgers b → a ≡ b
+complete_is_one seed ledgers a b (now, have, is) (other, others, same) =
     is
     ∙ ap (λ (p : Progress). record {
       status = status.Done;
@@ -85,7 +77,7 @@ whole_is_one seed ledgers a b (now, have, is) (other, others, same) =
     }) (progress_is_one seed ledgers now other have others)
     ∙ sym same
 
-refused_is_one : (seed k : ℕ) (a b : Outcome) → IsRefusedBehind seed k a → IsRefusedBehind seed k b → a ≡ b
+refused_is_one : (seed k : ℕ) (a b : Outcome) → IsRefusedAfter seed k a → IsRefusedAfter seed k b → a ≡ b
 refused_is_one seed k a b (now, have, wrong, refused, is) (other, others, second, again, same) =
     let back : other ≡ now = progress_is_one seed k other now others have in
     let one : now ≡ other = sym back in
@@ -105,23 +97,23 @@ above_or_below (suc a) (suc b) = elim (above_or_below a b) [
   | inr (inr more) ↦ inr (inr (omega (arith, more)))
 ]
 
-progress_of : (seed k : ℕ) (o : Outcome) → IsRefusedBehind seed k o → (now : Progress) × HaveClosed seed k now
+progress_of : (seed k : ℕ) (o : Outcome) → IsRefusedAfter seed k o → (now : Progress) × HaveClosed seed k now
 progress_of seed k o (now, have, wrong, refused, is) = (now, have)
 
-both_refused : (seed k n : ℕ) (a b : Outcome) → IsRefusedBehind seed k a → IsRefusedBehind seed n b → a ≡ b
+both_refused : (seed k n : ℕ) (a b : Outcome) → IsRefusedAfter seed k a → IsRefusedAfter seed n b → a ≡ b
 both_refused seed k n a b one other = elim (above_or_below k n) [
   | inl less ↦
       let later = progress_of seed n b other in
       absurd (not_refused seed k a (closed_before seed k n later.0 less later.1) one)
   | inr (inl same) ↦
-      refused_is_one seed k a b one (subst (λ (m : ℕ). IsRefusedBehind seed m b) (sym same) other)
+      refused_is_one seed k a b one (subst (λ (m : ℕ). IsRefusedAfter seed m b) (sym same) other)
   | inr (inr more) ↦
       let later = progress_of seed k a one in
       absurd (not_refused seed n b (closed_before seed n k later.0 more later.1) other)
 ]
 
 pub samples_are_one : SamplesAreOne
-samples_are_one seed ledgers a b fits few (inl whole) (inl other) = whole_is_one seed ledgers a b whole other
+samples_are_one seed ledgers a b fits few (inl entire) (inl other) = complete_is_one seed ledgers a b entire other
 samples_are_one seed ledgers a b fits few (inl (now, have, is)) (inr (k, below, refused)) =
     absurd (not_refused seed k b (closed_before seed k ledgers now below have) refused)
 samples_are_one seed ledgers a b fits few (inr (k, below, refused)) (inl (now, have, is)) =
@@ -147,9 +139,9 @@ full_of seed k o now (fault.UpgradeOutOfProfile index) have refused full is = ab
 full_of seed k o now (fault.FeeSourceMissing index) have refused full is = absurd full
 full_of seed k o now fault.NoMemory have refused full is = absurd full
 
-pub whole_or_full : SamplesGoOn → SamplesAreWholeOrFull
-whole_or_full go_on seed ledgers o fits few (inl whole) = inl whole
-whole_or_full go_on seed ledgers o fits few (inr (k, below, (now, have, wrong, refused, is))) =
+pub complete_or_full : SamplesGoOn → SamplesAreCompleteOrFull
+complete_or_full go_on seed ledgers o fits few (inl entire) = inl entire
+complete_or_full go_on seed ledgers o fits few (inr (k, below, (now, have, wrong, refused, is))) =
     inr (
       k,
       below,
@@ -158,10 +150,6 @@ whole_or_full go_on seed ledgers o fits few (inr (k, below, (now, have, wrong, r
     )
 
 -- ---- where nothing failed
-
-no_failure : (out err : Seen) → (Failed out → ⊥) → (Failed err → ⊥) → Failed out ⊎ Failed err → ⊥
-no_failure out err no_out no_err (inl failed) = no_out failed
-no_failure out err no_out no_err (inr failed) = no_err failed
 
 memory_alone : (end : Status) → IsSampleEnd end → IsCutShort end → (end ≡ status.WriteFault → ⊥)
     → end ≡ status.NoMemory
@@ -172,7 +160,7 @@ memory_alone status.Refused is short other = absurd short
 memory_alone status.ReadFault is short other = absurd is
 memory_alone status.DiskFault is short other = absurd is
 memory_alone status.Usage is short other = absurd is
-memory_alone (status.BadStore file place) is short other = absurd is
+memory_alone (status.BadStore file offset) is short other = absurd is
 memory_alone status.Missing is short other = absurd is
 memory_alone status.AlreadyThere is short other = absurd is
 memory_alone (status.BadInput at) is short other = absurd is
@@ -184,12 +172,12 @@ IsComplete seed ledgers out end =
     ((o : Outcome) × IsSampled seed ledgers o × (end ≡ o.status) × Received out o.text) ⊎ (end ≡ status.NoMemory)
 
 complete_as : (seed ledgers : ℕ) (out err : Seen) (end : Status) → DidSample seed ledgers out err end
-    → (Failed out → ⊥) → (Failed err → ⊥) → Answered (IsSampled seed ledgers) (IsSampleFront seed ledgers) out end
+    → (Failed out → ⊥) → (Failed err → ⊥) → Answered (IsSampled seed ledgers) (IsSamplePrefix seed ledgers) out end
     → IsComplete seed ledgers out end
 complete_as seed ledgers out err end did no_out no_err (text, received, inl (o, is, end_is, text_is)) =
     inl (o, is, end_is, subst (Received out) text_is received)
-complete_as seed ledgers out err end did no_out no_err (text, received, inr (short, front)) =
-    inr (memory_alone end did.is_end short (λ e. no_failure out err no_out no_err (did.write_fault e)))
+complete_as seed ledgers out err end did no_out no_err (text, received, inr (short, prefix)) =
+    inr (memory_alone end did.is_end short (λ e. neither_failed out err no_out no_err (did.write_fault e)))
 
 pub samples_are_complete : SamplesAreComplete
 samples_are_complete seed ledgers out err end did no_out no_err =

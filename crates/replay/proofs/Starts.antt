@@ -1,46 +1,26 @@
--- What a start image at the front of an input comes to.
-use Rattle.std.proofs.Common.{◌≡◌, ℕ, ◌^◌, ◌<◌, ◌≤◌, List, [], ◌++◌, length, drop, Option, Some, None, IfSome, Result}
-use Rattle.std.proofs.Common.{Ok, Err}
-use Rattle.std.proofs.Common.{refl, sym, ap, subst, ◌∙◌, append_assoc, append-nil, zero-add, arith, inl, inr}
-use Rattle.std.specs.Io.KnownBytes.{Consumes, IsAtEnd}
-use Rattle.std.proofs.KnownBytes.{Consumes-trans}
-use Rattle.stored_outcome.specs.run_streams.Seen.{Seen, Failed, Received}
-use Rattle.record_stream.specs.Filling.{Grown}
+-- What a start image that an input begins with yields.
+use Rattle.replay.proofs.Prelude.{◌≡◌, ℕ, ◌^◌, ◌<◌, ◌≤◌, List, [], ◌++◌, length, drop, Option, Some, None, IfSome}
+use Rattle.replay.proofs.Prelude.{Result, Ok, Err, refl, sym, ap, subst, ◌∙◌, append_assoc, append-nil, zero-add, arith}
+use Rattle.replay.proofs.Prelude.{inl, inr, Consumes, IsAtEnd, Consumes-trans, Seen, Failed, Received, Grown, end_by}
+use Rattle.replay.proofs.Prelude.{image_end, IsShort, Hash, XdrFault, Short, Position, Reading, start_of, IsBytes}
+use Rattle.replay.proofs.Prelude.{faults_located, StartImage, start_image, start_image_laws, network_id_of, ImageFault}
+use Rattle.replay.proofs.Prelude.{ClosingState, IsJudged, Status, IsCutShort, IsRecordsEnd, IsCatchUpEnd, silent, IsRun}
+use Rattle.replay.proofs.Prelude.{IsStarted, IsOutcomeOf, IsOutcome, AreLinesOf, IsRunPrefix, IsOutputPrefixOf}
+use Rattle.replay.proofs.Prelude.{IsOutputPrefix, Answered, AnsweredTo, AnsweredFrom, Followed, Cut, CaughtUp, IsFaulty}
+use Rattle.replay.proofs.Prelude.{GaveNoImage, IsUncut, IsUnstarted, IsJudgedSo, StartsAt, drop_at}
 use Rattle.record_stream.specs.Layouts.{IsTaken}
-use Rattle.record_stream.specs.Measured.{end_by, image_end}
-use Rattle.record_stream.specs.Piece.{IsShort}
-use Rattle.ledger_types.specs.declared.ids.Hash.{Hash}
-use Rattle.xdr_core.specs.declared.fault.XdrFault.{XdrFault}
-use Rattle.xdr_core.specs.declared.fault.XdrKind.TheVariants.{Short}
-use Rattle.xdr_core.specs.Place.{Place, Reading, start_of}
-use Rattle.xdr_core.specs.Format.{IsBytes}
-use Rattle.xdr_core.proofs.FormatLaws.{faults_placed}
-use Rattle.xdr_core.proofs.LeafLaws.{drop_front}
-use Rattle.xdr_header.specs.declared.image.StartImage.{StartImage}
-use Rattle.xdr_header.specs.Image.{start_image}
-use Rattle.xdr_header.proofs.ImageLaws.{start_image_laws}
-use Rattle.hash_ids.specs.Ids.{network_id_of}
-use Rattle.stored_outcome.specs.close_rules.declared.image_fault.ImageFault.{ImageFault}
 use Rattle.stored_outcome.specs.close_rules.declared.image_fault.ImageFault.TheVariants as image_fault
-use Rattle.stored_outcome.specs.close_rules.State.{ClosingState}
-use Rattle.stored_outcome.specs.close_rules.Images.{IsJudged}
-use Rattle.stored_outcome.specs.run_outcome.declared.status.Status.{Status}
 use Rattle.stored_outcome.specs.run_outcome.declared.status.Status.TheVariants as status
-use Rattle.stored_outcome.specs.run_outcome.Statuses.{IsCutShort, IsRecordsEnd, IsCatchUpEnd}
-use Rattle.stored_outcome.specs.run_outcome.Outcome.{silent, IsRun, IsStarted, IsOutcomeOf, IsOutcome, AreLinesOf}
-use Rattle.stored_outcome.specs.run_outcome.Outcome.{IsRunFront, IsOutputFrontOf, IsOutputFront}
-use Rattle.stored_outcome.specs.run_outcome.Run.{Answered, AnsweredTo}
-use Rattle.replay.specs.Following.{AnsweredFrom, Followed}
-use Rattle.replay.specs.Starting.{Cut, CaughtUp, IsFaulty, GaveNoImage, IsUncut, IsUnstarted, IsJudgedSo, StartsAt}
-use Rattle.replay.proofs.Turning.{over, told_front, none_left, short_or_not, cut_answered, rose_before}
+use Rattle.replay.proofs.Turning.{over, reported_prefix, short_or_not, cut_answered, rose_before}
+use Rattle.replay.proofs.Turning.{nothing_after_end}
 
 abbrev read_image : List ℕ → Reading XdrFault StartImage
 read_image text = start_image.read (start_of text)
 
--- ---- an image at the front
+-- ---- an image at the start
 
 end_ok : (r : Reading XdrFault StartImage) (end : ℕ) → end_by r ≡ Ok end
-    → (x : StartImage × Place) × (r ≡ Ok x) × (x.1.at ≡ end)
+    → (x : StartImage × Position) × (r ≡ Ok x) × (x.1.at ≡ end)
 end_ok (Ok x) end e = (x, refl, cc)
 end_ok (Err wrong) end e = absurd cc
 
@@ -51,26 +31,26 @@ end_err (Err other) wrong e = cc
 abbrev ended : Result ℕ XdrFault → Result ℕ XdrFault
 ended r = r
 
-at_of : (at : ℕ) (q : Place) → ended (Ok at) ≡ Ok q.at → at ≡ q.at
+at_of : (at : ℕ) (q : Position) → ended (Ok at) ≡ Ok q.at → at ≡ q.at
 at_of at q e = cc
 
-image_cut : (input : Seen) (new : List ℕ) (at : ℕ) (image : StartImage) (q : Place)
+image_cut : (input : Seen) (new : List ℕ) (at : ℕ) (image : StartImage) (q : Position)
     → Grown input.before input.now [] new → IsBytes new → image_end new ≡ Ok at → at < 2 ^ 64
     → read_image new ≡ Ok (image, q) → input.faults_before ≤ input.faults_now → Cut image at (drop at new) input
 image_cut input new at image q grown fits measured low e later =
     let s = start_image_laws.lawful.takes (start_of new) q image fits e in
-    let front : List ℕ = start_image.spell image in
-    let len : at ≡ length front =
+    let prefix : List ℕ = start_image.encoding image in
+    let len : at ≡ length prefix =
     at_of at q (sym measured ∙ ap (λ (r : Reading XdrFault StartImage). end_by r) e) ∙ s.taken.at
-    ∙ zero-add (length front) in
-    let parts : new ≡ front ++ q.rest = s.taken.parts in
-    let rest : drop at new ≡ q.rest = ap (drop at) parts ∙ drop_front at front q.rest (sym len) in
-    let given : grown.given ≡ front ++ drop at new =
-    sym grown.grown ∙ parts ∙ ap (λ (t : List ℕ). front ++ t) (sym rest) in
+    ∙ zero-add (length prefix) in
+    let parts : new ≡ prefix ++ q.rest = s.taken.parts in
+    let rest : drop at new ≡ q.rest = ap (drop at) parts ∙ drop_at prefix q.rest at (sym len) in
+    let given : grown.given ≡ prefix ++ drop at new =
+    sym grown.grown ∙ parts ∙ ap (λ (t : List ℕ). prefix ++ t) (sym rest) in
     record {
-      front = front;
+      prefix = prefix;
       begins = λ rest. start_image_laws.lawful.again 0 image rest s.within s.sized
-          ∙ ap (λ (n : ℕ). Ok (image, record { at = n; rest = rest })) (zero-add (length front));
+          ∙ ap (λ (n : ℕ). Ok (image, record { at = n; rest = rest })) (zero-add (length prefix));
       within = s.within;
       len = len;
       low = omega (arith, low);
@@ -85,19 +65,19 @@ image_taken input new left at image taken grown fits measured low later =
     let ends : at ≡ taken.after.at =
     at_of at taken.after (sym measured ∙ ap (λ (r : Reading XdrFault StartImage). end_by r) taken.reads) in
     subst (λ (t : List ℕ). Cut image at t input)
-    (ap (λ (n : ℕ). drop n new) ends ∙ sym taken.behind)
+    (ap (λ (n : ℕ). drop n new) ends ∙ sym taken.following)
     (image_cut input new at image taken.after grown fits measured low taken.reads later)
 
 -- ---- runs that wrote nothing
 
-empty_output : (network : Hash) (r : Reading XdrFault StartImage) → IsOutputFrontOf network r []
+empty_output : (network : Hash) (r : Reading XdrFault StartImage) → IsOutputPrefixOf network r []
 empty_output network (Err wrong) = refl
 empty_output network (Ok x) = inl refl
 
 unwritten : (passphrase : List ℕ) (input out : Seen) (end : Status) → IsCutShort end → Received out []
     → IfSome input.before (λ bytes. AnsweredTo passphrase bytes out end)
 unwritten passphrase input out end short h =
-    cut_answered (IsOutcome passphrase) (IsOutputFront passphrase) input.before out end h short
+    cut_answered (IsOutcome passphrase) (IsOutputPrefix passphrase) input.before out end h short
     (λ bytes. empty_output (network_id_of passphrase) (read_image bytes))
 
 pub unread_memory : (passphrase : List ℕ) (input : Seen) → IsUnstarted passphrase input status.NoMemory
@@ -121,23 +101,23 @@ silent_end passphrase input out end h ends = answered_by input.before ends
     answered_by None i = tt
     answered_by (Some bytes) i = ([], h, inl (silent end, i, refl, refl))
 
--- what a fault comes to behind which more bytes stand, where they can
+-- a fault stays where more bytes follow, if they can
 fault_stays : (new others : List ℕ) (now : Option (List ℕ)) (wrong : XdrFault) → IsBytes new
     → read_image new ≡ Err wrong → (wrong.kind ≡ Short → IsAtEnd now) → now ≡ Some others
     → read_image (new ++ others) ≡ Err wrong
-fault_stays new others now wrong fits e at_end told = elim (short_or_not wrong.kind) [
-  | inl short ↦ ap (λ (t : List ℕ). read_image (new ++ t)) (none_left now others (at_end short) told)
+fault_stays new others now wrong fits e at_end reported = elim (short_or_not wrong.kind) [
+  | inl short ↦ ap (λ (t : List ℕ). read_image (new ++ t)) (nothing_after_end now others (at_end short) reported)
       ∙ ap read_image (append-nil new) ∙ e
-  | inr other ↦ (faults_placed start_image_laws).stays (start_of new) wrong others fits e other
+  | inr other ↦ (faults_located start_image_laws).stays (start_of new) wrong others fits e other
 ]
 
 pub uncut_bad : (input : Seen) (new : List ℕ) (wrong : XdrFault) → Grown input.before input.now [] new → IsBytes new
     → image_end new ≡ Err wrong → (wrong.kind ≡ Short → IsAtEnd input.now) → IsUncut input (status.BadInput wrong.at)
 uncut_bad input new wrong grown fits measured at_end =
     let e = end_err (read_image new) wrong measured in
-    told_front input.before input.now grown.given (λ bytes. IsFaulty wrong.at bytes) grown.gave
-    (λ others told. subst (λ (t : List ℕ). IsFaulty wrong.at (t ++ others)) grown.grown
-    (wrong, fault_stays new others input.now wrong fits e at_end told, refl))
+    reported_prefix input.before input.now grown.given (λ bytes. IsFaulty wrong.at bytes) grown.gave
+    (λ others reported. subst (λ (t : List ℕ). IsFaulty wrong.at (t ++ others)) grown.grown
+    (wrong, fault_stays new others input.now wrong fits e at_end reported, refl))
 
 pub uncut_failed : (input : Seen) (new : List ℕ) → Grown input.before input.now [] new → IsShort image_end new
     → Failed input → IsUncut input status.ReadFault
@@ -202,29 +182,29 @@ uncut_unstarted passphrase input status.Usage h = absurd h
 uncut_unstarted passphrase input status.Refused h = absurd h
 uncut_unstarted passphrase input status.WriteFault h = absurd h
 uncut_unstarted passphrase input status.DiskFault h = absurd h
-uncut_unstarted passphrase input (status.BadStore file place) h = absurd h
+uncut_unstarted passphrase input (status.BadStore file offset) h = absurd h
 uncut_unstarted passphrase input (status.BadImage rule) h = absurd h
 uncut_unstarted passphrase input status.Missing h = absurd h
 uncut_unstarted passphrase input status.AlreadyThere h = absurd h
 
 -- ---- judging
 
--- what is at the front of an input that begins with a cut image
-front_reading : (image : StartImage) (at : ℕ) (ahead others : List ℕ) (input : Seen) (c : Cut image at ahead input)
-    → read_image ((c.front ++ ahead) ++ others) ≡ Ok (image, record { at = at; rest = ahead ++ others })
-front_reading image at ahead others input c =
-    ap read_image (append_assoc c.front ahead others) ∙ c.begins (ahead ++ others)
+-- what is at the start of an input that begins with a cut image
+prefix_reading : (image : StartImage) (at : ℕ) (ahead others : List ℕ) (input : Seen) (c : Cut image at ahead input)
+    → read_image ((c.prefix ++ ahead) ++ others) ≡ Ok (image, record { at = at; rest = ahead ++ others })
+prefix_reading image at ahead others input c =
+    ap read_image (append_assoc c.prefix ahead others) ∙ c.begins (ahead ++ others)
     ∙ ap (λ (n : ℕ). Ok (image, record { at = n; rest = ahead ++ others })) (sym c.len)
 
 judged_end : (passphrase : List ℕ) (image : StartImage) (at : ℕ) (ahead : List ℕ) (input : Seen) (end : Status)
     (judged : Result ClosingState ImageFault) → Cut image at ahead input
-    → IsJudged (network_id_of passphrase) image judged → ((p : Place) → IsStarted judged p (silent end))
+    → IsJudged (network_id_of passphrase) image judged → ((p : Position) → IsStarted judged p (silent end))
     → (out : Seen) → Received out [] → IfSome input.before (λ bytes. AnsweredTo passphrase bytes out end)
 judged_end passphrase image at ahead input end judged c is started out h =
-    silent_end passphrase input out end h (told_front input.before input.now (c.front ++ ahead)
+    silent_end passphrase input out end h (reported_prefix input.before input.now (c.prefix ++ ahead)
     (λ bytes. IsOutcome passphrase bytes (silent end)) c.gave
-    (λ others told. subst (λ (r : Reading XdrFault StartImage). IsOutcomeOf (network_id_of passphrase) r (silent end))
-    (sym (front_reading image at ahead others input c))
+    (λ others reported. subst (λ (r : Reading XdrFault StartImage). IsOutcomeOf (network_id_of passphrase) r (silent end))
+    (sym (prefix_reading image at ahead others input c))
     (judged, is, started (record { at = at; rest = ahead ++ others }))))
 
 pub unjudged : (passphrase : List ℕ) (image : StartImage) (at : ℕ) (ahead : List ℕ) (input : Seen) (end : Status)
@@ -247,32 +227,32 @@ unjudged passphrase image at ahead input status.ReadFault c is out h = absurd cc
 unjudged passphrase image at ahead input status.WriteFault c is out h = absurd cc
 unjudged passphrase image at ahead input (status.BadInput wrong) c is out h = absurd cc
 unjudged passphrase image at ahead input status.DiskFault c is out h = absurd cc
-unjudged passphrase image at ahead input (status.BadStore file place) c is out h = absurd cc
+unjudged passphrase image at ahead input (status.BadStore file offset) c is out h = absurd cc
 unjudged passphrase image at ahead input status.Missing c is out h = absurd cc
 unjudged passphrase image at ahead input status.AlreadyThere c is out h = absurd cc
 
--- ---- a whole run
+-- ---- an entire run
 
 answered_by : (passphrase : List ℕ) (s : ClosingState) (at : ℕ) (ahead : List ℕ) (input : Seen)
     (start : StartsAt passphrase s at ahead input) (before now : Option (List ℕ)) (out : Seen) (end : Status)
-    → Consumes before now (start.cut.front ++ ahead)
+    → Consumes before now (start.cut.prefix ++ ahead)
     → IfSome now (λ bytes. AnsweredFrom s at (ahead ++ bytes) out end)
     → IfSome before (λ bytes. AnsweredTo passphrase bytes out end)
 answered_by passphrase s at ahead input start None now out end gave h = tt
 answered_by passphrase s at ahead input start (Some x) None out end gave h = absurd gave
 answered_by passphrase s at ahead input start (Some x) (Some y) out end gave h =
-    let p : Place = record { at = at; rest = ahead ++ y } in
+    let p : Position = record { at = at; rest = ahead ++ y } in
     let network : Hash = network_id_of passphrase in
     let e : read_image x ≡ Ok (start.image, p) =
-    ap read_image gave ∙ front_reading start.image at ahead y input start.cut in
-    subst (λ (r : Reading XdrFault StartImage). Answered (IsOutcomeOf network r) (IsOutputFrontOf network r) out end)
-    (sym e) (whole p h)
+    ap read_image gave ∙ prefix_reading start.image at ahead y input start.cut in
+    subst (λ (r : Reading XdrFault StartImage). Answered (IsOutcomeOf network r) (IsOutputPrefixOf network r) out end)
+    (sym e) (entire p h)
   where
-    whole : (p : Place) → Answered (IsRun s p) (IsRunFront s p) out end
+    entire : (p : Position) → Answered (IsRun s p) (IsRunPrefix s p) out end
         → Answered (IsOutcomeOf (network_id_of passphrase) (Ok (start.image, p)))
-        (IsOutputFrontOf (network_id_of passphrase) (Ok (start.image, p))) out end
-    whole p (text, received, inl (o, run, e, same)) = (text, received, inl (o, (Ok s, start.judged, run), e, same))
-    whole p (text, received, inr (short, f)) = (text, received, inr (short, inr (s, start.judged, f)))
+        (IsOutputPrefixOf (network_id_of passphrase) (Ok (start.image, p))) out end
+    entire p (text, received, inl (o, run, e, same)) = (text, received, inl (o, (Ok s, start.judged, run), e, same))
+    entire p (text, received, inr (short, f)) = (text, received, inr (short, inr (s, start.judged, f)))
 
 -- a run without a volume ends like `catchup`
 caught_end : (end : Status) → IsRecordsEnd end → (end ≡ status.DiskFault → ⊥) → IsCatchUpEnd end
@@ -282,7 +262,7 @@ caught_end status.Refused is never = tt
 caught_end status.ReadFault is never = tt
 caught_end status.WriteFault is never = tt
 caught_end status.DiskFault is never = absurd (never refl)
-caught_end (status.BadStore file place) is never = absurd is
+caught_end (status.BadStore file offset) is never = absurd is
 caught_end status.NoMemory is never = tt
 caught_end (status.BadInput at) is never = tt
 caught_end (status.BadImage rule) is never = absurd is
@@ -301,12 +281,12 @@ caught_up passphrase s at ahead input out now faults F end start never f = recor
   read_fault = λ e. let h = f.read_fault e in (
     rose_before input.faults_before input.faults_now faults start.cut.later h.0,
     record {
-      given = (start.cut.front ++ ahead) ++ h.1.given;
-      gave = Consumes-trans input.before input.now now (start.cut.front ++ ahead) h.1.given start.cut.gave h.1.gave;
+      given = (start.cut.prefix ++ ahead) ++ h.1.given;
+      gave = Consumes-trans input.before input.now now (start.cut.prefix ++ ahead) h.1.given start.cut.gave h.1.gave;
       lines = h.1.lines;
       received = h.1.received;
       all = subst (λ (r : Reading XdrFault StartImage). AreLinesOf (network_id_of passphrase) r h.1.lines)
-          (sym (front_reading start.image at ahead h.1.given input start.cut)) (s, start.judged, h.1.all);
+          (sym (prefix_reading start.image at ahead h.1.given input start.cut)) (s, start.judged, h.1.all);
     },
   );
   write_fault = f.write_fault;

@@ -1,37 +1,26 @@
--- An end that is told as another one.
-use Rattle.std.proofs.Common.{◌≡◌, ℕ, List, Option, Some, None, IfSome, refl, sym, subst, ◌⊎◌, inl, inr}
-use Rattle.std.specs.Io.KnownBytes.{IsAtEnd}
-use Rattle.stored_outcome.specs.run_streams.Seen.{Seen, Failed}
-use Rattle.stored_outcome.specs.close_rules.State.{ClosingState}
-use Rattle.stored_outcome.specs.run_outcome.declared.status.Status.{Status}
+-- An end that is written as another one.
+use Rattle.replay.proofs.Prelude.{◌≡◌, ℕ, List, Option, Some, None, IfSome, refl, sym, subst, ◌⊎◌, inl, inr, IsAtEnd}
+use Rattle.replay.proofs.Prelude.{Seen, Failed, ClosingState, Status, IsCutShort, IsReported, IsLineReported}
+use Rattle.replay.proofs.Prelude.{SeenVolume, VolumeFailed, IsPrefix, Image, HoldsNothing, OpensTo, IsBadStore}
+use Rattle.replay.proofs.Prelude.{IsAnswerAfter, AnsweredAfter, MayBeAhead, IsFailedEnd, OpensAcknowledged}
+use Rattle.replay.proofs.Prelude.{IsUnbrokenEnd, MayLeaveNow, MayRead, Survived, RanFrom, DidNotRun, DidNotOpen}
+use Rattle.replay.proofs.Prelude.{IsOpenedEnd, IsUnopenedEnd, IsRunEnd, DidRun, IsReportedOrRefused, IsReportedSo}
+use Rattle.replay.proofs.Prelude.{RanSo, RanOrNot, RanStored}
 use Rattle.stored_outcome.specs.run_outcome.declared.status.Status.TheVariants as status
-use Rattle.stored_outcome.specs.run_outcome.Statuses.{IsCutShort}
-use Rattle.stored_outcome.specs.run_outcome.Run.{IsTold, IsLineTold}
-use Rattle.stored_outcome.specs.run_streams.SeenVolume.{SeenVolume, VolumeFailed}
-use Rattle.stored_outcome.specs.run_outcome.Outcome.{IsFront}
-use Rattle.outside.specs.Disk.{Image}
-use Rattle.image_store.specs.Opening.{HoldsNothing}
-use Rattle.stored_outcome.specs.Opening.{OpensTo, IsBadStore}
-use Rattle.stored_outcome.specs.StoredRun.{IsAnswerBehind, AnsweredBehind, MayBeAhead, IsFailedEnd, OpensAcknowledged}
-use Rattle.stored_outcome.specs.StoredRun.{IsUnbrokenEnd, MayLeaveNow, MayRead, Survived, RanFrom, DidNotRun}
-use Rattle.stored_outcome.specs.StoredRun.{DidNotOpen}
-use Rattle.stored_outcome.specs.StoredRun.{IsOpenedEnd, IsUnopenedEnd, IsRunEnd, DidRun}
-use Rattle.replay.proofs.Fronts.{whole_front}
+use Rattle.replay.proofs.Prefixes.{complete_prefix}
 use Rattle.replay.proofs.Keeping.{failed_cut}
-use Rattle.replay.specs.Telling.{IsToldOrRefused, IsToldSo}
-use Rattle.replay.specs.StoredRuns.{RanSo, RanOrNot, RanStored}
 use Rattle.replay.proofs.Opening.{OnlyBefore, NowLeaves, cut_is_end, ran_opened, ran_missing, ran_bad, only_missing}
 use Rattle.replay.proofs.Opening.{only_bad, only_opened}
 
 shorter : (s : ClosingState) (bytes text : List ℕ) (end after : Status) → IsCutShort after
-    → IsAnswerBehind s bytes text end → IsAnswerBehind s bytes text after
+    → IsAnswerAfter s bytes text end → IsAnswerAfter s bytes text after
 shorter s bytes text end after short (inl (o, run, e, same)) =
-    inr (short, inr (o, run, subst (λ (t : List ℕ). IsFront t o.text) (sym same) (whole_front o.text)))
+    inr (short, inr (o, run, subst (λ (t : List ℕ). IsPrefix t o.text) (sym same) (complete_prefix o.text)))
 shorter s bytes text end after short (inr (old, f)) = inr (short, f)
 
 shorter_if : (s : ClosingState) (before : Option (List ℕ)) (out : Seen) (end after : Status) → IsCutShort after
-    → IfSome before (λ bytes. AnsweredBehind s bytes out end)
-    → IfSome before (λ bytes. AnsweredBehind s bytes out after)
+    → IfSome before (λ bytes. AnsweredAfter s bytes out end)
+    → IfSome before (λ bytes. AnsweredAfter s bytes out after)
 shorter_if s None out end after short h = tt
 shorter_if s (Some bytes) out end after short (text, h, answer) =
     (text, h, shorter s bytes text end after short answer)
@@ -86,7 +75,7 @@ cut_to s input out vol end after failed less r = let f = failed_cut after failed
   text = r.text;
   received = r.received;
   answer = shorter s r.given r.text end after f.0 r.answer;
-  whole = λ e. absurd (f.1 e);
+  entire = λ e. absurd (f.1 e);
   survived = survived_less s r.given r.text vol end after less r.survived;
 }
 
@@ -96,14 +85,14 @@ to_write end = record { ahead = λ may. tt; failed = λ failed. tt; unbroken = �
 -- ---- a run but for the line on standard error
 
 record RunBefore (input out err : Seen) (vol : SeenVolume) (end : Status) : Type 0 where
-  pub opened : vol.tells → (s : ClosingState) → OpensTo vol.before.reads s → RanFrom s input out vol end
-  pub missing : vol.tells → HoldsNothing vol.before.reads → DidNotOpen status.Missing input out err vol end
-  pub bad_store : vol.tells → (file place : ℕ) → IsBadStore vol.before.reads file place
-      → DidNotOpen (status.BadStore file place) input out err vol end
-  pub only_opened : vol.tells → IsOpenedEnd end → (s : ClosingState) × OpensTo vol.before.reads s
-  pub only_missing : vol.tells → end ≡ status.Missing → HoldsNothing vol.before.reads
-  pub only_bad : vol.tells → (file place : ℕ) → end ≡ status.BadStore file place
-      → IsBadStore vol.before.reads file place
+  pub opened : vol.reports → (s : ClosingState) → OpensTo vol.before.reads s → RanFrom s input out vol end
+  pub missing : vol.reports → HoldsNothing vol.before.reads → DidNotOpen status.Missing input out err vol end
+  pub bad_store : vol.reports → (file offset : ℕ) → IsBadStore vol.before.reads file offset
+      → DidNotOpen (status.BadStore file offset) input out err vol end
+  pub only_opened : vol.reports → IsOpenedEnd end → (s : ClosingState) × OpensTo vol.before.reads s
+  pub only_missing : vol.reports → end ≡ status.Missing → HoldsNothing vol.before.reads
+  pub only_bad : vol.reports → (file offset : ℕ) → end ≡ status.BadStore file offset
+      → IsBadStore vol.before.reads file offset
   pub unopened : IsUnopenedEnd end → DidNotRun input out vol
   pub ran : RanOrNot input out vol end
   pub ended : end ≡ status.Done → IsAtEnd input.now
@@ -118,10 +107,10 @@ module _ (input out err : Seen) (vol : SeenVolume) (end : Status) (b : RunBefore
   as_write failed = record {
     opened = λ te s o. cut_to s input out vol end status.WriteFault tt (to_write end) (b.opened te s o);
     missing = λ te none. ((b.missing te none).0, inr (inr (inl (refl, failed))));
-    bad_store = λ te file place bad. ((b.bad_store te file place bad).0, inr (inr (inl (refl, failed))));
+    bad_store = λ te file offset bad. ((b.bad_store te file offset bad).0, inr (inr (inl (refl, failed))));
     only_opened = λ te opened. absurd opened;
     only_missing = λ te e. absurd cc;
-    only_bad = λ te file place e. absurd cc;
+    only_bad = λ te file offset e. absurd cc;
     unopened = λ ended. absurd ended;
     ran = ran_shorter input out vol end status.WriteFault tt b.ran;
     ended = λ e. absurd cc;
@@ -136,10 +125,10 @@ module _ (input out err : Seen) (vol : SeenVolume) (end : Status) (b : RunBefore
   as_no_memory less = record {
     opened = λ te s o. cut_to s input out vol end status.NoMemory tt less (b.opened te s o);
     missing = λ te none. ((b.missing te none).0, inr (inr (inr refl)));
-    bad_store = λ te file place bad. ((b.bad_store te file place bad).0, inr (inr (inr refl)));
+    bad_store = λ te file offset bad. ((b.bad_store te file offset bad).0, inr (inr (inr refl)));
     only_opened = λ te opened. absurd opened;
     only_missing = λ te e. absurd cc;
-    only_bad = λ te file place e. absurd cc;
+    only_bad = λ te file offset e. absurd cc;
     unopened = λ ended. absurd ended;
     ran = ran_shorter input out vol end status.NoMemory tt b.ran;
     ended = λ e. absurd cc;
@@ -149,8 +138,8 @@ module _ (input out err : Seen) (vol : SeenVolume) (end : Status) (b : RunBefore
     is_end = inl tt;
   }
 
-  with_line : IsLineTold err end → DidRun input out err vol end
-  with_line told = record {
+  with_line : IsLineReported err end → DidRun input out err vol end
+  with_line reported = record {
     opened = b.opened;
     missing = b.missing;
     bad_store = b.bad_store;
@@ -164,57 +153,57 @@ module _ (input out err : Seen) (vol : SeenVolume) (end : Status) (b : RunBefore
     write_fault = b.write_fault;
     disk_fault = b.disk_fault;
     is_end = b.is_end;
-    told = told;
+    reported = reported;
   }
 
-told_as : (input out err : Seen) (vol : SeenVolume) (end after : Status) → RunBefore input out err vol end
-    → IsTold end err after → DidRun input out err vol after
-told_as input out err vol end after b (inl (e, h)) =
+reported_as : (input out err : Seen) (vol : SeenVolume) (end after : Status) → RunBefore input out err vol end
+    → IsReported end err after → DidRun input out err vol after
+reported_as input out err vol end after b (inl (e, h)) =
     subst (DidRun input out err vol) (sym e) (with_line input out err vol end b (inl h))
-told_as input out err vol end after b (inr (e, failed)) =
+reported_as input out err vol end after b (inr (e, failed)) =
     subst (DidRun input out err vol) (sym e)
     (with_line input out err vol status.WriteFault (as_write input out err vol end b failed) (inr (refl, failed)))
 
 refused_as : (input out err : Seen) (vol : SeenVolume) (end after : Status) → RunBefore input out err vol end
-    → SaysLess end status.NoMemory → IsToldOrRefused end err after → DidRun input out err vol after
-refused_as input out err vol end after b less (inl told) = told_as input out err vol end after b told
-refused_as input out err vol end after b less (inr told) =
-    told_as input out err vol status.NoMemory after (as_no_memory input out err vol end b less) told
+    → SaysLess end status.NoMemory → IsReportedOrRefused end err after → DidRun input out err vol after
+refused_as input out err vol end after b less (inl reported) = reported_as input out err vol end after b reported
+refused_as input out err vol end after b less (inr reported) =
+    reported_as input out err vol status.NoMemory after (as_no_memory input out err vol end b less) reported
 
-told_so : (input out err : Seen) (vol : SeenVolume) (end after : Status) → RunBefore input out err vol end
-    → IsToldSo end err after → DidRun input out err vol after
-told_so input out err vol (status.BadStore file place) after b told =
-    refused_as input out err vol (status.BadStore file place) after b
-    (record { ahead = λ may. absurd may; failed = λ failed. absurd failed; unbroken = λ un. tt }) told
-told_so input out err vol (status.BadInput at) after b told =
+reported_so : (input out err : Seen) (vol : SeenVolume) (end after : Status) → RunBefore input out err vol end
+    → IsReportedSo end err after → DidRun input out err vol after
+reported_so input out err vol (status.BadStore file offset) after b reported =
+    refused_as input out err vol (status.BadStore file offset) after b
+    (record { ahead = λ may. absurd may; failed = λ failed. absurd failed; unbroken = λ un. tt }) reported
+reported_so input out err vol (status.BadInput at) after b reported =
     refused_as input out err vol (status.BadInput at) after b
-    (record { ahead = λ may. absurd may; failed = λ failed. absurd failed; unbroken = λ un. tt }) told
-told_so input out err vol (status.BadImage rule) after b told =
+    (record { ahead = λ may. absurd may; failed = λ failed. absurd failed; unbroken = λ un. tt }) reported
+reported_so input out err vol (status.BadImage rule) after b reported =
     refused_as input out err vol (status.BadImage rule) after b
-    (record { ahead = λ may. absurd may; failed = λ failed. absurd failed; unbroken = λ un. tt }) told
-told_so input out err vol status.Done after b told = told_as input out err vol status.Done after b told
-told_so input out err vol status.Usage after b told = told_as input out err vol status.Usage after b told
-told_so input out err vol status.Refused after b told = told_as input out err vol status.Refused after b told
-told_so input out err vol status.ReadFault after b told = told_as input out err vol status.ReadFault after b told
-told_so input out err vol status.WriteFault after b told = told_as input out err vol status.WriteFault after b told
-told_so input out err vol status.DiskFault after b told = told_as input out err vol status.DiskFault after b told
-told_so input out err vol status.NoMemory after b told = told_as input out err vol status.NoMemory after b told
-told_so input out err vol status.Missing after b told = told_as input out err vol status.Missing after b told
-told_so input out err vol status.AlreadyThere after b told =
-    told_as input out err vol status.AlreadyThere after b told
+    (record { ahead = λ may. absurd may; failed = λ failed. absurd failed; unbroken = λ un. tt }) reported
+reported_so input out err vol status.Done after b reported = reported_as input out err vol status.Done after b reported
+reported_so input out err vol status.Usage after b reported = reported_as input out err vol status.Usage after b reported
+reported_so input out err vol status.Refused after b reported = reported_as input out err vol status.Refused after b reported
+reported_so input out err vol status.ReadFault after b reported = reported_as input out err vol status.ReadFault after b reported
+reported_so input out err vol status.WriteFault after b reported = reported_as input out err vol status.WriteFault after b reported
+reported_so input out err vol status.DiskFault after b reported = reported_as input out err vol status.DiskFault after b reported
+reported_so input out err vol status.NoMemory after b reported = reported_as input out err vol status.NoMemory after b reported
+reported_so input out err vol status.Missing after b reported = reported_as input out err vol status.Missing after b reported
+reported_so input out err vol status.AlreadyThere after b reported =
+    reported_as input out err vol status.AlreadyThere after b reported
 
 pub did_run : (input out err : Seen) (vol : SeenVolume) (end after : Status) → OnlyBefore vol
-    → (vol.tells → NowLeaves vol) → RanStored input out vol end → IsToldSo end err after
+    → (vol.reports → NowLeaves vol) → RanStored input out vol end → IsReportedSo end err after
     → DidRun input out err vol after
-did_run input out err vol end after only now r told =
-    told_so input out err vol end after
+did_run input out err vol end after only now r reported =
+    reported_so input out err vol end after
     (record {
       opened = λ te s o. ran_opened s input out vol end o only (now te) (r.ran te);
       missing = λ te none. ran_missing input out err vol end none (r.ran te);
-      bad_store = λ te file place bad. ran_bad input out err vol file place end bad (r.ran te);
+      bad_store = λ te file offset bad. ran_bad input out err vol file offset end bad (r.ran te);
       only_opened = λ te opened. only_opened input out vol end opened (r.ran te);
       only_missing = λ te e. only_missing input out vol (subst (RanSo input out vol) e (r.ran te));
-      only_bad = λ te file place e. only_bad input out vol file place (subst (RanSo input out vol) e (r.ran te));
+      only_bad = λ te file offset e. only_bad input out vol file offset (subst (RanSo input out vol) e (r.ran te));
       unopened = r.unbegun;
       ran = r.printed;
       ended = r.ended;
@@ -223,4 +212,4 @@ did_run input out err vol end after only now r told =
       disk_fault = r.disk_fault;
       is_end = r.is_end;
     })
-    told
+    reported

@@ -1,31 +1,22 @@
--- The headline, from what mounting and the run behind it leave.
-use Rattle.std.proofs.Common.{◌≡◌, ℕ, ◌+◌, List, [], refl, sym, ap, subst, ◌∙◌}
-use Rattle.std.proofs.Common.{arith, ◌⊎◌, inl, inr}
-use Rattle.stored_outcome.specs.run_streams.Seen.{Seen}
-use Rattle.replay.proofs.Behind.{ack_empty}
-use Rattle.stored_outcome.specs.close_rules.State.{ClosingState}
-use Rattle.stored_outcome.specs.run_outcome.declared.status.Status.{Status}
-use Rattle.outside.specs.Disk.{Image, Disk, Runs, Same, IsSafe}
-use Rattle.stored_outcome.specs.run_streams.SeenVolume.{SeenVolume}
-use Rattle.outside.proofs.Running.{onward}
-use Rattle.stored_outcome.specs.Opening.{OpensTo, OpensOn}
-use Rattle.stored_outcome.specs.Behind.{IsBehind, OpensBehind, OpensWithin}
-use Rattle.stored_outcome.specs.StoredRun.{OpensInRun, IsFailedEnd, OpensAcknowledged, MayRead, Survived, RanFrom}
-use Rattle.replay.specs.Following.{Followed}
-use Rattle.replay.specs.Keeping.{OpensOnward, KeptOn}
-use Rattle.replay.proofs.Comes.{closed_network}
+-- The headline, from what mounting and the run after it leave.
+use Rattle.replay.proofs.Prelude.{◌≡◌, ℕ, ◌+◌, List, [], refl, sym, ap, subst, ◌∙◌, arith, ◌⊎◌, inl, inr, Seen}
+use Rattle.replay.proofs.Prelude.{ClosingState, Status, Image, Disk, Runs, Same, IsSafe, SeenVolume, onward, OpensTo}
+use Rattle.replay.proofs.Prelude.{OpensOn, IsAfter, OpensAfter, OpensWithin, OpensInRun, IsFailedEnd, OpensAcknowledged}
+use Rattle.replay.proofs.Prelude.{MayRead, Survived, RanFrom, Followed, OpensOnward, KeptOn}
+use Rattle.replay.proofs.After.{ack_empty}
+use Rattle.replay.proofs.Yields.{closed_network}
 
--- a content stays as it was, or opens behind records
+-- a content stays as it was, or opens after records
 abbrev StaysOrOpens : ClosingState → List ℕ → Image → Image → Type 0
 StaysOrOpens s text d c = (c ≡ d) ⊎ OpensWithin s text c
 
-safe_opens : (mid : Disk) (s : ClosingState) → IsSafe mid → OpensTo mid.reads s → (c : Image) → mid.may_leave c
+pub safe_opens : (mid : Disk) (s : ClosingState) → IsSafe mid → OpensTo mid.reads s → (c : Image) → mid.may_leave c
     → OpensTo c s
 safe_opens mid s safe opens c may = subst (λ (x : Image). OpensTo x s) (sym (safe c may)) opens
 
-whole_runs : (s : ClosingState) (text : List ℕ) (old mid new : Disk) → IsSafe mid → OpensTo mid.reads s
+complete_runs : (s : ClosingState) (text : List ℕ) (old mid new : Disk) → IsSafe mid → OpensTo mid.reads s
     → Runs Same old mid → Runs (OpensOnward s text) mid new → Runs (StaysOrOpens s text) old new
-whole_runs s text old mid new safe opens first second =
+complete_runs s text old mid new safe opens first second =
     onward {first = Same} {second = OpensOnward s text} {both = StaysOrOpens s text} old mid new
     (λ d e c may_d may_e same step. inr (step (safe_opens mid s safe opens e may_e)))
     (λ d e same. inl same) first second
@@ -39,19 +30,19 @@ in_run s given vol c only (inr (d, may, (inl same))) =
     inl (subst (λ (x : Image). vol.before.may_leave x) (sym same) may)
 in_run s given vol c only (inr (d, may, (inr opens))) = inr opens
 
-behind_network : (s : ClosingState) (text : List ℕ) (k : ℕ) (lines : List ℕ) (t : ClosingState)
-    → IsBehind s text k lines t → t.network ≡ s.network
-behind_network s text k lines t b =
+after_network : (s : ClosingState) (text : List ℕ) (k : ℕ) (lines : List ℕ) (t : ClosingState)
+    → IsAfter s text k lines t → t.network ≡ s.network
+after_network s text k lines t b =
     ap (λ (x : ClosingState). x.network) (sym b.is)
     ∙ closed_network s b.ahead.records lines b.ahead.state b.ahead.closed
 
-pub behind_on : (s : ClosingState) (text : List ℕ) (k : ℕ) (c : Image) → OpensBehind s text k c → OpensOn s.network c
-behind_on s text k c (lines, t, b, o) = (t, o, behind_network s text k lines t b)
+pub after_on : (s : ClosingState) (text : List ℕ) (k : ℕ) (c : Image) → OpensAfter s text k c → OpensOn s.network c
+after_on s text k c (lines, t, b, o) = (t, o, after_network s text k lines t b)
 
 one_on : (s : ClosingState) (text : List ℕ) (k : ℕ) (end : Status) (c : Image) → OpensAcknowledged s text k end c
     → OpensOn s.network c
-one_on s text k end c (inl o) = behind_on s text k c o
-one_on s text k end c (inr o) = behind_on s text (k + 1) c o.1
+one_on s text k end c (inl o) = after_on s text k c o
+one_on s text k end c (inr o) = after_on s text (k + 1) c o.1
 
 same_left : (vol : SeenVolume) (c : Image)
     → ((x : Image) → vol.before.left_since vol.before.moment x → vol.before.may_leave x)
@@ -64,9 +55,9 @@ same_left vol c only (inr (d, may, same)) = subst (λ (x : Image). vol.before.ma
 pub survived : (s : ClosingState) (at : ℕ) (input out : Seen) (vol : SeenVolume) (mid : Disk) (end : Status)
     → ((c : Image) → vol.before.left_since vol.before.moment c → vol.before.may_leave c)
     → vol.now.may_leave vol.now.reads → Runs Same vol.before mid → IsSafe mid → OpensTo mid.reads s
-    → (k : KeptOn s at [] input out mid vol.now end) → Survived s k.given k.front vol end
+    → (k : KeptOn s at [] input out mid vol.now end) → Survived s k.given k.prefix vol end
 survived s at input out vol mid end only reads_now first safe opens k =
-    let runs = whole_runs s k.given vol.before mid vol.now safe opens first k.keeps.runs in
+    let runs = complete_runs s k.given vol.before mid vol.now safe opens first k.keeps.runs in
     let now = k.keeps.crash vol.now.reads reads_now in
     record {
       moments = λ c left. in_run s k.given vol c only (runs.since vol.before.moment c (omega arith) left);
@@ -105,7 +96,7 @@ unmounted s given vol end only runs failed reads now = record {
       record { network = before.network; crash = sound_now; reads = sound_now vol.now.reads now };
 }
 
--- ---- a whole run behind a mount
+-- ---- an entire run after a mount
 
 pub ran_from : (s : ClosingState) (input out : Seen) (vol : SeenVolume) (mid : Disk) (F : Type 0) (end : Status)
     → ((c : Image) → vol.before.left_since vol.before.moment c → vol.before.may_leave c)
@@ -116,9 +107,9 @@ ran_from s input out vol mid F end only reads_now first safe opens f k = record 
   is_end = f.is_end;
   given = k.given;
   gave = k.gave;
-  text = k.front;
+  text = k.prefix;
   received = k.received;
   answer = k.answers.answer;
-  whole = k.answers.whole;
+  entire = k.answers.entire;
   survived = survived s 0 input out vol mid end only reads_now first safe opens k;
 }

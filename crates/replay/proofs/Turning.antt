@@ -1,50 +1,26 @@
--- What a turn comes to, from what its parts answer.
-use Rattle.std.proofs.Common.{◌≡◌, ℕ, ◌+◌, ◌-◌, ◌*◌, ◌^◌, ◌<◌, ◌≤◌, List, [], ◌∷◌, ◌++◌, length, take, drop, Option}
-use Rattle.std.proofs.Common.{Some, None}
-use Rattle.std.proofs.Common.{IfSome, Result, Ok, Err, refl, sym, ap, subst, ◌∙◌, append_assoc, append-nil, arith}
-use Rattle.std.proofs.Common.{inl, inr, ◌⊎◌}
-use Rattle.std.specs.Prelude.{◌≢◌, IsNone}
-use Rattle.std.specs.Io.KnownBytes.{Consumes, IsAtEnd}
-use Rattle.std.proofs.KnownBytes.{Appends-trans, Consumes-trans}
-use Rattle.std.proofs.lemmas.List.{length-append}
+-- What a turn yields, from what its parts answer.
+use Rattle.replay.proofs.Prelude as prelude
+use prelude.{◌≡◌, ℕ, ◌+◌, ◌-◌, ◌*◌, ◌^◌, ◌<◌, ◌≤◌, List, [], ◌∷◌, ◌++◌, length, take, drop, Option, Some, None, IfSome}
+use prelude.{Result, Ok, Err, refl, sym, ap, subst, ◌∙◌, append_assoc, append-nil, arith, inl, inr, ◌⊎◌, ◌≢◌, IsNone}
+use prelude.{Consumes, IsAtEnd, Appends-trans, Consumes-trans, length-append, Seen, Failed, Received, Grown, end_by}
+use prelude.{record_end, IsShort, IsPiece, PieceFault, FaultIs, XdrFault, XdrKind, Reading, start_of, IsBytes}
+use prelude.{CloseFault, ClosingState, PreparedClose, IsClose, Status, IsCutShort, IsRecordsEnd, end_line, refused_line}
+use prelude.{Outcome, silent, after, framed, max_record_len, lines_of, IsStopped, IsEnd, IsRun, IsPrefix, IsRunPrefix}
+use prelude.{AreComplete, IsAnswer, Answered, Refuses, Closes, Passes, EndsAt, Turned, IsCut, WroteClose, Wrote, Stops}
+use prelude.{AnsweredFrom, Followed, FollowedFrom, RunPosition, Goes, CompleteLines, faults_located, mark_laws}
+use prelude.{LedgerHeader, last_seq, nil_from_length}
 use Rattle.outside.specs.Streams.{Rose}
-use Rattle.stored_outcome.specs.run_streams.Seen.{Seen, Failed, Received}
-use Rattle.record_stream.specs.Filling.{Grown}
-use Rattle.record_stream.specs.Measured.{end_by, record_end}
-use Rattle.record_stream.specs.Piece.{IsShort, IsPiece}
-use Rattle.record_stream.specs.declared.piece.PieceFault.{PieceFault}
 use Rattle.record_stream.specs.declared.piece.PieceFault.TheVariants as piece
 use Rattle.stored_outcome.specs.close_rules.declared.close_fault.CloseFault.TheVariants as close
-use Rattle.worker_merges.specs.ledger_close.Answers.{FaultIs}
-use Rattle.xdr_core.specs.declared.fault.XdrFault.{XdrFault}
-use Rattle.xdr_core.specs.declared.fault.XdrKind.{XdrKind}
 use Rattle.xdr_core.specs.declared.fault.XdrKind.TheVariants as kind
-use Rattle.xdr_core.specs.Place.{Reading, start_of}
-use Rattle.xdr_core.specs.Format.{IsBytes}
-use Rattle.stored_outcome.specs.close_rules.declared.close_fault.CloseFault.{CloseFault}
-use Rattle.stored_outcome.specs.close_rules.State.{ClosingState}
-use Rattle.stored_outcome.specs.close_rules.Close.{PreparedClose, IsClose}
-use Rattle.stored_outcome.specs.run_outcome.declared.status.Status.{Status}
 use Rattle.stored_outcome.specs.run_outcome.declared.status.Status.TheVariants as status
-use Rattle.stored_outcome.specs.run_outcome.Statuses.{IsCutShort, IsRecordsEnd}
-use Rattle.stored_outcome.specs.run_outcome.Lines.{end_line, refused_line}
-use Rattle.stored_outcome.specs.run_outcome.Outcome.{Outcome, silent, behind, framed, max_record_len, lines_of}
-use Rattle.stored_outcome.specs.run_outcome.Outcome.{IsStopped, IsEnd}
-use Rattle.stored_outcome.specs.run_outcome.Outcome.{IsRun}
-use Rattle.stored_outcome.specs.run_outcome.Outcome.{IsFront, IsRunFront, AreWhole}
-use Rattle.stored_outcome.specs.run_outcome.Run.{IsAnswer, Answered}
-use Rattle.replay.specs.Following.{Refuses, Closes, Passes, EndsAt, Turned, IsCut, Told}
-use Rattle.replay.specs.Following.{Wrote, Stops, AnsweredFrom, Followed, FollowedFrom, Standing, Goes, WholeLines}
-use Rattle.xdr_core.proofs.FormatLaws.{faults_placed, mark_laws}
-use Rattle.replay.proofs.Marking.{read_mark, framed_is_read, framed_above, framed_len, fault_behind, empty_is_short}
-use Rattle.replay.proofs.Marking.{front_of}
-use Rattle.ledger_types.specs.declared.header.LedgerHeader.{LedgerHeader}
-use Rattle.stored_outcome.specs.op_form.Sequences.{last_seq}
-use Rattle.replay.proofs.Fronts.{front_more}
+use Rattle.replay.proofs.Marking.{read_mark, framed_is_read, framed_above, framed_len, fault_after, empty_is_short}
+use Rattle.replay.proofs.Marking.{prefix_of}
+use Rattle.replay.proofs.Prefixes.{prefix_more}
 use Rattle.replay.proofs.Runs.{next_seq}
-use Rattle.replay.proofs.Runs.{prepended, ended_run, no_records, one_more, empty_front, later_front}
+use Rattle.replay.proofs.Runs.{prepended, ended_run, no_records, one_more, empty_prefix, later_prefix}
 
--- ---- streams, one use behind another
+-- ---- streams, one use after another
 
 abbrev pub over : (before now : Option (List ℕ)) (faults_before faults_now : ℕ) → Seen
 over before now faults_before faults_now =
@@ -58,48 +34,48 @@ joined first second = over first.before second.now first.faults_before second.fa
 
 abbrev AnswerFrom : ClosingState → (at : ℕ) → (rest text : List ℕ) → (end : Status) → Type 0
 AnswerFrom s at rest text end =
-    IsAnswer (IsRun s (record { at = at; rest = rest })) (IsRunFront s (record { at = at; rest = rest })) text end
+    IsAnswer (IsRun s (record { at = at; rest = rest })) (IsRunPrefix s (record { at = at; rest = rest })) text end
 
-pub answer_behind : (s : ClosingState) (bytes : List ℕ) (c : PreparedClose) (at : ℕ) (others text : List ℕ)
+pub answer_after : (s : ClosingState) (bytes : List ℕ) (c : PreparedClose) (at : ℕ) (others text : List ℕ)
     (end : Status) → length bytes ≤ max_record_len → IsClose s bytes (Ok c)
     → AnswerFrom c.state (at + length (framed bytes)) others text end
     → AnswerFrom s at (framed bytes ++ others) (lines_of c ++ text) end
-answer_behind s bytes c at others text end fits closes (inl (o, run, e, same)) = inl (
-  behind (lines_of c) o,
+answer_after s bytes c at others text end fits closes (inl (o, run, e, same)) = inl (
+  after (lines_of c) o,
   prepended s bytes c at others o fits closes run,
   e,
   ap (λ (t : List ℕ). lines_of c ++ t) same,
 )
-answer_behind s bytes c at others text end fits closes (inr (short, f)) =
-    inr (short, later_front s bytes c at others text fits closes f)
+answer_after s bytes c at others text end fits closes (inr (short, f)) =
+    inr (short, later_prefix s bytes c at others text fits closes f)
 
-answered_behind : (s : ClosingState) (bytes : List ℕ) (c : PreparedClose) (at : ℕ) (others : List ℕ) (out : Seen)
+answered_after : (s : ClosingState) (bytes : List ℕ) (c : PreparedClose) (at : ℕ) (others : List ℕ) (out : Seen)
     (later : Option (List ℕ)) (faults : ℕ) (end : Status) → length bytes ≤ max_record_len → IsClose s bytes (Ok c)
     → Received out (lines_of c)
     → AnsweredFrom c.state (at + length (framed bytes)) others (over out.now later out.faults_now faults) end
     → AnsweredFrom s at (framed bytes ++ others) (over out.before later out.faults_before faults) end
-answered_behind s bytes c at others out later faults end fits closes received (text, h, answer) = (
+answered_after s bytes c at others out later faults end fits closes received (text, h, answer) = (
   lines_of c ++ text,
   Appends-trans out.before out.now later (lines_of c) text received h,
-  answer_behind s bytes c at others text end fits closes answer,
+  answer_after s bytes c at others text end fits closes answer,
 )
 
--- all lines of what is whole
-pub whole_behind : (s : ClosingState) (bytes : List ℕ) (c : PreparedClose) (at next : ℕ) (others lines : List ℕ)
+-- all lines of what is complete
+pub complete_after : (s : ClosingState) (bytes : List ℕ) (c : PreparedClose) (at next : ℕ) (others lines : List ℕ)
     → length bytes ≤ max_record_len → IsClose s bytes (Ok c)
-    → AreWhole c.state (record { at = next; rest = others }) lines
-    → AreWhole s (record { at = at; rest = framed bytes ++ others }) (lines_of c ++ lines)
-whole_behind s bytes c at next others lines fits closes w =
+    → AreComplete c.state (record { at = next; rest = others }) lines
+    → AreComplete s (record { at = at; rest = framed bytes ++ others }) (lines_of c ++ lines)
+complete_after s bytes c at next others lines fits closes w =
     record { ahead = one_more s bytes c at next others lines fits closes w.ahead; partial = w.partial }
 
--- the text from the old place on, by what was given
-text_behind : (ahead given framed_one rest x y : List ℕ) → ahead ++ given ≡ framed_one ++ rest → x ≡ given ++ y
+-- the text from the old offset on, by what was given
+text_after : (ahead given framed_one rest x y : List ℕ) → ahead ++ given ≡ framed_one ++ rest → x ≡ given ++ y
     → ahead ++ x ≡ framed_one ++ (rest ++ y)
-text_behind ahead given framed_one rest x y cut e =
+text_after ahead given framed_one rest x y cut e =
     ap (λ (t : List ℕ). ahead ++ t) e ∙ sym (append_assoc ahead given y) ∙ ap (λ (t : List ℕ). t ++ y) cut
     ∙ append_assoc framed_one rest y
 
-gone_answered : (old new : Standing) (input out : Seen) (g : Goes old new input out) (before now : Option (List ℕ))
+gone_answered : (old new : RunPosition) (input out : Seen) (g : Goes old new input out) (before now : Option (List ℕ))
     (out_now : Option (List ℕ)) (out_faults : ℕ) (end : Status) → Consumes before now g.given
     → IfSome now (λ bytes. AnsweredFrom new.state new.at (new.ahead ++ bytes)
     (over out.now out_now out.faults_now out_faults) end)
@@ -112,33 +88,33 @@ gone_answered old new input out g (Some x) (Some y) out_now out_faults end gave 
     let seen_out : Seen = over out.now out_now out.faults_now out_faults in
     let first = subst (λ (s : ClosingState). AnsweredFrom s new.at rest seen_out end) g.state h in
     let second = subst (λ (n : ℕ). AnsweredFrom g.closed.state n rest seen_out end) g.at first in
-    let third = answered_behind old.state g.bytes g.closed old.at rest out out_now out_faults end g.short g.closes
+    let third = answered_after old.state g.bytes g.closed old.at rest out out_now out_faults end g.short g.closes
     g.received second in
     subst (λ (t : List ℕ). AnsweredFrom old.state old.at t (over out.before out_now out.faults_before out_faults) end)
-    (sym (text_behind old.ahead g.given (framed g.bytes) new.ahead x y g.cut gave)) third
+    (sym (text_after old.ahead g.given (framed g.bytes) new.ahead x y g.cut gave)) third
 
 pub rose_before : (a b c : ℕ) → a ≤ b → Rose b c → Rose a c
 rose_before a b c le h = omega arith
 
-gone_lines : (old new : Standing) (input out : Seen) (g : Goes old new input out) (now out_now : Option (List ℕ))
+gone_lines : (old new : RunPosition) (input out : Seen) (g : Goes old new input out) (now out_now : Option (List ℕ))
     (faults out_faults : ℕ)
-    → WholeLines new.state new.at new.ahead (over input.now now input.faults_now faults)
+    → CompleteLines new.state new.at new.ahead (over input.now now input.faults_now faults)
     (over out.now out_now out.faults_now out_faults)
-    → WholeLines old.state old.at old.ahead (over input.before now input.faults_before faults)
+    → CompleteLines old.state old.at old.ahead (over input.before now input.faults_before faults)
     (over out.before out_now out.faults_before out_faults)
 gone_lines old new input out g now out_now faults out_faults w = record {
   given = g.given ++ w.given;
   gave = Consumes-trans input.before input.now now g.given w.given g.gave w.gave;
   lines = lines_of g.closed ++ w.lines;
   received = Appends-trans out.before out.now out_now (lines_of g.closed) w.lines g.received w.received;
-  all = subst (λ (t : List ℕ). AreWhole old.state (record { at = old.at; rest = t }) (lines_of g.closed ++ w.lines))
-      (sym (text_behind old.ahead g.given (framed g.bytes) new.ahead (g.given ++ w.given) w.given g.cut refl))
-      (whole_behind old.state g.bytes g.closed old.at new.at (new.ahead ++ w.given) w.lines g.short g.closes
-      (subst (λ (s : ClosingState). AreWhole s (record { at = new.at; rest = new.ahead ++ w.given }) w.lines) g.state
+  all = subst (λ (t : List ℕ). AreComplete old.state (record { at = old.at; rest = t }) (lines_of g.closed ++ w.lines))
+      (sym (text_after old.ahead g.given (framed g.bytes) new.ahead (g.given ++ w.given) w.given g.cut refl))
+      (complete_after old.state g.bytes g.closed old.at new.at (new.ahead ++ w.given) w.lines g.short g.closes
+      (subst (λ (s : ClosingState). AreComplete s (record { at = new.at; rest = new.ahead ++ w.given }) w.lines) g.state
       w.all));
 }
 
-pub gone : (old new : Standing) (input out : Seen) → Goes old new input out → (now out_now : Option (List ℕ))
+pub gone : (old new : RunPosition) (input out : Seen) → Goes old new input out → (now out_now : Option (List ℕ))
     (faults out_faults : ℕ) (disk_later disk_failed : Type 0) (end : Status) → (disk_later → disk_failed)
     → FollowedFrom new (over input.now now input.faults_now faults) (over out.now out_now out.faults_now out_faults)
     disk_later end
@@ -169,19 +145,19 @@ if_some None P Q f h = tt
 if_some (Some x) P Q f h = f x h
 
 -- nothing was written
-pub cut_answered : (IsOne : List ℕ → Outcome → Type 0) (IsOneFront : List ℕ → List ℕ → Type 0)
+pub cut_answered : (IsOne : List ℕ → Outcome → Type 0) (IsOnePrefix : List ℕ → List ℕ → Type 0)
     (before : Option (List ℕ)) (out : Seen) (end : Status) → Received out [] → IsCutShort end
-    → ((bytes : List ℕ) → IsOneFront bytes [])
-    → IfSome before (λ bytes. Answered (IsOne bytes) (IsOneFront bytes) out end)
-cut_answered IsOne IsOneFront None out end h short empty = tt
-cut_answered IsOne IsOneFront (Some bytes) out end h short empty = ([], h, inr (short, empty bytes))
+    → ((bytes : List ℕ) → IsOnePrefix bytes [])
+    → IfSome before (λ bytes. Answered (IsOne bytes) (IsOnePrefix bytes) out end)
+cut_answered IsOne IsOnePrefix None out end h short empty = tt
+cut_answered IsOne IsOnePrefix (Some bytes) out end h short empty = ([], h, inr (short, empty bytes))
 
 unfollowed : (s : ClosingState) (at : ℕ) (ahead : List ℕ) (before : Option (List ℕ)) (out : Seen) (end : Status)
     → Received out [] → IsCutShort end → IfSome before (λ bytes. AnsweredFrom s at (ahead ++ bytes) out end)
 unfollowed s at ahead before out end h short =
     cut_answered (λ bytes. IsRun s (record { at = at; rest = ahead ++ bytes }))
-    (λ bytes. IsRunFront s (record { at = at; rest = ahead ++ bytes })) before out end h short
-    (λ bytes. empty_front s (record { at = at; rest = ahead ++ bytes }))
+    (λ bytes. IsRunPrefix s (record { at = at; rest = ahead ++ bytes })) before out end h short
+    (λ bytes. empty_prefix s (record { at = at; rest = ahead ++ bytes }))
 
 pub nothing_followed : (s : ClosingState) (at : ℕ) (ahead : List ℕ) (input out : Seen) (F : Type 0) → Received out []
     → Followed s at ahead input out F status.NoMemory
@@ -208,15 +184,15 @@ stopped s at ahead input out F end last ends (inl (e, received)) done is_last = 
   disk_fault = λ r. absurd (is_last.no_disk (sym e ∙ r));
   is_end = subst IsRecordsEnd (sym e) is_last.is_end;
 }
-stopped s at ahead input out F end last ends (inr (inl (e, failed, front))) done is_last = record {
+stopped s at ahead input out F end last ends (inr (inl (e, failed, prefix))) done is_last = record {
   answered = if_some input.before (λ bytes. IsEnd s at (ahead ++ bytes) last)
       (λ bytes. AnsweredFrom s at (ahead ++ bytes) out end)
       (λ bytes h. (
-        take front.0 last.text,
-        front.2,
+        take prefix.0 last.text,
+        prefix.2,
         inr (
           subst IsCutShort (sym e) tt,
-          inr (last, ended_run s at (ahead ++ bytes) last h, (front.0, front.1, refl)),
+          inr (last, ended_run s at (ahead ++ bytes) last h, (prefix.0, prefix.1, refl)),
         ),
       )) ends;
   ended = λ d. absurd cc;
@@ -228,7 +204,7 @@ stopped s at ahead input out F end last ends (inr (inl (e, failed, front))) done
 stopped s at ahead input out F end last ends (inr (inr (e, none))) done is_last =
     subst (Followed s at ahead input out F) (sym e) (nothing_followed s at ahead input out F none)
 
--- a read failed, and no whole record is ahead
+-- a read failed, and no complete record is ahead
 abbrev ended : Result ℕ XdrFault → Result ℕ XdrFault
 ended r = r
 
@@ -264,12 +240,12 @@ read_failed s at ahead new input out F grown short failed h = record {
   is_end = tt;
 }
 
--- what a source told begins with what it gave
-pub told_front : (before now : Option (List ℕ)) (given : List ℕ) (P : List ℕ → Type 0) → Consumes before now given
+-- what a source reported begins with what it gave
+pub reported_prefix : (before now : Option (List ℕ)) (given : List ℕ) (P : List ℕ → Type 0) → Consumes before now given
     → ((others : List ℕ) → now ≡ Some others → P (given ++ others)) → IfSome before P
-told_front None now given P gave h = tt
-told_front (Some x) None given P gave h = absurd gave
-told_front (Some x) (Some y) given P gave h = subst P (sym gave) (h y refl)
+reported_prefix None now given P gave h = tt
+reported_prefix (Some x) None given P gave h = absurd gave
+reported_prefix (Some x) (Some y) given P gave h = subst P (sym gave) (h y refl)
 
 abbrev some : List ℕ → Option (List ℕ)
 some x = Some x
@@ -277,9 +253,9 @@ some x = Some x
 some_is : (a b : List ℕ) → some a ≡ Some b → a ≡ b
 some_is a b e = cc
 
-pub none_left : (now : Option (List ℕ)) (others : List ℕ) → IsAtEnd now → now ≡ Some others → others ≡ []
-none_left None others h e = absurd cc
-none_left (Some x) others h e = let same : x ≡ others = some_is x others e in sym same ∙ h
+pub nothing_after_end : (now : Option (List ℕ)) (others : List ℕ) → IsAtEnd now → now ≡ Some others → others ≡ []
+nothing_after_end None others h e = absurd cc
+nothing_after_end (Some x) others h e = let same : x ≡ others = some_is x others e in sym same ∙ h
 
 -- ---- what is ahead where a turn ends
 
@@ -300,10 +276,10 @@ end_err (Err other) wrong e = cc
 mark_stays : (new others : List ℕ) (now : Option (List ℕ)) (wrong : XdrFault) → IsBytes new
     → read_mark (start_of new) ≡ Err wrong → (wrong.kind ≡ kind.Short → IsAtEnd now) → now ≡ Some others
     → read_mark (start_of (new ++ others)) ≡ Err wrong
-mark_stays new others now wrong fits e at_end told = elim (short_or_not wrong.kind) [
-  | inl short ↦ ap (λ (t : List ℕ). read_mark (start_of (new ++ t))) (none_left now others (at_end short) told)
+mark_stays new others now wrong fits e at_end reported = elim (short_or_not wrong.kind) [
+  | inl short ↦ ap (λ (t : List ℕ). read_mark (start_of (new ++ t))) (nothing_after_end now others (at_end short) reported)
       ∙ ap (λ (t : List ℕ). read_mark (start_of t)) (append-nil new) ∙ e
-  | inr other ↦ (faults_placed (mark_laws max_record_len (omega arith))).stays (start_of new) wrong others fits e other
+  | inr other ↦ (faults_located (mark_laws max_record_len (omega arith))).stays (start_of new) wrong others fits e other
 ]
 
 pub bad_end : (s : ClosingState) (at : ℕ) (text : List ℕ) (wrong : XdrFault) → 0 < length text
@@ -311,9 +287,9 @@ pub bad_end : (s : ClosingState) (at : ℕ) (text : List ℕ) (wrong : XdrFault)
 bad_end s at [] wrong some e = absurd (omega arith)
 bad_end s at (byte ∷ rest) wrong some e =
     subst (λ (r : Reading XdrFault (List ℕ)). IsStopped s r (silent (status.BadInput (at + wrong.at))))
-    (sym (fault_behind at (byte ∷ rest) wrong e)) refl
+    (sym (fault_after at (byte ∷ rest) wrong e)) refl
 
--- the text from a place on is what is ahead, and more
+-- the text from an offset on is what is ahead, and more
 text_of : (ahead new given others : List ℕ) → new ≡ ahead ++ given → ahead ++ (given ++ others) ≡ new ++ others
 text_of ahead new given others e = sym (append_assoc ahead given others) ∙ ap (λ (t : List ℕ). t ++ others) (sym e)
 
@@ -325,16 +301,12 @@ bad_mark s at ahead new input out F wrong grown fits measured at_end some h =
     let last : Outcome = silent (status.BadInput (at + wrong.at)) in
     let e = end_err (read_mark (start_of new)) wrong measured in
     stopped s at ahead input out F (status.BadInput (at + wrong.at)) last
-    (told_front input.before input.now grown.given (λ bytes. IsEnd s at (ahead ++ bytes) last) grown.gave
-    (λ others told. subst (λ (t : List ℕ). IsEnd s at t last) (sym (text_of ahead new grown.given others grown.grown))
+    (reported_prefix input.before input.now grown.given (λ bytes. IsEnd s at (ahead ++ bytes) last) grown.gave
+    (λ others reported. subst (λ (t : List ℕ). IsEnd s at t last) (sym (text_of ahead new grown.given others grown.grown))
     (bad_end s at (new ++ others) wrong (omega (arith, some, length-append new others))
-    (mark_stays new others input.now wrong fits e at_end told))))
+    (mark_stays new others input.now wrong fits e at_end reported))))
     (inl (refl, h)) (λ d. absurd cc)
     (record { no_read = λ d. cc; no_disk = λ d. cc; no_write = λ d. cc; is_end = tt })
-
-no_bytes : (new : List ℕ) → length new ≡ 0 → new ≡ []
-no_bytes [] e = refl
-no_bytes (byte ∷ rest) e = absurd (omega arith)
 
 pub all_done : (s : ClosingState) (at : ℕ) (ahead new : List ℕ) (input out : Seen) (F : Type 0) (end : Status)
     (wrong : XdrFault)
@@ -343,21 +315,21 @@ pub all_done : (s : ClosingState) (at : ℕ) (ahead new : List ℕ) (input out :
     → Wrote out (end_line s.header) status.Done end → Followed s at ahead input out F end
 all_done s at ahead new input out F end wrong grown measured at_end none wrote =
     let last : Outcome = record { status = status.Done; text = end_line s.header } in
-    let empty : new ≡ [] = no_bytes new none in
+    let empty : new ≡ [] = nil_from_length new none in
     let at_its_end = at_end (empty_is_short wrong (ap record_end (sym empty) ∙ measured)) in
     stopped s at ahead input out F end last
-    (told_front input.before input.now grown.given (λ bytes. IsEnd s at (ahead ++ bytes) last) grown.gave
-    (λ others told. subst (λ (t : List ℕ). IsEnd s at t last)
+    (reported_prefix input.before input.now grown.given (λ bytes. IsEnd s at (ahead ++ bytes) last) grown.gave
+    (λ others reported. subst (λ (t : List ℕ). IsEnd s at t last)
     (sym (text_of ahead new grown.given others grown.grown ∙ ap (λ (t : List ℕ). t ++ others) empty
-    ∙ none_left input.now others at_its_end told)) refl))
+    ∙ nothing_after_end input.now others at_its_end reported)) refl))
     wrote (λ d. at_its_end) (record { no_read = λ d. cc; no_disk = λ d. cc; no_write = λ d. cc; is_end = tt })
 
--- ---- what a record comes to
+-- ---- what a record yields
 
-front_text : (ahead new given front rest others : List ℕ) → new ≡ ahead ++ given → new ≡ front ++ rest
-    → ahead ++ (given ++ others) ≡ front ++ (rest ++ others)
-front_text ahead new given front rest others e cut =
-    text_of ahead new given others e ∙ ap (λ (t : List ℕ). t ++ others) cut ∙ append_assoc front rest others
+prefix_text : (ahead new given prefix rest others : List ℕ) → new ≡ ahead ++ given → new ≡ prefix ++ rest
+    → ahead ++ (given ++ others) ≡ prefix ++ (rest ++ others)
+prefix_text ahead new given prefix rest others e cut =
+    text_of ahead new given others e ∙ ap (λ (t : List ℕ). t ++ others) cut ∙ append_assoc prefix rest others
 
 pub refused_end : (s : ClosingState) (at : ℕ) (bytes rest : List ℕ) (wrong : CloseFault) → length bytes ≤ max_record_len
     → IsClose s bytes (Err wrong)
@@ -386,7 +358,7 @@ cut_short out F status.ReadFault h = tt
 cut_short out F status.Done h = absurd h
 cut_short out F status.Usage h = absurd h
 cut_short out F status.Refused h = absurd h
-cut_short out F (status.BadStore file place) h = absurd h
+cut_short out F (status.BadStore file offset) h = absurd h
 cut_short out F (status.BadInput at) h = absurd h
 cut_short out F (status.BadImage rule) h = absurd h
 cut_short out F status.Missing h = absurd h
@@ -406,22 +378,22 @@ cut_end out F status.ReadFault h = tt
 cut_end out F status.Done h = tt
 cut_end out F status.Usage h = absurd h
 cut_end out F status.Refused h = tt
-cut_end out F (status.BadStore file place) h = absurd h
+cut_end out F (status.BadStore file offset) h = absurd h
 cut_end out F (status.BadInput at) h = tt
 cut_end out F (status.BadImage rule) h = absurd h
 cut_end out F status.Missing h = absurd h
 cut_end out F status.AlreadyThere h = absurd h
 
--- a record closes the ledger, and a front of its lines was written
-pub cut_answer : (s : ClosingState) (bytes : List ℕ) (c : PreparedClose) (at : ℕ) (others front : List ℕ) (end : Status)
-    → length bytes ≤ max_record_len → IsClose s bytes (Ok c) → IsCutShort end → IsFront front (lines_of c)
-    → AnswerFrom s at (framed bytes ++ others) front end
-cut_answer s bytes c at others front end fits closes short f = inr (
+-- a record closes the ledger, and a prefix of its lines was written
+pub cut_answer : (s : ClosingState) (bytes : List ℕ) (c : PreparedClose) (at : ℕ) (others prefix : List ℕ) (end : Status)
+    → length bytes ≤ max_record_len → IsClose s bytes (Ok c) → IsCutShort end → IsPrefix prefix (lines_of c)
+    → AnswerFrom s at (framed bytes ++ others) prefix end
+cut_answer s bytes c at others prefix end fits closes short f = inr (
   short,
   inl (
     lines_of c ++ [],
     one_more s bytes c at at others [] fits closes (no_records c.state (record { at = at; rest = others })),
-    front_more front (lines_of c) [] f,
+    prefix_more prefix (lines_of c) [] f,
   ),
 )
 
@@ -429,15 +401,15 @@ pub record_stops : (s : ClosingState) (at : ℕ) (ahead new rest bytes : List �
     (end : Status)
     → Grown input.before input.now ahead new → new ≡ framed bytes ++ rest → length bytes ≤ max_record_len
     → Stops s bytes out F end → Followed s at ahead input out F end
-record_stops s at ahead new rest bytes input out F end grown cut fits (inl (c, closes, why, front)) = record {
-  answered = told_front input.before input.now grown.given (λ given. AnsweredFrom s at (ahead ++ given) out end)
+record_stops s at ahead new rest bytes input out F end grown cut fits (inl (c, closes, why, prefix)) = record {
+  answered = reported_prefix input.before input.now grown.given (λ given. AnsweredFrom s at (ahead ++ given) out end)
       grown.gave
-      (λ others told. subst (λ (t : List ℕ). AnsweredFrom s at t out end)
-      (sym (front_text ahead new grown.given (framed bytes) rest others grown.grown cut)) (
-        take front.0 (lines_of c),
-        front.2,
-        cut_answer s bytes c at (rest ++ others) (take front.0 (lines_of c)) end fits closes (cut_short out F end why)
-            (front.0, front.1, refl),
+      (λ others reported. subst (λ (t : List ℕ). AnsweredFrom s at t out end)
+      (sym (prefix_text ahead new grown.given (framed bytes) rest others grown.grown cut)) (
+        take prefix.0 (lines_of c),
+        prefix.2,
+        cut_answer s bytes c at (rest ++ others) (take prefix.0 (lines_of c)) end fits closes (cut_short out F end why)
+            (prefix.0, prefix.1, refl),
       ));
   ended = λ d. absurd (not_done out F end why d);
   read_fault = λ d. absurd (not_read out F end why d);
@@ -448,9 +420,9 @@ record_stops s at ahead new rest bytes input out F end grown cut fits (inl (c, c
 record_stops s at ahead new rest bytes input out F end grown cut fits (inr (inl (wrong, closes, wrote))) =
     let last : Outcome = record { status = status.Refused; text = refused_line s.header wrong } in
     stopped s at ahead input out F end last
-    (told_front input.before input.now grown.given (λ given. IsEnd s at (ahead ++ given) last) grown.gave
-    (λ others told. subst (λ (t : List ℕ). IsEnd s at t last)
-    (sym (front_text ahead new grown.given (framed bytes) rest others grown.grown cut))
+    (reported_prefix input.before input.now grown.given (λ given. IsEnd s at (ahead ++ given) last) grown.gave
+    (λ others reported. subst (λ (t : List ℕ). IsEnd s at t last)
+    (sym (prefix_text ahead new grown.given (framed bytes) rest others grown.grown cut))
     (refused_end s at bytes (rest ++ others) wrong fits closes)))
     wrote (λ d. absurd cc) (record { no_read = λ d. cc; no_disk = λ d. cc; no_write = λ d. cc; is_end = tt })
 record_stops s at ahead new rest bytes input out F end grown cut fits (inr (inr (e, h))) =
@@ -459,7 +431,7 @@ record_stops s at ahead new rest bytes input out F end grown cut fits (inr (inr 
 -- ---- the answers of the parts
 
 pub closes_of : (s : ClosingState) (bytes : List ℕ) (c : PreparedClose) (next : ClosingState) (out : Seen) (F : Type 0)
-    (r : Option Status) → IsClose s bytes (Ok c) → next ≡ c.state → Told (lines_of c) out F r
+    (r : Option Status) → IsClose s bytes (Ok c) → next ≡ c.state → WroteClose (lines_of c) out F r
     → Closes s bytes next out F r
 closes_of s bytes c next out F None closes same w = (c, closes, same, w)
 closes_of s bytes c next out F (Some end) closes same w = inl (c, closes, w.0, w.1)
@@ -501,19 +473,19 @@ cut_wider out F G status.Done wider cut = absurd cut
 cut_wider out F G status.Usage wider cut = absurd cut
 cut_wider out F G status.Refused wider cut = absurd cut
 cut_wider out F G status.ReadFault wider cut = absurd cut
-cut_wider out F G (status.BadStore file place) wider cut = absurd cut
+cut_wider out F G (status.BadStore file offset) wider cut = absurd cut
 cut_wider out F G (status.BadInput at) wider cut = absurd cut
 cut_wider out F G (status.BadImage rule) wider cut = absurd cut
 cut_wider out F G status.Missing wider cut = absurd cut
 cut_wider out F G status.AlreadyThere wider cut = absurd cut
 
--- a record closed the ledger, and its lines were told
-pub closed_told : (s : ClosingState) (bytes : List ℕ) (closed : PreparedClose) (next : ClosingState) (out : Seen)
+-- a record closed the ledger, and its lines were written
+pub closed_written : (s : ClosingState) (bytes : List ℕ) (closed : PreparedClose) (next : ClosingState) (out : Seen)
     (F G : Type 0) (r : Option Status) → IsClose s bytes (Ok closed) → next ≡ closed.state → (F → G)
-    → Told (lines_of closed) out F r → Closes s bytes next out G r
-closed_told s bytes closed next out F G None closes same wider told = (closed, closes, same, told)
-closed_told s bytes closed next out F G (Some end) closes same wider told =
-    inl (closed, closes, cut_wider out F G end wider told.0, told.1)
+    → WroteClose (lines_of closed) out F r → Closes s bytes next out G r
+closed_written s bytes closed next out F G None closes same wider reported = (closed, closes, same, reported)
+closed_written s bytes closed next out F G (Some end) closes same wider reported =
+    inl (closed, closes, cut_wider out F G end wider reported.0, reported.1)
 
 -- a record was ahead
 pub turned_at : (s : ClosingState) (at : ℕ) (ahead mid : List ℕ) (end : ℕ) (next : ClosingState) (new : List ℕ)
@@ -524,9 +496,9 @@ pub turned_at : (s : ClosingState) (at : ℕ) (ahead mid : List ℕ) (end : ℕ)
     → Turned (record { state = s; at = at; ahead = ahead }) (record { state = next; at = at + end; ahead = new })
     input out F r
 turned_at s at ahead mid end next new input out F None fits grown measured p rest input_later out_later low =
-    let f = front_of mid end fits measured in
+    let f = prefix_of mid end fits measured in
     let cut : ahead ++ grown.given ≡ framed p.bytes ++ new =
-    sym grown.grown ∙ f.whole ∙ ap (λ (t : List ℕ). t ++ drop end mid) (f.framed_is ∙ sym p.framed_is)
+    sym grown.grown ∙ f.entire ∙ ap (λ (t : List ℕ). t ++ drop end mid) (f.framed_is ∙ sym p.framed_is)
     ∙ ap (λ (t : List ℕ). framed p.bytes ++ t) (sym (rest refl)) in
     let len : end ≡ length (framed p.bytes) = f.len ∙ ap length (f.framed_is ∙ sym p.framed_is) in
     record {
@@ -545,13 +517,13 @@ turned_at s at ahead mid end next new input out F None fits grown measured p res
       low = low;
     }
 turned_at s at ahead mid end next new input out F (Some last) fits grown measured p rest input_later out_later low =
-    let f = front_of mid end fits measured in
+    let f = prefix_of mid end fits measured in
     record_stops s at ahead mid (drop end mid) p.bytes input out F last grown
-    (f.whole ∙ ap (λ (t : List ℕ). t ++ drop end mid) (f.framed_is ∙ sym p.framed_is)) p.short p.closes
+    (f.entire ∙ ap (λ (t : List ℕ). t ++ drop end mid) (f.framed_is ∙ sym p.framed_is)) p.short p.closes
 
-none_or_some : (text : List ℕ) → (length text ≡ 0) ⊎ (0 < length text)
-none_or_some [] = inl refl
-none_or_some (byte ∷ rest) = inr (omega arith)
+pub empty_or_some : (text : List ℕ) → (length text ≡ 0) ⊎ (0 < length text)
+empty_or_some [] = inl refl
+empty_or_some (byte ∷ rest) = inr (omega arith)
 
 -- no record was ahead
 pub turned_off : (s : ClosingState) (at : ℕ) (ahead mid : List ℕ) (input out : Seen) (F : Type 0) (why :
@@ -559,7 +531,7 @@ pub turned_off : (s : ClosingState) (at : ℕ) (ahead mid : List ℕ) (input out
     → IsBytes mid
     → IsPiece record_end input.before input.now input.faults_before input.faults_now ahead mid (Err why)
     → EndsAt s at mid out why end → Followed s at ahead input out F end
-turned_off s at ahead mid input out F (piece.Xdr wrong) end fits h e = elim (none_or_some mid) [
+turned_off s at ahead mid input out F (piece.Xdr wrong) end fits h e = elim (empty_or_some mid) [
   | inl none ↦ all_done s at ahead mid input out F end wrong h.0 h.1 h.2 none (e.0 none)
   | inr some ↦ let bad = e.1 some in
       subst (Followed s at ahead input out F) (sym bad.0)
@@ -572,12 +544,12 @@ turned_off s at ahead mid input out F piece.NoMemory end fits h e =
 
 -- ---- numbers of ledgers
 
-goes_seq : (old new : Standing) (input out : Seen) (g : Goes old new input out)
+goes_seq : (old new : RunPosition) (input out : Seen) (g : Goes old new input out)
     → new.state.header.ledger_seq ≡ old.state.header.ledger_seq + 1
 goes_seq old new input out g =
     ap (λ (s : ClosingState). s.header.ledger_seq) g.state ∙ next_seq old.state g.bytes g.closed g.closes
 
-pub goes_smaller : (old new : Standing) (input out : Seen) → Goes old new input out
+pub goes_smaller : (old new : RunPosition) (input out : Seen) → Goes old new input out
     → 2147483648 - new.state.header.ledger_seq < 2147483648 - old.state.header.ledger_seq
 goes_smaller old new input out g = omega (arith, goes_seq old new input out g, g.low)
 
@@ -585,7 +557,7 @@ low_after : (at len next seq up : ℕ) → at ≤ (seq + 1) * 2 ^ 64 → len ≤
     → next ≤ (up + 1) * 2 ^ 64
 low_after at len next seq up h k e f = omega arith
 
-pub goes_low : (old new : Standing) (input out : Seen) → Goes old new input out
+pub goes_low : (old new : RunPosition) (input out : Seen) → Goes old new input out
     → old.at ≤ (old.state.header.ledger_seq + 1) * 2 ^ 64 → new.at ≤ (new.state.header.ledger_seq + 1) * 2 ^ 64
 goes_low old new input out g h =
     low_after old.at (length (framed g.bytes)) new.at old.state.header.ledger_seq new.state.header.ledger_seq h

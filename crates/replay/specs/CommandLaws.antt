@@ -1,8 +1,8 @@
--- What the words of the program come to, what `show` and `sample` answer, and that `catchup` agrees with `run`.
+-- What the words of the program yield, what `show` and `sample` answer, and that `catchup` agrees with `run`.
 use Rattle.std.specs.Prelude.{◌≡◌, ◌<◌, ◌≤◌, ◌^◌, ℕ, ◌+◌, suc, List, Ok, Err, ◌⊎◌}
 use Rattle.stored_outcome.specs.run_streams.Seen.{Seen, Failed, Received}
 use Rattle.stored_outcome.specs.run_streams.SeenVolume.{SeenVolume, VolumeFailed}
-use Rattle.xdr_core.specs.Place.{Place, start_of}
+use Rattle.xdr_core.specs.Position.{Position, start_of}
 use Rattle.xdr_header.specs.declared.image.StartImage.{StartImage}
 use Rattle.xdr_header.specs.Image.{start_image}
 use Rattle.hash_ids.specs.Ids.{network_id_of}
@@ -15,33 +15,33 @@ use Rattle.stored_outcome.specs.run_outcome.declared.status.Status.TheVariants a
 use Rattle.stored_outcome.specs.run_outcome.Lines.{refused_line}
 use Rattle.stored_outcome.specs.run_outcome.Outcome.{Outcome, IsRun, IsOutcome}
 use Rattle.image_store.specs.Opening.{Kept, Holds, HoldsNothing}
-use Rattle.command_words.specs.Words.{Command, Spells, SpellsNone}
+use Rattle.command_words.specs.Words.{Command, Parses, ParsesNone}
 use Rattle.stored_outcome.specs.sample_ledger.Samples.{Progress, HaveClosed, record_bytes}
-use Rattle.stored_outcome.specs.Opening.{ComesTo, IsBadStore}
+use Rattle.stored_outcome.specs.Opening.{Yields, IsBadStore}
 use Rattle.stored_outcome.specs.Show.{lines_shown, DidShow}
-use Rattle.stored_outcome.specs.Sample.{IsSampled, IsWhole, DidSample}
+use Rattle.stored_outcome.specs.Sample.{IsSampled, IsEntire, DidSample}
 use Rattle.stored_outcome.specs.Program.{DidNothing, RanAs, Ran}
 
 -- ---- words
 
--- What words leave that spell a command is what the command leaves, but where memory was refused as they were read. So
+-- What words leave that are a command is what the command leaves, but where memory was refused as they were read. So
 -- all that is known of runs of a command holds of its words.
 abbrev pub IsByCommand : SeenVolume → Type 0
 IsByCommand vol = (words : List (List ℕ)) (command : Command) (input out err : Seen) (end : Status)
-    → Ran words input out err vol end → Spells words command
+    → Ran words input out err vol end → Parses words command
     → RanAs command input out err vol end ⊎ DidNothing status.NoMemory input out err vol end
 
--- words that spell none are answered so
-abbrev pub IsUsageTold : SeenVolume → Type 0
-IsUsageTold vol = (words : List (List ℕ)) (input out err : Seen) (end : Status) → Ran words input out err vol end
-    → SpellsNone words → DidNothing status.Usage input out err vol end
+-- words that are no command are answered so
+abbrev pub IsUsageReported : SeenVolume → Type 0
+IsUsageReported vol = (words : List (List ℕ)) (input out err : Seen) (end : Status) → Ran words input out err vol end
+    → ParsesNone words → DidNothing status.Usage input out err vol end
 
 -- ---- `show`
 
--- a claim of each `show` over this volume, which keeps this and comes to that
+-- a claim of each `show` over this volume, which keeps this and yields that
 abbrev pub Showings : SeenVolume → (Kept → ClosingState → (out err : Seen) → Status → Type 0) → Type 0
-Showings vol P = (k : Kept) (s : ClosingState) (out err : Seen) (end : Status) → DidShow out err vol end → vol.tells
-    → Holds vol.before.reads k → ComesTo k s → P k s out err end
+Showings vol P = (k : Kept) (s : ClosingState) (out err : Seen) (end : Status) → DidShow out err vol end → vol.reports
+    → Holds vol.before.reads k → Yields k s → P k s out err end
 
 -- the lines are written, unless a device failed or memory was refused
 abbrev pub IsShowAnswered : SeenVolume → Kept → ClosingState → (out err : Seen) → Status → Type 0
@@ -64,10 +64,10 @@ IsShowFault vol err end =
 
 -- where a volume has no store, or a bad one, that is answered
 abbrev pub IsUnopenedShown : SeenVolume → Type 0
-IsUnopenedShown vol = (out err : Seen) (end : Status) → DidShow out err vol end → vol.tells
+IsUnopenedShown vol = (out err : Seen) (end : Status) → DidShow out err vol end → vol.reports
     → (HoldsNothing vol.before.reads → (end ≡ status.Missing) ⊎ IsShowFault vol err end)
-    × ((file place : ℕ) → IsBadStore vol.before.reads file place
-    → (end ≡ status.BadStore file place) ⊎ IsShowFault vol err end)
+    × ((file offset : ℕ) → IsBadStore vol.before.reads file offset
+    → (end ≡ status.BadStore file offset) ⊎ IsShowFault vol err end)
 
 -- ---- `sample`
 
@@ -79,13 +79,13 @@ pub record IsFullAt (seed k : ℕ) (o : Outcome) : Type 0 where
   pub full : IsClose now.state (record_bytes seed (suc k) now.state) (Err (fault.LedgerFull bytes))
   pub is : o ≡ record { status = status.Refused; text = refused_line now.state.header (fault.LedgerFull bytes) }
 
--- what a sample comes to: all of its ledgers close, or one would be too long
-abbrev pub IsWholeOrFull : (seed ledgers : ℕ) → Outcome → Type 0
-IsWholeOrFull seed ledgers o = IsWhole seed ledgers o ⊎ ((k : ℕ) × (k < ledgers) × IsFullAt seed k o)
+-- what a sample yields: all of its ledgers close, or one would be too long
+abbrev pub IsCompleteOrFull : (seed ledgers : ℕ) → Outcome → Type 0
+IsCompleteOrFull seed ledgers o = IsEntire seed ledgers o ⊎ ((k : ℕ) × (k < ledgers) × IsFullAt seed k o)
 
-abbrev pub SamplesAreWholeOrFull : Type 0
-SamplesAreWholeOrFull = (seed ledgers : ℕ) (o : Outcome) → seed < 2 ^ 32 → ledgers ≤ 20000 → IsSampled seed ledgers o
-    → IsWholeOrFull seed ledgers o
+abbrev pub SamplesAreCompleteOrFull : Type 0
+SamplesAreCompleteOrFull = (seed ledgers : ℕ) (o : Outcome) → seed < 2 ^ 32 → ledgers ≤ 20000 → IsSampled seed ledgers o
+    → IsCompleteOrFull seed ledgers o
 
 -- it is one thing
 abbrev pub SamplesAreOne : Type 0
@@ -100,17 +100,17 @@ SamplesAreComplete = (seed ledgers : ℕ) (out err : Seen) (end : Status) → Di
 
 -- ---- `catchup` and `run`
 
--- the end of the same records, of which the input has n bytes more in front
-abbrev pub status_behind : ℕ → Status → Status
-status_behind n (status.BadInput at) = status.BadInput (n + at)
-status_behind n other = other
+-- the end of the same records in an input that has n bytes more before them
+abbrev pub status_after : ℕ → Status → Status
+status_after n (status.BadInput at) = status.BadInput (n + at)
+status_after n other = other
 
-abbrev pub outcome_behind : ℕ → Outcome → Outcome
-outcome_behind n o = record { status = status_behind n o.status; text = o.text }
+abbrev pub outcome_after : ℕ → Outcome → Outcome
+outcome_after n o = record { status = status_after n o.status; text = o.text }
 
--- Behind an image of a state, an input comes to what its records come to behind the state, as `run` closes them, but
--- that places count from the front of the image. An image that a ledger gave is one of its state.
+-- After an image of a state, an input yields what its records yield after the state, as `run` closes them, but
+-- that offsets count from the start of the image. An image that a ledger gave is one of its state.
 abbrev pub CatchupsAgree : Type 0
-CatchupsAgree = (passphrase input : List ℕ) (image : StartImage) (p : Place) (s : ClosingState) (o own : Outcome)
+CatchupsAgree = (passphrase input : List ℕ) (image : StartImage) (p : Position) (s : ClosingState) (o own : Outcome)
     → start_image.read (start_of input) ≡ Ok (image, p) → IsJudged (network_id_of passphrase) image (Ok s)
-    → IsOutcome passphrase input o → IsRun s (start_of p.rest) own → o ≡ outcome_behind p.at own
+    → IsOutcome passphrase input o → IsRun s (start_of p.rest) own → o ≡ outcome_after p.at own

@@ -2,7 +2,7 @@
 -- accepted, and where the outcome is another one.
 use Rattle.std.specs.Prelude.{◌≡◌, ℕ, ◌≤◌, List, ◌++◌, length, All, Some, Ok, ◌⊎◌}
 use Rattle.stored_outcome.specs.run_streams.Seen.{Seen, Failed, Received}
-use Rattle.xdr_core.specs.Place.{Place, start_of}
+use Rattle.xdr_core.specs.Position.{Position, start_of}
 use Rattle.xdr_header.specs.declared.image.StartImage.{StartImage}
 use Rattle.xdr_header.specs.Image.{start_image}
 use Rattle.hash_ids.specs.Ids.{network_id_of}
@@ -14,7 +14,7 @@ use Rattle.stored_outcome.specs.run_outcome.Lines.{end_line}
 use Rattle.stored_outcome.specs.run_outcome.Outcome.{Outcome, IsOutcome, max_record_len, frames, AreClosed}
 use Rattle.stored_outcome.specs.run_outcome.Run.{DidCatchUp}
 use Rattle.stored_outcome.specs.run_streams.SeenVolume.{SeenVolume}
-use Rattle.command_words.specs.Words.{CatchUp, Spells}
+use Rattle.command_words.specs.Words.{CatchUp, Parses}
 use Rattle.stored_outcome.specs.Program.{DidNothing, Ran}
 
 -- no stream's count of faults rose
@@ -31,7 +31,7 @@ Catchups P = (passphrase bytes : List ℕ) (input out err : Seen) (end : Status)
 -- the same, of the runs beside this volume that the words ask for, but where memory was refused as they were read
 abbrev pub Runs : SeenVolume → ((passphrase input : List ℕ) → (Seen → Seen → Seen → Status → Type 0)) → Type 0
 Runs vol P = (words : List (List ℕ)) (passphrase bytes : List ℕ) (input out err : Seen) (end : Status)
-    → Ran words input out err vol end → Spells words (CatchUp passphrase) → input.before ≡ Some bytes
+    → Ran words input out err vol end → Parses words (CatchUp passphrase) → input.before ≡ Some bytes
     → P passphrase bytes input out err end ⊎ DidNothing status.NoMemory input out err vol end
 
 -- ---- where nothing failed
@@ -43,19 +43,19 @@ IsComplete passphrase bytes input out err end = NoneFailed input out err
 
 -- ---- where all records are accepted
 
--- a legal image, and behind it records that all close ledgers: their lines, and the state behind the last
+-- a legal image, and after it records that all close ledgers: their lines, and the state after the last
 pub record AreAccepted (passphrase bytes lines : List ℕ) (now : ClosingState) : Type 0 where
   pub image : StartImage
-  pub place : Place
-  pub reads : start_image.read (start_of bytes) ≡ Ok (image, place)
+  pub position : Position
+  pub reads : start_image.read (start_of bytes) ≡ Ok (image, position)
   pub start : ClosingState
   pub judged : IsJudged (network_id_of passphrase) image (Ok start)
   pub records : List (List ℕ)
-  pub cut : place.rest ≡ frames records
+  pub cut : position.rest ≡ frames records
   pub short : All (λ record_bytes. length record_bytes ≤ max_record_len) records
   pub closed : AreClosed start records lines now
 
--- all is done and the text is whole, or memory was refused
+-- all is done and the text is complete, or memory was refused
 abbrev pub IsDone : (passphrase bytes : List ℕ) → (input out err : Seen) → (end : Status) → Type 0
 IsDone passphrase bytes input out err end = (lines : List ℕ) (now : ClosingState)
     → AreAccepted passphrase bytes lines now → NoneFailed input out err

@@ -1,4 +1,4 @@
--- What the records behind a start image come to: one record, and all of them up to the end of a run.
+-- What the records after a start image yield: one record, and all of them up to the end of a run.
 use Rattle.std.specs.Prelude.{◌≡◌, ℕ, ◌+◌, ◌<◌, ◌≤◌, List, [], ◌++◌, length, take, Option, Some, None, IfSome, Ok}
 use Rattle.std.specs.Prelude.{Err, ◌⊎◌}
 use Rattle.std.specs.Io.KnownBytes.{IsAtEnd}
@@ -15,19 +15,19 @@ use Rattle.stored_outcome.specs.run_outcome.declared.status.Status.{Status}
 use Rattle.stored_outcome.specs.run_outcome.declared.status.Status.TheVariants as status
 use Rattle.stored_outcome.specs.run_outcome.Statuses.{IsRecordsEnd}
 use Rattle.stored_outcome.specs.run_outcome.Lines.{end_line, refused_line}
-use Rattle.stored_outcome.specs.run_outcome.Outcome.{framed, max_record_len, lines_of, IsRun, AreWhole, IsRunFront}
+use Rattle.stored_outcome.specs.run_outcome.Outcome.{framed, max_record_len, lines_of, IsRun, AreComplete, IsRunPrefix}
 use Rattle.stored_outcome.specs.run_outcome.Run.{Answered}
 
 -- ---- writing
 
--- a text was written whole, or a front of it where the sink failed, or nothing where memory was refused
-abbrev pub Wrote : (out : Seen) (text : List ℕ) (whole end : Status) → Type 0
-Wrote out text whole end =
-    ((end ≡ whole) × Received out text)
+-- a text was written entirely, or a prefix of it where the sink failed, or nothing where memory was refused
+abbrev pub Wrote : (out : Seen) (text : List ℕ) (entire end : Status) → Type 0
+Wrote out text entire end =
+    ((end ≡ entire) × Received out text)
     ⊎ ((end ≡ status.WriteFault) × Failed out × ReceivedPrefix out text)
     ⊎ ((end ≡ status.NoMemory) × Received out [])
 
--- the same, where nothing is said of an end at which the text is whole
+-- the same, where nothing is said of an end at which the text is complete
 abbrev pub WroteOn : (out : Seen) (text : List ℕ) → Option Status → Type 0
 WroteOn out text None = Received out text
 WroteOn out text (Some end) =
@@ -35,44 +35,44 @@ WroteOn out text (Some end) =
 
 -- ---- the rest of a run
 
--- the end and the output are those of a run from a place on, or are cut short
+-- the end and the output are those of a run from an offset on, or are cut short
 abbrev pub AnsweredFrom : ClosingState → (at : ℕ) → (rest : List ℕ) → (out : Seen) → (end : Status) → Type 0
 AnsweredFrom s at rest out end =
-    Answered (IsRun s (record { at = at; rest = rest })) (IsRunFront s (record { at = at; rest = rest })) out end
+    Answered (IsRun s (record { at = at; rest = rest })) (IsRunPrefix s (record { at = at; rest = rest })) out end
 
--- the lines of every whole record that is ahead or was given
-pub record WholeLines (s : ClosingState) (at : ℕ) (ahead : List ℕ) (input out : Seen) : Type 0 where
+-- the lines of every complete record that is ahead or was given
+pub record CompleteLines (s : ClosingState) (at : ℕ) (ahead : List ℕ) (input out : Seen) : Type 0 where
   pub given : List ℕ
   pub gave : Gave input given
   pub lines : List ℕ
   pub received : Received out lines
-  pub all : AreWhole s (record { at = at; rest = ahead ++ given }) lines
+  pub all : AreComplete s (record { at = at; rest = ahead ++ given }) lines
 
--- the records from a place on, of which these bytes are ahead and the others still in the source
+-- the records from an offset on, of which these bytes are ahead and the others still in the source
 pub record Followed (s : ClosingState) (at : ℕ) (ahead : List ℕ) (input out : Seen) (disk_failed : Type 0) (end :
     Status)
     : Type 0 where
   pub answered : IfSome input.before (λ bytes. AnsweredFrom s at (ahead ++ bytes) out end)
   pub ended : end ≡ status.Done → IsAtEnd input.now
-  pub read_fault : end ≡ status.ReadFault → Failed input × WholeLines s at ahead input out
+  pub read_fault : end ≡ status.ReadFault → Failed input × CompleteLines s at ahead input out
   pub write_fault : end ≡ status.WriteFault → Failed out
   pub disk_fault : end ≡ status.DiskFault → disk_failed
   pub is_end : IsRecordsEnd end
 
 -- ---- one record
 
--- where a run stands: the state behind the last ledger that closed, the place of the input behind its record, and the
--- bytes behind that place that were read
-pub record Standing : Type 0 where
+-- where a run is: the state after the last ledger that closed, the offset of the input after its record, and the
+-- bytes after that offset that were read
+pub record RunPosition : Type 0 where
   pub state : ClosingState
   pub at : ℕ
   pub ahead : List ℕ
 
-abbrev pub FollowedFrom : Standing → Seen → Seen → (disk_failed : Type 0) → Status → Type 0
+abbrev pub FollowedFrom : RunPosition → Seen → Seen → (disk_failed : Type 0) → Status → Type 0
 FollowedFrom p input out disk_failed end = Followed p.state p.at p.ahead input out disk_failed end
 
 -- the next record closed the ledger, and its lines were written
-pub record Goes (old new : Standing) (input out : Seen) : Type 0 where
+pub record Goes (old new : RunPosition) (input out : Seen) : Type 0 where
   pub bytes : List ℕ
   pub short : length bytes ≤ max_record_len
   pub closed : PreparedClose
@@ -88,7 +88,7 @@ pub record Goes (old new : Standing) (input out : Seen) : Type 0 where
   pub low : old.state.header.ledger_seq ≤ last_seq
 
 -- the run goes on, or this is its end
-abbrev pub Turned : (old new : Standing) (input out : Seen) (disk_failed : Type 0) → Option Status → Type 0
+abbrev pub Turned : (old new : RunPosition) (input out : Seen) (disk_failed : Type 0) → Option Status → Type 0
 Turned old new input out disk_failed None = Goes old new input out
 Turned old new input out disk_failed (Some end) = FollowedFrom old input out disk_failed end
 
@@ -101,12 +101,12 @@ IsCut out disk_failed status.DiskFault = disk_failed
 IsCut out disk_failed status.NoMemory = Unit {0}
 IsCut out disk_failed other = ⊥
 
--- lines were written, or that or what comes behind them was cut
-abbrev pub Told : (text : List ℕ) (out : Seen) (disk_failed : Type 0) → Option Status → Type 0
-Told text out disk_failed None = Received out text
-Told text out disk_failed (Some end) = IsCut out disk_failed end × ReceivedPrefix out text
+-- lines were written, or that or what follows them was cut
+abbrev pub WroteClose : (text : List ℕ) (out : Seen) (disk_failed : Type 0) → Option Status → Type 0
+WroteClose text out disk_failed None = Received out text
+WroteClose text out disk_failed (Some end) = IsCut out disk_failed end × ReceivedPrefix out text
 
--- where a record ends the run: its lines weren't taken whole, or what comes behind them failed; or it is refused
+-- where a record ends the run: its lines weren't taken entirely, or what follows them failed; or it is refused
 abbrev pub Stops : (s : ClosingState) (bytes : List ℕ) (out : Seen) (disk_failed : Type 0) (end : Status) → Type 0
 Stops s bytes out disk_failed end =
     ((closed : PreparedClose) × IsClose s bytes (Ok closed) × IsCut out disk_failed end
@@ -115,19 +115,19 @@ Stops s bytes out disk_failed end =
     × Wrote out (refused_line s.header wrong) status.Refused end)
     ⊎ ((end ≡ status.NoMemory) × Received out [])
 
--- what the fault of a record comes to
+-- what the fault of a record yields
 abbrev pub Refuses : LedgerHeader → (out : Seen) → CloseFault → (end : Status) → Type 0
 Refuses header out close.NoMemory end = (end ≡ status.NoMemory) × Received out []
 Refuses header out wrong end = Wrote out (refused_line header wrong) status.Refused end
 
--- what a record came to
+-- what a record yielded
 abbrev pub Closes : (s : ClosingState) (bytes : List ℕ) (next : ClosingState) (out : Seen) (disk_failed : Type 0)
     → Option Status → Type 0
 Closes s bytes next out disk_failed None =
     (closed : PreparedClose) × IsClose s bytes (Ok closed) × (next ≡ closed.state) × Received out (lines_of closed)
 Closes s bytes next out disk_failed (Some end) = Stops s bytes out disk_failed end
 
--- what the record at the front of what is ahead came to
+-- what the record at the start of what is ahead yielded
 pub record Passes (s : ClosingState) (ahead : List ℕ) (end : ℕ) (next : ClosingState) (out : Seen)
     (disk_failed : Type 0) (result : Option Status) : Type 0 where
   pub bytes : List ℕ

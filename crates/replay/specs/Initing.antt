@@ -1,4 +1,4 @@
--- What the parts of `init` come to.
+-- What the parts of `init` yield.
 use Rattle.std.specs.Prelude.{◌≡◌, ℕ, ◌<◌, List, [], ◌++◌, length, ◌⊎◌, IfSome, Ok, Err}
 use Rattle.std.specs.Io.KnownBytes.{IsAtEnd}
 use Rattle.ledger_types.specs.declared.ids.Hash.{Hash}
@@ -18,25 +18,25 @@ use Rattle.replay.specs.Starting.{IsJudgedSo}
 
 -- ---- the input
 
--- nothing stood behind what is ahead, and nothing is ahead
+-- nothing followed what is ahead, and nothing is ahead
 pub record IsEnded (ahead : List ℕ) (input : Seen) : Type 0 where
   pub none : ahead ≡ []
   pub gave : Gave input []
   pub ended : IsAtEnd input.now
 
--- some bytes stand behind an image
+-- some bytes follow an image
 pub record IsFollowed (ahead : List ℕ) (input : Seen) : Type 0 where
   pub more : List ℕ
   pub gave : Gave input more
   pub some : 0 < length (ahead ++ more)
 
--- why it isn't known that an input ends behind an image, which ends at a place
+-- why it isn't known that an input ends after an image, which ends at an offset
 abbrev pub IsUnended : (at : ℕ) → (ahead : List ℕ) → Seen → (end : Status) → Type 0
-IsUnended at ahead input (status.BadInput place) = (place ≡ at) × IsFollowed ahead input
+IsUnended at ahead input (status.BadInput offset) = (offset ≡ at) × IsFollowed ahead input
 IsUnended at ahead input status.ReadFault = Failed input
 IsUnended at ahead input other = ⊥
 
--- the whole input is this image
+-- the entire input is this image
 pub record IsInput (image : StartImage) (input : Seen) : Type 0 where
   pub given : List ℕ
   pub gave : Gave input given
@@ -67,11 +67,11 @@ IsStoringEnd other = ⊥
 
 -- a volume was asked to keep an image
 pub record Storing (network : Hash) (image : StartImage) (vol : SeenVolume) (end : Status) : Type 0 where
-  pub moments : vol.tells → MomentsOfInit network image vol
-  pub sound : vol.tells → IsSound vol.before → IsSound vol.now
-  pub done : end ≡ status.Done → vol.tells → (s : ClosingState) → IsJudged network image (Ok s)
+  pub moments : vol.reports → MomentsOfInit network image vol
+  pub sound : vol.reports → IsSound vol.before → IsSound vol.now
+  pub done : end ≡ status.Done → vol.reports → (s : ClosingState) → IsJudged network image (Ok s)
       → Stored network image s vol
-  pub already : end ≡ status.AlreadyThere → vol.tells
+  pub already : end ≡ status.AlreadyThere → vol.reports
       → (HoldsNothing vol.before.reads → ⊥) × (vol.now.reads ≡ vol.before.reads)
   pub disk_fault : end ≡ status.DiskFault → VolumeFailed vol
   pub no_memory : end ≡ status.NoMemory → vol.same

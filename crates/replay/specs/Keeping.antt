@@ -7,21 +7,21 @@ use Rattle.stored_outcome.specs.close_rules.State.{ClosingState}
 use Rattle.stored_outcome.specs.close_rules.Close.{PreparedClose, IsClose}
 use Rattle.stored_outcome.specs.run_outcome.declared.status.Status.{Status}
 use Rattle.stored_outcome.specs.run_outcome.declared.status.Status.TheVariants as status
-use Rattle.xdr_core.specs.Place.{Place}
+use Rattle.xdr_core.specs.Position.{Position}
 use Rattle.stored_outcome.specs.run_outcome.Lines.{refused_line}
-use Rattle.stored_outcome.specs.run_outcome.Outcome.{framed, max_record_len, lines_of, IsFront, IsRun, AreWhole}
-use Rattle.stored_outcome.specs.run_outcome.Outcome.{IsRunFront}
+use Rattle.stored_outcome.specs.run_outcome.Outcome.{framed, max_record_len, lines_of, IsPrefix, IsRun, AreComplete}
+use Rattle.stored_outcome.specs.run_outcome.Outcome.{IsRunPrefix}
 use Rattle.stored_outcome.specs.run_outcome.Run.{IsAnswer}
 use Rattle.outside.specs.Disk.{Image, Disk, Runs, Same, IsSafe}
 use Rattle.stored_outcome.specs.run_streams.SeenVolume.{SeenVolume}
 use Rattle.stored_outcome.specs.Opening.{OpensTo}
-use Rattle.stored_outcome.specs.Behind.{OpensWithin, AreAcknowledged}
+use Rattle.stored_outcome.specs.After.{OpensWithin, AreAcknowledged}
 use Rattle.stored_outcome.specs.StoredRun.{IsFailedEnd, IsUnbrokenEnd, OpensAcknowledged}
 use Rattle.replay.specs.Following.{Followed}
 use Rattle.replay.specs.declared.keeper.KeepFault.{KeepFault}
 use Rattle.replay.specs.declared.keeper.KeepFault.TheVariants as fault
 
--- what is kept comes to this state, and so does whatever a crash leaves
+-- what is kept yields this state, and so does whatever a crash leaves
 pub record Ready (keeps : Type 0) (disk : Disk) (s : ClosingState) : Type 0 where
   pub kept : keeps
   pub safe : IsSafe disk
@@ -31,7 +31,7 @@ pub record Ready (keeps : Type 0) (disk : Disk) (s : ClosingState) : Type 0 wher
 abbrev pub OpensEither : (s next : ClosingState) → Image → Image → Type 0
 OpensEither s next d c = OpensTo d s → OpensTo c s ⊎ OpensTo c next
 
--- what opens to a state opens to one behind records at the front of a text
+-- what opens to a state opens to one after records at the start of a text
 abbrev pub OpensOnward : ClosingState → (text : List ℕ) → Image → Image → Type 0
 OpensOnward s text d c = OpensTo d s → OpensWithin s text c
 
@@ -53,56 +53,57 @@ IsCaused stores before now (Err fault.DiskFault) = DiskFailed stores before now
 -- ---- the rest of a run
 
 -- from a state to which all opens that a crash may leave, with what the output received
-pub record Keeps (s : ClosingState) (text front : List ℕ) (old new : Disk) (end : Status) : Type 0 where
+pub record Keeps (s : ClosingState) (text prefix : List ℕ) (old new : Disk) (end : Status) : Type 0 where
   pub runs : Runs (OpensOnward s text) old new
   pub count : ℕ
-  pub acknowledged : AreAcknowledged s text front count
-  pub unbroken : IsUnbrokenEnd end → front ≡ acknowledged.lines
+  pub acknowledged : AreAcknowledged s text prefix count
+  pub unbroken : IsUnbrokenEnd end → prefix ≡ acknowledged.lines
   pub crash : (c : Image) → new.may_leave c → OpensAcknowledged s text count end c
 
--- the end and the text of the records at a place, and where a read failed the lines of every whole one
-pub record Answers (s : ClosingState) (p : Place) (text : List ℕ) (end : Status) : Type 0 where
-  pub answer : IsAnswer (IsRun s p) (IsRunFront s p) text end
-  pub whole : end ≡ status.ReadFault → AreWhole s p text
+-- the end and the text of the records at an offset, and where a read failed the lines of every complete one
+pub record Answers (s : ClosingState) (p : Position) (text : List ℕ) (end : Status) : Type 0 where
+  pub answer : IsAnswer (IsRun s p) (IsRunPrefix s p) text end
+  pub entire : end ≡ status.ReadFault → AreComplete s p text
 
 -- the same, of the records ahead and in the source
 pub record KeptOn (s : ClosingState) (at : ℕ) (ahead : List ℕ) (input out : Seen) (old new : Disk) (end : Status)
     : Type 0 where
   pub given : List ℕ
   pub gave : Gave input given
-  pub front : List ℕ
-  pub received : Received out front
-  pub answers : Answers s (record { at = at; rest = ahead ++ given }) front end
-  pub keeps : Keeps s (ahead ++ given) front old new end
+  pub prefix : List ℕ
+  pub received : Received out prefix
+  pub answers : Answers s (record { at = at; rest = ahead ++ given }) prefix end
+  pub keeps : Keeps s (ahead ++ given) prefix old new end
 
--- what closing the records ahead and in the source leaves, whatever the volume tells
+-- what closing the records ahead and in the source leaves, whatever the volume reports
 pub record DidFollow (stores : Type 0) (s : ClosingState) (at : ℕ) (ahead : List ℕ) (input out : Seen)
     (vol : SeenVolume) (end : Status) : Type 0 where
   pub followed : Followed s at ahead input out (DiskFailed stores vol.faults_before vol.faults_now) end
   pub vol_later : vol.faults_before ≤ vol.faults_now
-  pub kept : stores → vol.tells → KeptOn s at ahead input out vol.before vol.now end
+  pub kept : stores → vol.reports → KeptOn s at ahead input out vol.before vol.now end
 
 -- ---- one record
 
--- a text was written whole, or a front of it where the sink failed, or nothing where memory was refused
-abbrev pub IsWritten : (text : List ℕ) → (whole : Status) → (front : List ℕ) → (end : Status) → Type 0
-IsWritten text whole front end =
-    ((end ≡ whole) × (front ≡ text))
-    ⊎ ((end ≡ status.WriteFault) × IsFront front text)
-    ⊎ ((end ≡ status.NoMemory) × (front ≡ []))
+-- a text was written entirely, or a prefix of it where the sink failed, or nothing where memory was refused
+abbrev pub IsWritten : (text : List ℕ) → (entire : Status) → (prefix : List ℕ) → (end : Status) → Type 0
+IsWritten text entire prefix end =
+    ((end ≡ entire) × (prefix ≡ text))
+    ⊎ ((end ≡ status.WriteFault) × IsPrefix prefix text)
+    ⊎ ((end ≡ status.NoMemory) × (prefix ≡ []))
 
--- how much of its lines stands behind the end of a record that closes the ledger: all, or where a device failed less
-abbrev pub IsToldSoFar : (text front : List ℕ) → (end : Status) → Type 0
-IsToldSoFar text front end =
-    (end ≡ status.WriteFault) ⊎ ((end ≡ status.DiskFault) × (front ≡ [])) ⊎ (front ≡ text)
+-- how much of its lines was written where a record that closes the ledger ends the run: all, or less where a device
+-- failed
+abbrev pub IsWrittenSoFar : (text prefix : List ℕ) → (end : Status) → Type 0
+IsWrittenSoFar text prefix end =
+    (end ≡ status.WriteFault) ⊎ ((end ≡ status.DiskFault) × (prefix ≡ [])) ⊎ (prefix ≡ text)
 
 -- the record isn't kept: memory was refused for it, or it was refused
 pub record IsUnkept (s : ClosingState) (bytes : List ℕ) (out : Seen) (old new : Disk) (end : Status) : Type 0 where
-  pub front : List ℕ
-  pub received : Received out front
-  pub nothing : ((end ≡ status.NoMemory) × (front ≡ []))
+  pub prefix : List ℕ
+  pub received : Received out prefix
+  pub nothing : ((end ≡ status.NoMemory) × (prefix ≡ []))
       ⊎ ((wrong : CloseFault) × IsClose s bytes (Err wrong)
-      × IsWritten (refused_line s.header wrong) status.Refused front end)
+      × IsWritten (refused_line s.header wrong) status.Refused prefix end)
   pub runs : Runs Same old new
   pub same : new.reads ≡ old.reads
 
@@ -111,14 +112,14 @@ pub record IsHalfway (s : ClosingState) (bytes : List ℕ) (out : Seen) (old new
   pub closed : PreparedClose
   pub closes : IsClose s bytes (Ok closed)
   pub failed : IsFailedEnd end
-  pub front : List ℕ
-  pub received : Received out front
-  pub some : IsFront front (lines_of closed)
+  pub prefix : List ℕ
+  pub received : Received out prefix
+  pub some : IsPrefix prefix (lines_of closed)
   pub runs : Runs (OpensEither s closed.state) old new
   pub crash : (c : Image) → new.may_leave c → OpensTo c s ⊎ OpensTo c closed.state
   -- all lines were written
-  pub whole : front ≡ lines_of closed → (c : Image) → new.may_leave c → OpensTo c closed.state
-  pub told : IsToldSoFar (lines_of closed) front end
+  pub entire : prefix ≡ lines_of closed → (c : Image) → new.may_leave c → OpensTo c closed.state
+  pub reported : IsWrittenSoFar (lines_of closed) prefix end
 
 -- the record is kept, and its lines were written
 pub record IsKept (s : ClosingState) (bytes : List ℕ) (next : ClosingState) (old new : Disk) : Type 0 where
@@ -132,7 +133,7 @@ abbrev pub KeptClose : (s : ClosingState) (bytes : List ℕ) (next : ClosingStat
 KeptClose s bytes next out old new None = IsKept s bytes next old new
 KeptClose s bytes next out old new (Some end) = IsUnkept s bytes out old new end ⊎ IsHalfway s bytes out old new end
 
--- what the record at the front of what is ahead came to
+-- what the record at the start of what is ahead yielded
 pub record KeptPass (s : ClosingState) (ahead : List ℕ) (end : ℕ) (next : ClosingState) (out : Seen) (old new : Disk)
     (result : Option Status) : Type 0 where
   pub bytes : List ℕ
@@ -146,18 +147,18 @@ abbrev pub KeptTurn : (s next : ClosingState) (at : ℕ) (ahead : List ℕ) (inp
 KeptTurn s next at ahead input out old new None = Runs (OpensEither s next) old new
 KeptTurn s next at ahead input out old new (Some end) = KeptOn s at ahead input out old new end
 
--- ---- the lines of a close, and what is due behind them
+-- ---- the lines of a close, and what is due after them
 
 -- some of the lines were written, and what is kept opens as before
-pub record IsTelling (s : ClosingState) (text : List ℕ) (out : Seen) (old new : Disk) (end : Status) : Type 0 where
+pub record IsWriting (s : ClosingState) (text : List ℕ) (out : Seen) (old new : Disk) (end : Status) : Type 0 where
   pub failed : IsFailedEnd end
-  pub front : List ℕ
-  pub received : Received out front
-  pub some : IsFront front text
+  pub prefix : List ℕ
+  pub received : Received out prefix
+  pub some : IsPrefix prefix text
   pub runs : Runs (OpensEither s s) old new
   pub crash : (c : Image) → new.may_leave c → OpensTo c s
-  pub told : IsToldSoFar text front end
+  pub reported : IsWrittenSoFar text prefix end
 
-abbrev pub KeptTelling : (s : ClosingState) (text : List ℕ) (out : Seen) (old new : Disk) → Option Status → Type 0
-KeptTelling s text out old new None = Runs (OpensEither s s) old new
-KeptTelling s text out old new (Some end) = IsTelling s text out old new end
+abbrev pub KeptWriting : (s : ClosingState) (text : List ℕ) (out : Seen) (old new : Disk) → Option Status → Type 0
+KeptWriting s text out old new None = Runs (OpensEither s s) old new
+KeptWriting s text out old new (Some end) = IsWriting s text out old new end

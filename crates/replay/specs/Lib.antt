@@ -2,7 +2,7 @@ pub mod Following
 pub mod Keeping
 pub mod Stored
 pub mod Starting
-pub mod Telling
+pub mod Reporting
 pub mod ClosingAgain
 pub mod StoredRuns
 pub mod Outcomes

@@ -12,7 +12,7 @@ use Rattle.stored_outcome.specs.close_rules.Close.{PreparedClose, IsTaken, IsClo
 use Rattle.replay.specs.ClosingAgain.{AreClosedTo}
 
 pub record Machine : Type 0 where
-  -- the state behind the last close, and the records closed so far
+  -- the state after the last close, and the records closed so far
   pub state : ClosingState
   pub log : List (List ℕ)
   -- of each level from 1 on, the merge that is pending, and its bucket once that is ready
@@ -99,9 +99,9 @@ IsLeft count old new =
 
 -- it crashes, and is opened again: the merges that are pending are those of its files
 pub record IsReopening (old new : Machine) : Type 0 where
-  pub place : ℕ
+  pub index : ℕ
   pub count : ℕ
-  pub may_be : slice_get old.may place ≡ Some count
+  pub may_be : slice_get old.may index ≡ Some count
   pub left : IsLeft count old new
   pub merges : (level : ℕ) → 1 ≤ level → level < level_count
       → new.merges level ≡ pending_inputs new.state.levels new.state.header.ledger_seq level
@@ -147,11 +147,11 @@ pub record IsFirst (s : ClosingState) (m : Machine) : Type 0 where
 abbrev pub MayLeave : Machine → (count : ℕ) → Type 0
 MayLeave m count = (count ≡ length m.log) ⊎ ((count ≡ length m.log + 1) × IsSome m.hand)
 
--- The state is what the records closed so far come to from the first one, with no merge but their own.
+-- The state is what the records closed so far yield from the first one, with no merge but their own.
 pub record IsKeptUp (s : ClosingState) (m : Machine) : Type 0 where
   pub closed : AreClosedTo s m.log m.state
   pub acked : m.acked ≤ length m.log
-  pub may : (place count : ℕ) → slice_get m.may place ≡ Some count → MayLeave m count
+  pub may : (index count : ℕ) → slice_get m.may index ≡ Some count → MayLeave m count
 
 -- whatever happens, and whatever is handed in
 abbrev pub MachinesKeepUp : Type 0

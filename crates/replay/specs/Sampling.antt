@@ -1,4 +1,4 @@
--- What closing the ledgers of a sample comes to, before its end is told.
+-- What closing the ledgers of a sample yields, before its end is written.
 use Rattle.std.specs.Prelude.{◌≡◌, ◌≤◌, ◌*◌, ◌^◌, ℕ, suc, [], length, Result, Ok, Err, ◌⊎◌}
 use Rattle.stored_outcome.specs.run_streams.Seen.{Seen, Received}
 use Rattle.stored_outcome.specs.close_rules.declared.close_fault.CloseFault.{CloseFault}
@@ -14,7 +14,7 @@ use Rattle.stored_outcome.specs.Sample.{IsSampled}
 use Rattle.replay.specs.Following.{Wrote}
 
 -- the first k records have closed ledgers: the state, how many transactions these have, and how many succeeded
-pub record HasCome (seed k : ℕ) (state : ClosingState) (transactions successes : ℕ) : Type 0 where
+pub record HasReached (seed k : ℕ) (state : ClosingState) (transactions successes : ℕ) : Type 0 where
   pub now : Progress
   pub closed : HaveClosed seed k now
   pub state_is : state ≡ now.state
@@ -27,11 +27,11 @@ pub record HasCome (seed k : ℕ) (state : ClosingState) (transactions successes
 -- the next record closes its ledger, or it doesn't, and all is as it was
 abbrev pub Advances : (seed k : ℕ) (was : ClosingState) (state : ClosingState) (transactions successes : ℕ)
     → Result (Unit {0}) CloseFault → Type 0
-Advances seed k was state transactions successes (Ok done) = HasCome seed (suc k) state transactions successes
+Advances seed k was state transactions successes (Ok done) = HasReached seed (suc k) state transactions successes
 Advances seed k was state transactions successes (Err wrong) =
     (state ≡ was) × FaultIs wrong (λ fault. IsClose was (record_bytes seed (suc k) was) (Err fault))
 
--- the text of what a sample comes to was written, or nothing was, where memory was refused
+-- the text of what a sample yields was written, or nothing was, where memory was refused
 abbrev pub Samples : (seed ledgers : ℕ) (out : Seen) (end : Status) → Type 0
 Samples seed ledgers out end =
     ((o : Outcome) × IsSampled seed ledgers o × Wrote out o.text o.status end)

@@ -1,10 +1,10 @@
--- What the start image at the front of an input comes to.
+-- What the start image that an input begins with yields.
 use Rattle.std.specs.Prelude.{◌≡◌, ℕ, ◌≤◌, ◌^◌, List, [], ◌++◌, length, IfSome, Result, Ok, Err}
 use Rattle.std.specs.Io.KnownBytes.{IsAtEnd}
 use Rattle.stored_outcome.specs.run_streams.Seen.{Seen, Failed, Gave, Received}
 use Rattle.ledger_types.specs.declared.ids.Hash.{Hash}
 use Rattle.xdr_core.specs.declared.fault.XdrFault.{XdrFault}
-use Rattle.xdr_core.specs.Place.{start_of}
+use Rattle.xdr_core.specs.Position.{start_of}
 use Rattle.xdr_header.specs.declared.image.StartImage.{StartImage}
 use Rattle.xdr_header.specs.Image.{start_image}
 use Rattle.hash_ids.specs.Ids.{network_id_of}
@@ -16,37 +16,37 @@ use Rattle.worker_merges.specs.ledger_close.States.{LedgerAt}
 use Rattle.stored_outcome.specs.run_outcome.declared.status.Status.{Status}
 use Rattle.stored_outcome.specs.run_outcome.declared.status.Status.TheVariants as status
 use Rattle.stored_outcome.specs.run_outcome.Statuses.{IsCatchUpEnd}
-use Rattle.stored_outcome.specs.run_outcome.Run.{AnsweredTo, Told}
+use Rattle.stored_outcome.specs.run_outcome.Run.{AnsweredTo, Reported}
 
 -- a passphrase's run of `catchup`, over these streams, with this end; all but the line on standard error
 pub record CaughtUp (passphrase : List ℕ) (input out : Seen) (end : Status) : Type 0 where
   pub answered : IfSome input.before (λ bytes. AnsweredTo passphrase bytes out end)
   pub bad_image : (rule : ImageRule) → end ≡ status.BadImage rule → Received out []
   pub ended : end ≡ status.Done → IsAtEnd input.now
-  pub read_fault : end ≡ status.ReadFault → Failed input × Told passphrase input out
+  pub read_fault : end ≡ status.ReadFault → Failed input × Reported passphrase input out
   pub write_fault : end ≡ status.WriteFault → Failed out
   pub is_end : IsCatchUpEnd end
 
--- whatever begins with these bytes has this image at its front
+-- whatever begins with these bytes has this image at its start
 abbrev pub Begins : List ℕ → StartImage → Type 0
-Begins front image = (rest : List ℕ)
-    → start_image.read (start_of (front ++ rest)) ≡ Ok (image, record { at = length front; rest = rest })
+Begins prefix image = (rest : List ℕ)
+    → start_image.read (start_of (prefix ++ rest)) ≡ Ok (image, record { at = length prefix; rest = rest })
 
 -- an image was cut from what the source gave
 pub record Cut (image : StartImage) (at : ℕ) (ahead : List ℕ) (input : Seen) : Type 0 where
-  pub front : List ℕ
-  pub begins : Begins front image
+  pub prefix : List ℕ
+  pub begins : Begins prefix image
   pub within : start_image.within image
-  pub len : at ≡ length front
+  pub len : at ≡ length prefix
   pub low : at ≤ 2 ^ 64
-  pub gave : Gave input (front ++ ahead)
+  pub gave : Gave input (prefix ++ ahead)
   pub later : input.faults_before ≤ input.faults_now
 
--- no image is at the front of these bytes, for this fault
+-- no image is at the start of these bytes, for this fault
 abbrev pub HasNoImage : List ℕ → XdrFault → Type 0
 HasNoImage bytes wrong = start_image.read (start_of bytes) ≡ Err wrong
 
--- the fault is at this place
+-- the fault is at this offset
 abbrev pub IsFaulty : (at : ℕ) → List ℕ → Type 0
 IsFaulty at bytes = (wrong : XdrFault) × HasNoImage bytes wrong × (at ≡ wrong.at)
 
@@ -57,7 +57,7 @@ pub record GaveNoImage (input : Seen) : Type 0 where
   pub wrong : XdrFault
   pub reads : HasNoImage given wrong
 
--- why no image was cut from the front of an input
+-- why no image was cut from the start of an input
 abbrev pub IsUncut : Seen → (end : Status) → Type 0
 IsUncut input (status.BadInput at) = IfSome input.before (IsFaulty at)
 IsUncut input status.ReadFault = Failed input × GaveNoImage input
@@ -74,7 +74,7 @@ IsJudgedSo network image (Ok ledger) = IsJudged network image (Ok ledger.state)
 IsJudgedSo network image (Err (status.BadImage rule)) = IsJudged network image (Err (image_fault.BadImage rule))
 IsJudgedSo network image (Err end) = end ≡ status.NoMemory
 
--- a ledger starts behind an image
+-- a ledger starts after an image
 pub record StartsAt (passphrase : List ℕ) (s : ClosingState) (at : ℕ) (ahead : List ℕ) (input : Seen) : Type 0 where
   pub image : StartImage
   pub cut : Cut image at ahead input

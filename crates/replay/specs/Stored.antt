@@ -1,4 +1,4 @@
--- What a store keeps, as the ledger that it comes to.
+-- What a store keeps, as the ledger that it yields.
 use Rattle.stored_outcome.specs.close_rules.State.{ClosingState}
 use Rattle.outside.specs.Disk.{Disk}
 use Rattle.image_store.specs.State.{StoreState}
@@ -6,15 +6,15 @@ use Rattle.image_store.specs.Opening.{Kept}
 use Rattle.image_store.specs.Calls.{IsSettled}
 use Rattle.image_store.specs.gate_journal.declared.fault.StoreFault.{StoreFault}
 use Rattle.image_store.specs.gate_journal.declared.fault.StoreFault.TheVariants as fault
-use Rattle.stored_outcome.specs.Opening.{ComesTo}
+use Rattle.stored_outcome.specs.Opening.{Yields}
 use Rattle.replay.specs.declared.keeper.KeepFault.{KeepFault}
 use Rattle.replay.specs.declared.keeper.KeepFault.TheVariants as keep
 
--- the store stands for what the volume keeps, which comes to this state
+-- the store represents what the volume keeps, which yields this state
 pub record IsStored (store : StoreState) (disk : Disk) (s : ClosingState) : Type 0 where
   pub kept : Kept
   pub settled : IsSettled store disk kept
-  pub comes : ComesTo kept s
+  pub yields : Yields kept s
 
 -- why a roll wasn't made
 abbrev pub keep_fault_of : StoreFault → KeepFault

@@ -1,4 +1,4 @@
--- What opening a store comes to, and a run behind it.
+-- What opening a store yields, and a run after it.
 use Rattle.std.specs.Prelude.{◌≡◌, ℕ, ◌%◌, ◌≤◌, List, length, All, Result, Ok, Err, ◌⊎◌, IfSome}
 use Rattle.ledger_types.specs.declared.ids.Hash.{Hash}
 use Rattle.xdr_header.specs.declared.image.StartImage.{StartImage}
@@ -20,14 +20,14 @@ use Rattle.image_store.specs.ImageFiles.{head_len}
 use Rattle.image_store.specs.Opening.{Kept, HoldsNothing}
 use Rattle.image_store.specs.gate_journal.declared.fault.StoreFault.{StoreFault}
 use Rattle.image_store.specs.gate_journal.declared.fault.StoreFault.TheVariants as fault
-use Rattle.stored_outcome.specs.Opening.{OpensTo, ComesTo, BreaksRule, RefusesRecord, IsBadStore}
-use Rattle.stored_outcome.specs.StoredRun.{AnsweredBehind, RanFrom, DidNotRun, IsUnopenedEnd, IsRunEnd}
+use Rattle.stored_outcome.specs.Opening.{OpensTo, Yields, BreaksRule, RefusesRecord, IsBadStore}
+use Rattle.stored_outcome.specs.StoredRun.{AnsweredAfter, RanFrom, DidNotRun, IsUnopenedEnd, IsRunEnd}
 
 -- the end of a run whose store isn't mounted
 abbrev pub status_of : StoreFault → Status
 status_of fault.DiskFault = status.DiskFault
 status_of fault.Failed = status.DiskFault
-status_of (fault.BadStore file place) = status.BadStore file place
+status_of (fault.BadStore file offset) = status.BadStore file offset
 status_of fault.Missing = status.Missing
 status_of fault.AlreadyThere = status.AlreadyThere
 status_of fault.NoMemory = status.NoMemory
@@ -43,17 +43,17 @@ kept_of epoch network image records = record { epoch = epoch; network = network;
 abbrev pub AreShort : List (List ℕ) → Type 0
 AreShort records = All (λ bytes. length bytes ≤ max_record) records
 
--- what is kept comes to a ledger, or has a fault
+-- what is kept yields a ledger, or has a fault
 abbrev pub Restores : Kept → Result LedgerAt Status → Type 0
-Restores k (Ok ledger) = ComesTo k ledger.state
-Restores k (Err (status.BadStore file place)) = BreaksRule k file place ⊎ RefusesRecord k file place
+Restores k (Ok ledger) = Yields k ledger.state
+Restores k (Err (status.BadStore file offset)) = BreaksRule k file offset ⊎ RefusesRecord k file offset
 Restores k (Err status.NoMemory) = Unit {0}
 Restores k (Err other) = ⊥
 
 -- why what is read doesn't open; where the volume didn't fail it reads as before
 abbrev pub OpensNot : (old new : Image) → Status → Type 0
 OpensNot old new status.Missing = HoldsNothing old × (new ≡ old)
-OpensNot old new (status.BadStore file place) = IsBadStore old file place × (new ≡ old)
+OpensNot old new (status.BadStore file offset) = IsBadStore old file offset × (new ≡ old)
 OpensNot old new status.NoMemory = new ≡ old
 OpensNot old new status.DiskFault = Unit {0}
 OpensNot old new other = ⊥
@@ -73,21 +73,21 @@ abbrev pub IsUnbegun : (failed : Type 0) → Status → Type 0
 IsUnbegun failed status.DiskFault = failed
 IsUnbegun failed status.NoMemory = Unit {0}
 IsUnbegun failed status.Missing = Unit {0}
-IsUnbegun failed (status.BadStore file place) = Unit {0}
+IsUnbegun failed (status.BadStore file offset) = Unit {0}
 IsUnbegun failed other = ⊥
 
 abbrev pub Unopened : SeenVolume → Status → Type 0
 Unopened vol status.Missing = HoldsNothing vol.before.reads × (vol.now.reads ≡ vol.before.reads)
-Unopened vol (status.BadStore file place) =
-    IsBadStore vol.before.reads file place × (vol.now.reads ≡ vol.before.reads)
+Unopened vol (status.BadStore file offset) =
+    IsBadStore vol.before.reads file offset × (vol.now.reads ≡ vol.before.reads)
 Unopened vol status.NoMemory = vol.now.reads ≡ vol.before.reads
 Unopened vol status.DiskFault = VolumeFailed vol
 Unopened vol other = ⊥
 
--- whatever the volume tells: nothing was read or written, or what was is the answer to a state
+-- whatever the volume reports: nothing was read or written, or what was is the answer to a state
 abbrev pub RanOrNot : (input out : Seen) (vol : SeenVolume) → Status → Type 0
 RanOrNot input out vol end =
-    DidNotRun input out vol ⊎ ((s : ClosingState) × IfSome input.before (λ bytes. AnsweredBehind s bytes out end))
+    DidNotRun input out vol ⊎ ((s : ClosingState) × IfSome input.before (λ bytes. AnsweredAfter s bytes out end))
 
 -- a run from the state to which what is read opens; or nothing, but that the volume was read
 abbrev pub RanSo : (input out : Seen) (vol : SeenVolume) → Status → Type 0
@@ -95,9 +95,9 @@ RanSo input out vol end =
     ((s : ClosingState) × OpensTo vol.before.reads s × RanFrom s input out vol end)
     ⊎ (DidNotRun input out vol × Unopened vol end)
 
--- what is known of a run before its end is told
+-- what is known of a run before its end is written
 pub record RanStored (input out : Seen) (vol : SeenVolume) (end : Status) : Type 0 where
-  pub ran : vol.tells → RanSo input out vol end
+  pub ran : vol.reports → RanSo input out vol end
   pub printed : RanOrNot input out vol end
   pub unbegun : IsUnopenedEnd end → DidNotRun input out vol
   pub ended : end ≡ status.Done → IsAtEnd input.now

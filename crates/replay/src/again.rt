@@ -13,8 +13,8 @@ use worker_merges::ledger_close::{CloseFault, Ledger};
 /// Why the records of a journal don't all close.
 #[derive(Clone, Copy)]
 pub(crate) enum AgainFault {
-    /// The record whose gate stands at this place is refused.
-    Refused { place: u64 },
+    /// The record whose gate is at this offset is refused.
+    Refused { offset: u64 },
     /// Memory was refused.
     NoMemory,
 }
@@ -65,7 +65,7 @@ pub(crate) fn close_again<L: Count>(
         let bytes = closes[i].as_slice();
         match close_one(ledger, bytes, steps) {
             Ok(()) => {}
-            Err(OneFault::Refused) => return Err(AgainFault::Refused { place: at }),
+            Err(OneFault::Refused) => return Err(AgainFault::Refused { offset: at }),
             Err(OneFault::NoMemory) => return Err(AgainFault::NoMemory),
         }
         at += 5 + bytes.len() as u64;

@@ -4,7 +4,7 @@ ghost use Rattle.std.specs.Prelude.{◌≡◌, ◌≤◌, [], All, IfSome, Some,
 ghost use denote.Param.Send.{IsSync};
 ghost use Rattle.stored_outcome.specs.run_streams.Seen.{seen};
 ghost use Rattle.stored_outcome.specs.run_streams.SeenVolume.{seen_volume};
-ghost use Rattle.worker_merges.specs.Places.{IsManned, HasEnded, IsSideOf, IsSideEndOf};
+ghost use Rattle.worker_merges.specs.WorkerSlots.{IsManned, HasEnded, IsSideOf, IsSideEndOf};
 ghost use Rattle.replay.specs.Stored.{IsStored};
 ghost use Rattle.replay.specs.Keeping.{Ready, DidFollow};
 ghost use Rattle.replay.specs.StoredRuns.{RanStored};
@@ -21,7 +21,7 @@ use std::sync::ledger::Ledger as Count;
 use std::thread::{Threads, join_mut};
 use stored_outcome::run_outcome::Status;
 use worker_merges::ledger_close::Ledger;
-use worker_merges::{Place, Side, SideEnd, Workshop, adopt, gather, hire, post_due, work_all};
+use worker_merges::{Side, SideEnd, WorkerSlot, Workshop, adopt, gather, hire, post_due, work_all};
 
 /// The workers of a room, as the closing thread sees them.
 #[derive(Drop)]
@@ -67,11 +67,11 @@ fn serve<R: Wait, V: Volume, I: Source, O: Sink, L: Count>(
 ) -> Served
     requires side { spec.HasSide room.now workers side.old }
     requires works { opened.old.keeper.store.failed ≡ false }
-    requires ready { V.tells → Ready (IsStored opened.old.keeper.store (V.disk vol.old) opened.old.ledger.state)
+    requires ready { V.reports → Ready (IsStored opened.old.keeper.store (V.disk vol.old) opened.old.ledger.state)
         (V.disk vol.old) opened.old.ledger.state }
     ensures side { IsSideEndOf room.now workers result.side }
     ensures followed { DidFollow (Unit {0}) opened.old.ledger.state 0 [] (seen I.left I.faults input.old input.new)
-        (seen O.taken O.faults out.old out.new) (seen_volume V.tells V.disk V.faults vol.old vol.new) result.end }
+        (seen O.taken O.faults out.old out.new) (seen_volume V.reports V.disk V.faults vol.old vol.new) result.end }
 {
     let Some(mut side) = side.take() else {
         unreachable!()
@@ -92,7 +92,7 @@ fn serve_beside<R: Threads + Wait + Sync, G: Gate, V: Volume, I: Source, O: Sink
     room: &Room,
     gate: &G,
     workers: u32,
-    places: &mut [Place],
+    slots: &mut [WorkerSlot],
     side: &mut Option<Side>,
     opened: &mut Opened,
     vol: &mut V,
@@ -100,34 +100,34 @@ fn serve_beside<R: Threads + Wait + Sync, G: Gate, V: Volume, I: Source, O: Sink
     out: &mut O,
     steps: &mut Steps<L>,
 ) -> Served
-    requires manned { All (IsManned room.now) places.old }
+    requires manned { All (IsManned room.now) slots.old }
     requires side { spec.HasSide room.now workers side.old }
     requires works { opened.old.keeper.store.failed ≡ false }
-    requires ready { V.tells → Ready (IsStored opened.old.keeper.store (V.disk vol.old) opened.old.ledger.state)
+    requires ready { V.reports → Ready (IsStored opened.old.keeper.store (V.disk vol.old) opened.old.ledger.state)
         (V.disk vol.old) opened.old.ledger.state }
-    ensures count { length places.new ≡ length places.old }
-    ensures ended { All (HasEnded room.now) places.new }
+    ensures count { length slots.new ≡ length slots.old }
+    ensures ended { All (HasEnded room.now) slots.new }
     ensures side { IsSideEndOf room.now workers result.side }
     ensures followed { DidFollow (Unit {0}) opened.old.ledger.state 0 [] (seen I.left I.faults input.old input.new)
-        (seen O.taken O.faults out.old out.new) (seen_volume V.tells V.disk V.faults vol.old vol.new) result.end }
+        (seen O.taken O.faults out.old out.new) (seen_volume V.reports V.disk V.faults vol.old vol.new) result.end }
 {
     join_mut(
         rt,
         &mut ||
-            requires { IsSync R.row × IsSync G.row × All (IsManned room.now) places.now }
-            ensures count { length places.exit.now ≡ length places.entry.now }
-            ensures ended { All (HasEnded room.entry.now) places.exit.now }
-        { work_all(rt, room, gate, places) },
+            requires { IsSync R.row × IsSync G.row × All (IsManned room.now) slots.now }
+            ensures count { length slots.exit.now ≡ length slots.entry.now }
+            ensures ended { All (HasEnded room.entry.now) slots.exit.now }
+        { work_all(rt, room, gate, slots) },
         &mut || -> Served
             requires side { spec.HasSide room.now workers side.now }
             requires works { opened.now.keeper.store.failed ≡ false }
-            requires ready { V.tells → Ready (IsStored opened.now.keeper.store (V.disk vol.now) opened.now.ledger.state)
+            requires ready { V.reports → Ready (IsStored opened.now.keeper.store (V.disk vol.now) opened.now.ledger.state)
                 (V.disk vol.now) opened.now.ledger.state }
             ensures side { IsSideEndOf room.entry.now workers result.side }
             ensures followed { DidFollow (Unit {0}) opened.entry.now.ledger.state 0 []
                 (seen I.left I.faults input.entry.now input.exit.now)
                 (seen O.taken O.faults out.entry.now out.exit.now)
-                (seen_volume V.tells V.disk V.faults vol.entry.now vol.exit.now) result.end }
+                (seen_volume V.reports V.disk V.faults vol.entry.now vol.exit.now) result.end }
         {
             serve(
                 rt, alloc, room, workers, side, opened, vol, input, out, steps,
@@ -153,10 +153,10 @@ fn close_beside<R: Threads + Wait + Sync, G: Gate, V: Volume, I: Source, O: Sink
     requires some { 1 ≤ workers }
     requires few { workers ≤ 8 }
     requires works { opened.old.keeper.store.failed ≡ false }
-    requires ready { V.tells → Ready (IsStored opened.old.keeper.store (V.disk vol.old) opened.old.ledger.state)
+    requires ready { V.reports → Ready (IsStored opened.old.keeper.store (V.disk vol.old) opened.old.ledger.state)
         (V.disk vol.old) opened.old.ledger.state }
     ensures { DidFollow (Unit {0}) opened.old.ledger.state 0 [] (seen I.left I.faults input.old input.new)
-        (seen O.taken O.faults out.old out.new) (seen_volume V.tells V.disk V.faults vol.old vol.new) result }
+        (seen O.taken O.faults out.old out.new) (seen_volume V.reports V.disk V.faults vol.old vol.new) result }
 {
     let Ok(shop) = hire(alloc, workers) else {
         return Status::NoMemory;
@@ -164,7 +164,7 @@ fn close_beside<R: Threads + Wait + Sync, G: Gate, V: Volume, I: Source, O: Sink
     let Workshop {
         room,
         side,
-        mut places,
+        mut slots,
         ends,
     } = shop;
     let Served { end, side } = serve_beside(
@@ -173,7 +173,7 @@ fn close_beside<R: Threads + Wait + Sync, G: Gate, V: Volume, I: Source, O: Sink
         &room,
         gate,
         workers,
-        places.as_mut_slice(),
+        slots.as_mut_slice(),
         &mut Some(side),
         opened,
         vol,
@@ -182,7 +182,7 @@ fn close_beside<R: Threads + Wait + Sync, G: Gate, V: Volume, I: Source, O: Sink
         steps,
     );
     // Nobody asks for the account. All parts of the room come back here.
-    let _account = room.settle(rt, alloc, side.board, gather(places, ends), side.collector);
+    let _account = room.settle(rt, alloc, side.board, gather(slots, ends), side.collector);
     end
 }
 
@@ -207,7 +207,7 @@ pub(crate) fn run_beside<
     requires some { 1 ≤ workers }
     requires few { workers ≤ 8 }
     ensures { RanStored (seen I.left I.faults input.old input.new) (seen O.taken O.faults out.old out.new)
-        (seen_volume V.tells V.disk V.faults vol.old vol.new) result }
+        (seen_volume V.reports V.disk V.faults vol.old vol.new) result }
 {
     match open(alloc, vol, steps) {
         Ok(mut opened) => {

@@ -12,7 +12,7 @@ use std::alloc::Global;
 use std::sync::ledger::Ledger as Count;
 use stored_outcome::run_outcome::Status;
 
-/// Starts from the image at the front of the input and closes a ledger for each record behind it.
+/// Starts from the image at the start of the input and closes a ledger for each record after it.
 pub(crate) fn catch_up<I: Source, O: Sink, L: Count>(
     alloc: Global,
     passphrase: &str,

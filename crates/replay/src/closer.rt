@@ -1,4 +1,4 @@
-//! How the records of a run over an opened store are closed.
+//! An opened store, and closing records after it with or without workers.
 
 ghost use Rattle.std.specs.Prelude.{◌≡◌, [], false};
 ghost use Rattle.stored_outcome.specs.run_streams.Seen.{seen};
@@ -15,7 +15,7 @@ use std::sync::ledger::Ledger as Count;
 use stored_outcome::run_outcome::Status;
 use worker_merges::ledger_close::Ledger;
 
-/// A ledger, the store that keeps it, and how many records stood behind the store's image as it was opened.
+/// A ledger, the store that keeps it, and how many records followed the store's image as it was opened.
 #[derive(Drop)]
 pub(crate) struct Opened {
     pub(crate) ledger: Ledger,
@@ -36,11 +36,11 @@ pub(crate) fn follow_with<C: Crew, V: Volume, I: Source, O: Sink, L: Count>(
 ) -> Status
     requires crew { C.has crew.now side.old }
     requires works { opened.old.keeper.store.failed ≡ false }
-    requires ready { V.tells → Ready (IsStored opened.old.keeper.store (V.disk vol.old) opened.old.ledger.state)
+    requires ready { V.reports → Ready (IsStored opened.old.keeper.store (V.disk vol.old) opened.old.ledger.state)
         (V.disk vol.old) opened.old.ledger.state }
     ensures crew { C.has crew.now side.new }
     ensures followed { DidFollow (Unit {0}) opened.old.ledger.state 0 [] (seen I.left I.faults input.old input.new)
-        (seen O.taken O.faults out.old out.new) (seen_volume V.tells V.disk V.faults vol.old vol.new) result }
+        (seen O.taken O.faults out.old out.new) (seen_volume V.reports V.disk V.faults vol.old vol.new) result }
 {
     let mut ahead = Vec::new(alloc);
     follow(

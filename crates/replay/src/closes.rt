@@ -1,4 +1,4 @@
-//! The records of a run, one after another.
+//! The loop over the records of a run: each is read, prepared, kept, installed and written.
 
 ghost use Rattle.std.specs.Prelude.{◌≡◌, ◌≤◌, ◌+◌, ◌*◌, ◌^◌, ℕ, List, Ok, length, take, drop, IsNone};
 ghost use Rattle.xdr_core.specs.Format.{IsBytes};
@@ -6,14 +6,14 @@ ghost use Rattle.stored_outcome.specs.run_streams.Seen.{seen};
 ghost use Rattle.record_stream.specs.Measured.{record_end};
 ghost use Rattle.stored_outcome.specs.close_rules.Close.{IsClose};
 ghost use Rattle.stored_outcome.specs.run_outcome.Outcome.{framed, lines_of};
-ghost use Rattle.replay.specs.Following.{Told, Turned, Refuses, Closes, Passes, EndsAt, Followed};
-ghost use Rattle.replay.specs.Keeping.{DiskFailed, Ready, KeptTelling, KeptClose, KeptPass, KeptTurn, KeptOn};
+ghost use Rattle.replay.specs.Following.{WroteClose, Turned, Refuses, Closes, Passes, EndsAt, Followed};
+ghost use Rattle.replay.specs.Keeping.{DiskFailed, Ready, KeptWriting, KeptClose, KeptPass, KeptTurn, KeptOn};
 
 use crate::crew::Crew;
 use crate::ends::{write_end, write_refusal};
 use crate::keeper::{KeepFault, Keeper};
 use outside::{Sink, Source, Steps, Volume, write_all};
-use record_stream::{PieceFault, RecordLength, read_piece, without_front};
+use record_stream::{PieceFault, RecordLength, read_piece, without_prefix};
 use run_text::closed_text;
 use std::alloc::Global;
 use std::sync::ledger::Ledger as Count;
@@ -24,20 +24,20 @@ use worker_merges::ledger_close::{CloseFault, Ledger, Prepared};
 /// The bytes of a mark.
 const MARK_LEN: usize = 4;
 
-/// The bytes of the record behind the mark at the front of a text.
-fn front_record(ahead: &[u8], end: usize) -> &[u8]
+/// The bytes of the record after the mark at the start of a text.
+fn prefix_record(ahead: &[u8], end: usize) -> &[u8]
     requires { record_end ahead.now ≡ Ok end }
     ensures framed { framed result.now ≡ take end ahead.now }
     ensures short { length result.now ≤ 16777216 }
     ensures within { end ≤ length ahead.now }
     ensures fits { IsBytes ahead.now }
 {
-    let (front, _) = ahead.split_at(end);
-    front.split_at(MARK_LEN).1
+    let (prefix, _) = ahead.split_at(end);
+    prefix.split_at(MARK_LEN).1
 }
 
-/// The lines of a close are written, and then what is due behind them is done.
-fn tell_close<K: Keeper, V: Volume, O: Sink>(
+/// The lines of a close are written, and then what is due after them is done.
+fn write_close<K: Keeper, V: Volume, O: Sink>(
     alloc: Global,
     ledger: &Ledger,
     keeper: &mut K,
@@ -46,16 +46,16 @@ fn tell_close<K: Keeper, V: Volume, O: Sink>(
     out: &mut O,
 ) -> Option<Status>
     requires works { K.works keeper.old }
-    requires ready { K.stores → V.tells → Ready (K.keeps keeper.old (V.disk vol.old) ledger.now.state) (V.disk vol.old)
+    requires ready { K.stores → V.reports → Ready (K.keeps keeper.old (V.disk vol.old) ledger.now.state) (V.disk vol.old)
         ledger.now.state }
-    ensures told { Told text.now (seen O.taken O.faults out.old out.new)
+    ensures reported { WroteClose text.now (seen O.taken O.faults out.old out.new)
         (DiskFailed K.stores (V.faults vol.old) (V.faults vol.new)) result }
     ensures later { O.faults out.old ≤ O.faults out.new }
     ensures vol_later { V.faults vol.old ≤ V.faults vol.new }
-    ensures kept { K.stores → V.tells → KeptTelling ledger.now.state text.now (seen O.taken O.faults out.old out.new)
+    ensures kept { K.stores → V.reports → KeptWriting ledger.now.state text.now (seen O.taken O.faults out.old out.new)
         (V.disk vol.old) (V.disk vol.new) result }
     ensures works { IsNone result → K.works keeper.new }
-    ensures keeps { K.stores → V.tells → IsNone result
+    ensures keeps { K.stores → V.reports → IsNone result
         → Ready (K.keeps keeper.new (V.disk vol.new) ledger.now.state) (V.disk vol.new) ledger.now.state }
 {
     match write_all(out, text) {
@@ -86,16 +86,16 @@ fn take_close<C: Crew, K: Keeper, V: Volume, O: Sink>(
     requires closes { IsClose ledger.old.state bytes.now (Ok prepared) }
     requires crew { C.has crew.now side.old }
     requires works { K.works keeper.old }
-    requires ready { K.stores → V.tells → Ready (K.keeps keeper.old (V.disk vol.old) ledger.old.state) (V.disk vol.old)
+    requires ready { K.stores → V.reports → Ready (K.keeps keeper.old (V.disk vol.old) ledger.old.state) (V.disk vol.old)
         ledger.old.state }
     ensures closes { Closes ledger.old.state bytes.now ledger.new.state (seen O.taken O.faults out.old out.new)
         (DiskFailed K.stores (V.faults vol.old) (V.faults vol.new)) result }
     ensures later { O.faults out.old ≤ O.faults out.new }
     ensures vol_later { V.faults vol.old ≤ V.faults vol.new }
-    ensures kept { K.stores → V.tells → KeptClose ledger.old.state bytes.now ledger.new.state
+    ensures kept { K.stores → V.reports → KeptClose ledger.old.state bytes.now ledger.new.state
         (seen O.taken O.faults out.old out.new) (V.disk vol.old) (V.disk vol.new) result }
     ensures works { IsNone result → K.works keeper.new }
-    ensures keeps { K.stores → V.tells → IsNone result
+    ensures keeps { K.stores → V.reports → IsNone result
         → Ready (K.keeps keeper.new (V.disk vol.new) ledger.new.state) (V.disk vol.new) ledger.new.state }
     ensures crew { C.has crew.now side.new }
 {
@@ -112,7 +112,7 @@ fn take_close<C: Crew, K: Keeper, V: Volume, O: Sink>(
     }
     ledger.install(prepared);
     crew.post_due(side, ledger);
-    tell_close(alloc, ledger, keeper, vol, text.as_slice(), out)
+    write_close(alloc, ledger, keeper, vol, text.as_slice(), out)
 }
 
 /// Ends a run with a record that is refused, or where memory was.
@@ -146,16 +146,16 @@ fn close_record<C: Crew, K: Keeper, V: Volume, O: Sink, L: Count>(
     requires short { length text.now ≤ 16777216 }
     requires crew { C.has crew.now side.old }
     requires works { K.works keeper.old }
-    requires ready { K.stores → V.tells → Ready (K.keeps keeper.old (V.disk vol.old) ledger.old.state) (V.disk vol.old)
+    requires ready { K.stores → V.reports → Ready (K.keeps keeper.old (V.disk vol.old) ledger.old.state) (V.disk vol.old)
         ledger.old.state }
     ensures closes { Closes ledger.old.state text.now ledger.new.state (seen O.taken O.faults out.old out.new)
         (DiskFailed K.stores (V.faults vol.old) (V.faults vol.new)) result }
     ensures later { O.faults out.old ≤ O.faults out.new }
     ensures vol_later { V.faults vol.old ≤ V.faults vol.new }
-    ensures kept { K.stores → V.tells → KeptClose ledger.old.state text.now ledger.new.state
+    ensures kept { K.stores → V.reports → KeptClose ledger.old.state text.now ledger.new.state
         (seen O.taken O.faults out.old out.new) (V.disk vol.old) (V.disk vol.new) result }
     ensures works { IsNone result → K.works keeper.new }
-    ensures keeps { K.stores → V.tells → IsNone result
+    ensures keeps { K.stores → V.reports → IsNone result
         → Ready (K.keeps keeper.new (V.disk vol.new) ledger.new.state) (V.disk vol.new) ledger.new.state }
     ensures crew { C.has crew.now side.new }
 {
@@ -166,7 +166,7 @@ fn close_record<C: Crew, K: Keeper, V: Volume, O: Sink, L: Count>(
     }
 }
 
-/// The record at the front of what is ahead closes the ledger and is taken away, or ends the run.
+/// The record at the start of what is ahead closes the ledger and is taken away, or ends the run.
 fn pass_record<C: Crew, K: Keeper, V: Volume, O: Sink, L: Count>(
     alloc: Global,
     crew: &C,
@@ -182,7 +182,7 @@ fn pass_record<C: Crew, K: Keeper, V: Volume, O: Sink, L: Count>(
     requires ends { record_end ahead.old.items ≡ Ok end }
     requires crew { C.has crew.now side.old }
     requires works { K.works keeper.old }
-    requires ready { K.stores → V.tells → Ready (K.keeps keeper.old (V.disk vol.old) ledger.old.state) (V.disk vol.old)
+    requires ready { K.stores → V.reports → Ready (K.keeps keeper.old (V.disk vol.old) ledger.old.state) (V.disk vol.old)
         ledger.old.state }
     ensures passes { Passes ledger.old.state ahead.old.items end ledger.new.state
         (seen O.taken O.faults out.old out.new) (DiskFailed K.stores (V.faults vol.old) (V.faults vol.new)) result }
@@ -190,15 +190,15 @@ fn pass_record<C: Crew, K: Keeper, V: Volume, O: Sink, L: Count>(
     ensures rest { IsNone result → ahead.new.items ≡ drop end ahead.old.items }
     ensures later { O.faults out.old ≤ O.faults out.new }
     ensures vol_later { V.faults vol.old ≤ V.faults vol.new }
-    ensures kept { K.stores → V.tells → KeptPass ledger.old.state ahead.old.items end ledger.new.state
+    ensures kept { K.stores → V.reports → KeptPass ledger.old.state ahead.old.items end ledger.new.state
         (seen O.taken O.faults out.old out.new) (V.disk vol.old) (V.disk vol.new) result }
     ensures works { IsNone result → K.works keeper.new }
-    ensures keeps { K.stores → V.tells → IsNone result
+    ensures keeps { K.stores → V.reports → IsNone result
         → Ready (K.keeps keeper.new (V.disk vol.new) ledger.new.state) (V.disk vol.new) ledger.new.state }
     ensures crew { C.has crew.now side.new }
 {
-    let record = front_record(ahead.as_slice(), end);
-    let Ok(rest) = without_front(alloc, ahead.as_slice(), end) else {
+    let record = prefix_record(ahead.as_slice(), end);
+    let Ok(rest) = without_prefix(alloc, ahead.as_slice(), end) else {
         return Some(Status::NoMemory);
     };
     if let Some(end) = close_record(alloc, crew, side, ledger, keeper, vol, record, out, steps) {
@@ -245,21 +245,21 @@ fn turn<C: Crew, K: Keeper, V: Volume, I: Source, O: Sink, L: Count>(
     out: &mut O,
     steps: &mut Steps<L>,
 ) -> Option<Status>
-    requires place { at.old ≤ (ledger.old.state.header.ledger_seq + 1) * 2 ^ 64 }
+    requires offset { at.old ≤ (ledger.old.state.header.ledger_seq + 1) * 2 ^ 64 }
     requires crew { C.has crew.now side.old }
     requires works { K.works keeper.old }
-    requires ready { K.stores → V.tells → Ready (K.keeps keeper.old (V.disk vol.old) ledger.old.state) (V.disk vol.old)
+    requires ready { K.stores → V.reports → Ready (K.keeps keeper.old (V.disk vol.old) ledger.old.state) (V.disk vol.old)
         ledger.old.state }
     ensures turned { Turned (record { state = ledger.old.state; at = at.old; ahead = ahead.old.items })
         (record { state = ledger.new.state; at = at.new; ahead = ahead.new.items })
         (seen I.left I.faults input.old input.new) (seen O.taken O.faults out.old out.new)
         (DiskFailed K.stores (V.faults vol.old) (V.faults vol.new)) result }
     ensures vol_later { V.faults vol.old ≤ V.faults vol.new }
-    ensures kept { K.stores → V.tells → KeptTurn ledger.old.state ledger.new.state at.old ahead.old.items
+    ensures kept { K.stores → V.reports → KeptTurn ledger.old.state ledger.new.state at.old ahead.old.items
         (seen I.left I.faults input.old input.new) (seen O.taken O.faults out.old out.new)
         (V.disk vol.old) (V.disk vol.new) result }
     ensures works { IsNone result → K.works keeper.new }
-    ensures keeps { K.stores → V.tells → IsNone result
+    ensures keeps { K.stores → V.reports → IsNone result
         → Ready (K.keeps keeper.new (V.disk vol.new) ledger.new.state) (V.disk vol.new) ledger.new.state }
     ensures crew { C.has crew.now side.new }
 {
@@ -277,7 +277,7 @@ fn turn<C: Crew, K: Keeper, V: Volume, I: Source, O: Sink, L: Count>(
     }
 }
 
-/// Closes a ledger for each record behind it and has it kept, up to the end of the input or of the run.
+/// Closes a ledger for each record after it and has it kept, up to the end of the input or of the run.
 pub(crate) fn follow<C: Crew, K: Keeper, V: Volume, I: Source, O: Sink, L: Count>(
     alloc: Global,
     crew: &C,
@@ -291,15 +291,15 @@ pub(crate) fn follow<C: Crew, K: Keeper, V: Volume, I: Source, O: Sink, L: Count
     out: &mut O,
     steps: &mut Steps<L>,
 ) -> Status
-    requires place { start ≤ 2 ^ 64 }
+    requires offset { start ≤ 2 ^ 64 }
     requires crew { C.has crew.now side.old }
     requires works { K.works keeper.old }
-    requires ready { K.stores → V.tells → Ready (K.keeps keeper.old (V.disk vol.old) ledger.old.state) (V.disk vol.old)
+    requires ready { K.stores → V.reports → Ready (K.keeps keeper.old (V.disk vol.old) ledger.old.state) (V.disk vol.old)
         ledger.old.state }
     ensures followed { Followed ledger.old.state start ahead.old.items (seen I.left I.faults input.old input.new)
         (seen O.taken O.faults out.old out.new) (DiskFailed K.stores (V.faults vol.old) (V.faults vol.new)) result }
     ensures vol_later { V.faults vol.old ≤ V.faults vol.new }
-    ensures kept { K.stores → V.tells → KeptOn ledger.old.state start ahead.old.items
+    ensures kept { K.stores → V.reports → KeptOn ledger.old.state start ahead.old.items
         (seen I.left I.faults input.old input.new)
         (seen O.taken O.faults out.old out.new) (V.disk vol.old) (V.disk vol.new) result }
     ensures crew { C.has crew.now side.new }

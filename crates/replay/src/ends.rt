@@ -6,8 +6,8 @@ ghost use Rattle.stored_outcome.specs.run_outcome.Lines.{end_line, refused_line}
 ghost use Rattle.stored_outcome.specs.run_outcome.Statuses.{status_line};
 ghost use Rattle.stored_outcome.specs.run_outcome.declared.status.Status.TheVariants as status;
 ghost use Rattle.replay.specs.Following.{Wrote};
-ghost use Rattle.stored_outcome.specs.run_outcome.Run.{IsTold};
-ghost use Rattle.replay.specs.Telling.{IsToldOrRefused, IsToldSo};
+ghost use Rattle.stored_outcome.specs.run_outcome.Run.{IsReported};
+ghost use Rattle.replay.specs.Reporting.{IsReportedOrRefused, IsReportedSo};
 
 use outside::{Sink, write_all};
 use run_text::{bad_image_line, bad_input_line, bad_store_line, end_text, refused_text};
@@ -15,13 +15,13 @@ use std::alloc::{AllocError, Global};
 use stored_outcome::run_outcome::Status;
 use worker_merges::ledger_close::{CloseFault, Ledger};
 
-/// Writes the last text of a run that ends with `whole`, where the sink takes it.
-pub(crate) fn write_last<O: Sink>(text: &[u8], whole: Status, out: &mut O) -> Status
-    ensures wrote { Wrote (seen O.taken O.faults out.old out.new) text.now whole result }
+/// Writes the last text of a run that ends with `entire`, where the sink takes it.
+pub(crate) fn write_last<O: Sink>(text: &[u8], entire: Status, out: &mut O) -> Status
+    ensures wrote { Wrote (seen O.taken O.faults out.old out.new) text.now entire result }
     ensures later { O.faults out.old ≤ O.faults out.new }
 {
     match write_all(out, text) {
-        Ok(()) => whole,
+        Ok(()) => entire,
         Err(_) => Status::WriteFault,
     }
 }
@@ -53,10 +53,10 @@ pub(crate) fn write_refusal<O: Sink>(
     }
 }
 
-/// Writes the line of an end to standard error. An end that can't be told is a write fault.
+/// Writes the line of an end to standard error. An end that can't be written is a write fault.
 fn write_line<E: Sink>(line: &[u8], end: Status, err: &mut E) -> Status
     requires { line.now ≡ status_line end }
-    ensures { IsTold end (seen E.taken E.faults err.old err.new) result }
+    ensures { IsReported end (seen E.taken E.faults err.old err.new) result }
 {
     match write_all(err, line) {
         Ok(()) => end,
@@ -64,46 +64,50 @@ fn write_line<E: Sink>(line: &[u8], end: Status, err: &mut E) -> Status
     }
 }
 
-/// Tells that the words are no command.
-pub(crate) fn tell_usage<E: Sink>(err: &mut E) -> Status
-    ensures { IsTold status.Usage (seen E.taken E.faults err.old err.new) result }
+/// Writes that the words are no command.
+pub(crate) fn report_usage<E: Sink>(err: &mut E) -> Status
+    ensures { IsReported status.Usage (seen E.taken E.faults err.old err.new) result }
 {
     write_line(b"usage\n", Status::Usage, err)
 }
 
-/// Tells that memory was refused.
-pub(crate) fn tell_no_memory<E: Sink>(err: &mut E) -> Status
-    ensures { IsTold status.NoMemory (seen E.taken E.faults err.old err.new) result }
+/// Writes that memory was refused.
+pub(crate) fn report_no_memory<E: Sink>(err: &mut E) -> Status
+    ensures { IsReported status.NoMemory (seen E.taken E.faults err.old err.new) result }
 {
     write_line(b"no memory\n", Status::NoMemory, err)
 }
 
-/// Tells an end whose line has numbers. Where memory was refused for the line, that is the end.
-fn tell_made<E: Sink>(line: Result<Vec<u8>, AllocError>, end: Status, err: &mut E) -> Status
+/// Writes an end whose line has numbers. Where memory was refused for the line, that is the end.
+fn report_made<E: Sink>(line: Result<Vec<u8>, AllocError>, end: Status, err: &mut E) -> Status
     requires { IfOk line (λ made. made.items ≡ status_line end) }
-    ensures { IsToldOrRefused end (seen E.taken E.faults err.old err.new) result }
+    ensures { IsReportedOrRefused end (seen E.taken E.faults err.old err.new) result }
 {
     match line {
         Ok(line) => write_line(line.as_slice(), end, err),
-        Err(_) => tell_no_memory(err),
+        Err(_) => report_no_memory(err),
     }
 }
 
-/// Tells an end. Lines without numbers take no memory, so that want of memory can't hide a fault behind a write.
-pub(crate) fn tell<E: Sink>(alloc: Global, end: Status, err: &mut E) -> Status
-    ensures { IsToldSo end (seen E.taken E.faults err.old err.new) result }
+/// Writes an end. Lines without numbers take no memory, so that an allocation failure can't hide a fault after a write.
+pub(crate) fn report<E: Sink>(alloc: Global, end: Status, err: &mut E) -> Status
+    ensures { IsReportedSo end (seen E.taken E.faults err.old err.new) result }
 {
     match end {
         Status::Done => write_line(b"", end, err),
-        Status::Usage => tell_usage(err),
+        Status::Usage => report_usage(err),
         Status::Refused => write_line(b"", end, err),
         Status::ReadFault => write_line(b"read fault\n", end, err),
         Status::WriteFault => write_line(b"write fault\n", end, err),
         Status::DiskFault => write_line(b"disk fault\n", end, err),
-        Status::BadStore { file, place } => tell_made(bad_store_line(alloc, file, place), end, err),
-        Status::NoMemory => tell_no_memory(err),
-        Status::BadInput { at } => tell_made(bad_input_line(alloc, at), end, err),
-        Status::BadImage { rule } => tell_made(bad_image_line(alloc, rule), end, err),
+        Status::BadStore { file, place } => report_made(
+            bad_store_line(alloc, file, place),
+            end,
+            err,
+        ),
+        Status::NoMemory => report_no_memory(err),
+        Status::BadInput { at } => report_made(bad_input_line(alloc, at), end, err),
+        Status::BadImage { rule } => report_made(bad_image_line(alloc, rule), end, err),
         Status::Missing => write_line(b"missing\n", end, err),
         Status::AlreadyThere => write_line(b"already there\n", end, err),
     }

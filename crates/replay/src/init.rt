@@ -10,7 +10,7 @@ ghost use Rattle.stored_outcome.specs.Init.{InitLeft};
 ghost use Rattle.replay.specs.Starting.{IsJudgedSo};
 ghost use Rattle.replay.specs.Initing as spec;
 
-use crate::start::{FrontImage, judge, read_image};
+use crate::start::{PrefixImage, judge, read_image};
 use hash_ids::network_id;
 use image_store::{Store, StoreFault};
 use item_list::ItemList;
@@ -20,7 +20,7 @@ use std::alloc::{AllocError, Global};
 use stored_outcome::run_outcome::Status;
 use xdr_header::StartImage;
 
-/// Sees to it that nothing stands behind an image, which ends at a place. Bytes may be ahead.
+/// Sees to it that nothing follows an image, which ends at an offset. Bytes may be ahead.
 fn end_input<I: Source>(at: usize, input: &mut I, ahead: &[u8]) -> Result<(), Status>
     ensures { MatchResult result (λ _. spec.IsEnded ahead.now (seen I.left I.faults input.old input.new))
         (λ end. spec.IsUnended at ahead.now (seen I.left I.faults input.old input.new) end) }
@@ -38,12 +38,12 @@ fn end_input<I: Source>(at: usize, input: &mut I, ahead: &[u8]) -> Result<(), St
 }
 
 /// Reads the input to its end, as an image.
-fn read_whole<I: Source>(alloc: Global, input: &mut I) -> Result<StartImage, Status>
+fn read_complete<I: Source>(alloc: Global, input: &mut I) -> Result<StartImage, Status>
     ensures { MatchResult result (λ image. spec.IsInput image (seen I.left I.faults input.old input.new))
         (λ end. spec.IsUnread (seen I.left I.faults input.old input.new) end) }
 {
     let mut ahead = Vec::new(alloc);
-    let FrontImage { image, at } = read_image(alloc, input, &mut ahead)?;
+    let PrefixImage { image, at } = read_image(alloc, input, &mut ahead)?;
     match end_input(at, input, ahead.as_slice()) {
         Ok(()) => Ok(image),
         Err(end) => Err(end),
@@ -87,7 +87,7 @@ fn check_image(alloc: Global, passphrase: &str, image: &StartImage) -> Result<()
 /// Makes a store of an image on a volume that has none.
 fn store_image<V: Volume>(alloc: Global, network: Hash, image: &StartImage, vol: &mut V) -> Status
     requires { start_image.within image.now }
-    ensures { spec.Storing network image.now (seen_volume V.tells V.disk V.faults vol.old vol.new) result }
+    ensures { spec.Storing network image.now (seen_volume V.reports V.disk V.faults vol.old vol.new) result }
 {
     match Store::create(alloc, vol, network, image) {
         Ok(_) => Status::Done,
@@ -103,7 +103,7 @@ fn store_image<V: Volume>(alloc: Global, network: Hash, image: &StartImage, vol:
 fn keep_image<V: Volume>(alloc: Global, passphrase: &str, image: &StartImage, vol: &mut V) -> Status
     requires { start_image.within image.now }
     ensures { spec.Keeps (network_id_of passphrase.now) image.now
-        (seen_volume V.tells V.disk V.faults vol.old vol.new) result }
+        (seen_volume V.reports V.disk V.faults vol.old vol.new) result }
 {
     match check_image(alloc, passphrase, image) {
         Ok(()) => {}
@@ -115,7 +115,7 @@ fn keep_image<V: Volume>(alloc: Global, passphrase: &str, image: &StartImage, vo
     store_image(alloc, network, image, vol)
 }
 
-/// Makes a store of the image that is the whole input, on the network with this passphrase.
+/// Makes a store of the image that is the entire input, on the network with this passphrase.
 pub(crate) fn make<I: Source, V: Volume>(
     alloc: Global,
     passphrase: &str,
@@ -123,10 +123,10 @@ pub(crate) fn make<I: Source, V: Volume>(
     vol: &mut V,
 ) -> Status
     ensures made { InitLeft (network_id_of passphrase.now) (seen I.left I.faults input.old input.new)
-        (seen_volume V.tells V.disk V.faults vol.old vol.new) result }
+        (seen_volume V.reports V.disk V.faults vol.old vol.new) result }
     ensures no_write { result ≢ status.WriteFault }
 {
-    match read_whole(alloc, input) {
+    match read_complete(alloc, input) {
         Ok(image) => keep_image(alloc, passphrase, &image, vol),
         Err(end) => end,
     }

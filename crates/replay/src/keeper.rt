@@ -11,7 +11,7 @@ use outside::{Failed, Volume};
 use std::alloc::{AllocError, Global};
 use worker_merges::ledger_close::Ledger;
 
-/// Why what is due behind a close wasn't done.
+/// Why what is due after a close wasn't done.
 #[derive(Clone, Copy)]
 pub(crate) enum KeepFault {
     /// A call on the volume failed.
@@ -34,7 +34,7 @@ pub(crate) trait Keeper {
     // No call has failed so far.
     ghost works: { Self → Type 0 };
 
-    // What is kept upon this volume comes to this state, whatever a crash leaves.
+    // What is kept upon this volume yields this state, whatever a crash leaves.
     ghost keeps: { Self → Disk → ClosingState → Type 0 };
 
     /// Takes all memory that keeping the record will take.
@@ -45,16 +45,16 @@ pub(crate) trait Keeper {
     /// Keeps a record that closes the ledger. It takes no memory. From `Ok` on each crash leaves it.
     fn keep<V: Volume>(&mut self, vol: &mut V, piece: Self::Piece) -> Result<(), Failed>
         requires works { works self.old }
-        requires ready { stores → V.tells
+        requires ready { stores → V.reports
             → (s : ClosingState) × (closed : PreparedClose)
             × spec.Ready (keeps self.old (V.disk vol.old) s) (V.disk vol.old) s
             × IsClose s (held piece) (Ok closed) }
-        ensures kept { stores → V.tells → (s : ClosingState) (closed : PreparedClose)
+        ensures kept { stores → V.reports → (s : ClosingState) (closed : PreparedClose)
             → spec.Ready (keeps self.old (V.disk vol.old) s) (V.disk vol.old) s
             → IsClose s (held piece) (Ok closed)
             → OnOk result (spec.Ready (keeps self.new (V.disk vol.new) closed.state) (V.disk vol.new)
             closed.state) }
-        ensures runs { stores → V.tells → (s : ClosingState) (closed : PreparedClose)
+        ensures runs { stores → V.reports → (s : ClosingState) (closed : PreparedClose)
             → spec.Ready (keeps self.old (V.disk vol.old) s) (V.disk vol.old) s
             → IsClose s (held piece) (Ok closed)
             → Runs (spec.OpensEither s closed.state) (V.disk vol.old) (V.disk vol.new) }
@@ -62,7 +62,7 @@ pub(crate) trait Keeper {
         ensures stores { IsErr result → stores }
         ensures cause { HasCause (V.faults vol.old) (V.faults vol.new) result };
 
-    /// Does what is due behind the close of this ledger, whose record is kept. What is kept stays.
+    /// Does what is due after the close of this ledger, whose record is kept. What is kept stays.
     fn settle<V: Volume>(
         &mut self,
         alloc: Global,
@@ -70,11 +70,11 @@ pub(crate) trait Keeper {
         ledger: &Ledger,
     ) -> Result<(), KeepFault>
         requires works { works self.old }
-        requires ready { stores → V.tells
+        requires ready { stores → V.reports
             → spec.Ready (keeps self.old (V.disk vol.old) ledger.now.state) (V.disk vol.old) ledger.now.state }
-        ensures kept { stores → V.tells → spec.UnlessDisk result (spec.Ready (keeps self.new (V.disk vol.new)
+        ensures kept { stores → V.reports → spec.UnlessDisk result (spec.Ready (keeps self.new (V.disk vol.new)
             ledger.now.state) (V.disk vol.new) ledger.now.state) }
-        ensures runs { stores → V.tells
+        ensures runs { stores → V.reports
             → Runs (spec.OpensEither ledger.now.state ledger.now.state) (V.disk vol.old) (V.disk vol.new) }
         ensures works { OnOk result (works self.new) }
         ensures later { V.faults vol.old ≤ V.faults vol.new }

@@ -1,7 +1,7 @@
 //! Laws of runs of the program, as contracts.
 
 ghost use Rattle.replay.specs.Outcomes as outcome;
-ghost use Rattle.replay.specs.Completeness as whole;
+ghost use Rattle.replay.specs.Completeness as entire;
 ghost use Rattle.replay.specs.Machine as machine;
 ghost use Rattle.replay.specs.StoredLaws as stored;
 ghost use Rattle.replay.specs.CommandLaws as command;
@@ -10,13 +10,13 @@ ghost use Rattle.stored_outcome.specs.run_streams.SeenVolume.{seen_volume};
 use outside::Volume;
 use sample_laws::samples_go_on;
 
-/// What the records behind a state come to is one thing.
+/// What the records after a state yield is one thing.
 pub fn runs_are_one()
     ensures { outcome.RunsAreOne }
 {}
 
-/// What records come to that all close ledgers, and others behind them: the lines of the first, and what the others
-/// come to from the state behind those.
+/// What records yield that all close ledgers, with others after them: the lines of the first, and what the others
+/// yield from the state after those.
 pub fn runs_go_on()
     ensures { outcome.RunsGoOn }
 {}
@@ -26,112 +26,113 @@ pub fn outcomes_are_one()
     ensures { outcome.OutcomesAreOne }
 {}
 
-/// What a run wrote that was cut short is a front of the text of its input's outcome, or of that of the records behind
-/// the ledger that it opened.
-pub fn fronts_are_of_outcomes()
-    ensures runs { outcome.FrontsAreOfRuns }
-    ensures fronts { outcome.FrontsAreOfOutcomes }
-    ensures outputs { outcome.OutputsAreFronts }
+/// What a run wrote that was cut short is a prefix of the text of its input's outcome, or of that of the records
+/// after the ledger that it opened.
+pub fn prefixes_are_of_outcomes()
+    ensures runs { outcome.PrefixesAreOfRuns }
+    ensures prefixes { outcome.PrefixesAreOfOutcomes }
+    ensures outputs { outcome.OutputsArePrefixes }
 {}
 
-/// Where no stream's count of faults rose, a run of `catchup` answers the outcome of its input and writes its text, or
-/// wants memory. It is run alone, or by the words beside this volume.
+/// Where no stream's count of faults rose, a run of `catchup` answers the outcome of its input and writes its text,
+/// or runs out of memory. It is run alone, or by the words beside this volume.
 pub fn runs_are_complete<V: Volume>(old: &V, new: &V)
-    ensures catchups { whole.Catchups whole.IsComplete }
-    ensures runs { whole.Runs (seen_volume V.tells V.disk V.faults old.now new.now) whole.IsComplete }
+    ensures catchups { entire.Catchups entire.IsComplete }
+    ensures runs { entire.Runs (seen_volume V.reports V.disk V.faults old.now new.now) entire.IsComplete }
 {}
 
 /// On a legal image and records that all close ledgers, a run of `catchup` of which no stream's count of faults rose
-/// answers that all is done, and writes all lines, or wants memory.
+/// answers that all is done, and writes all lines, or runs out of memory.
 pub fn accepted_runs_are_done<V: Volume>(old: &V, new: &V)
-    ensures catchups { whole.Catchups whole.IsDone }
-    ensures runs { whole.Runs (seen_volume V.tells V.disk V.faults old.now new.now) whole.IsDone }
+    ensures catchups { entire.Catchups entire.IsDone }
+    ensures runs { entire.Runs (seen_volume V.reports V.disk V.faults old.now new.now) entire.IsDone }
 {}
 
 /// Where an input has an outcome, its status is the answer, or a count of faults rose, or memory was refused.
 pub fn outcomes_are_answered<V: Volume>(old: &V, new: &V)
-    ensures catchups { whole.Catchups whole.IsAnswered }
-    ensures runs { whole.Runs (seen_volume V.tells V.disk V.faults old.now new.now) whole.IsAnswered }
+    ensures catchups { entire.Catchups entire.IsAnswered }
+    ensures runs { entire.Runs (seen_volume V.reports V.disk V.faults old.now new.now) entire.IsAnswered }
 {}
 
 // ---- over a store
 
-/// What `run` answers on a volume that opens. Where no count of faults rose, it is what the records come to, with its
-/// text, or want of memory; so all is done where all records close ledgers. Else a count rose that explains the answer.
+/// What `run` answers on a volume that opens. Where no count of faults rose, it is what the records yield, with its
+/// text, or an allocation failure; so all is done where all records close ledgers. Else a count rose that explains the
+/// answer.
 pub fn stored_runs_are_answered<V: Volume>(old: &V, new: &V)
-    ensures complete { stored.StoredRuns (seen_volume V.tells V.disk V.faults old.now new.now)
-        (stored.IsRunComplete (seen_volume V.tells V.disk V.faults old.now new.now)) }
-    ensures done { stored.StoredRuns (seen_volume V.tells V.disk V.faults old.now new.now)
-        (stored.IsRunDone (seen_volume V.tells V.disk V.faults old.now new.now)) }
-    ensures answered { stored.StoredRuns (seen_volume V.tells V.disk V.faults old.now new.now)
-        (stored.IsRunAnswered (seen_volume V.tells V.disk V.faults old.now new.now)) }
+    ensures complete { stored.StoredRuns (seen_volume V.reports V.disk V.faults old.now new.now)
+        (stored.IsRunComplete (seen_volume V.reports V.disk V.faults old.now new.now)) }
+    ensures done { stored.StoredRuns (seen_volume V.reports V.disk V.faults old.now new.now)
+        (stored.IsRunDone (seen_volume V.reports V.disk V.faults old.now new.now)) }
+    ensures answered { stored.StoredRuns (seen_volume V.reports V.disk V.faults old.now new.now)
+        (stored.IsRunAnswered (seen_volume V.reports V.disk V.faults old.now new.now)) }
 {}
 
 /// What `init` answers to its input, unless a count of faults rose or memory was refused: where the input is no image,
-/// or which rule the image breaks; and to a volume that tells its bytes, that the image is stored or another is open.
+/// or which rule the image breaks; and to a volume that reports its bytes, that the image is stored or another is open.
 pub fn inits_are_answered<V: Volume>(old: &V, new: &V)
-    ensures bad_input { stored.Inits (seen_volume V.tells V.disk V.faults old.now new.now)
+    ensures bad_input { stored.Inits (seen_volume V.reports V.disk V.faults old.now new.now)
         stored.IsBadInputAnswered }
-    ensures bad_image { stored.Inits (seen_volume V.tells V.disk V.faults old.now new.now)
+    ensures bad_image { stored.Inits (seen_volume V.reports V.disk V.faults old.now new.now)
         stored.IsBadImageAnswered }
-    ensures image { stored.Inits (seen_volume V.tells V.disk V.faults old.now new.now)
-        (stored.IsImageAnswered (seen_volume V.tells V.disk V.faults old.now new.now)) }
+    ensures image { stored.Inits (seen_volume V.reports V.disk V.faults old.now new.now)
+        (stored.IsImageAnswered (seen_volume V.reports V.disk V.faults old.now new.now)) }
 {}
 
-/// What a volume opens to is one ledger, one fault at a file and place, or that there is no store.
+/// What a volume opens to is one ledger, one fault at a file and offset, or that there is no store.
 pub fn openings_are_one()
     ensures { stored.OpeningsAreOne }
 {}
 
-/// As many ledgers are acknowledged as whole `closed` lines were printed.
+/// As many ledgers are acknowledged as complete `closed` lines were printed.
 pub fn acknowledged_are_counted()
     ensures { stored.AcknowledgedAreCounted }
 {}
 
-/// A volume that is opened again behind a crash, and reads what that left, is sound where the one before was. So is one
+/// A volume that is opened again after a crash, and reads what that left, is sound where the one before was. So is one
 /// that reads what a crash left at some moment of a run.
 pub fn reopened_volumes_are_sound<V: Volume>(old: &V, new: &V, again: &V)
     ensures now { stored.IsSoundAgain (V.disk old.now) (V.disk again.now) }
-    ensures moments { stored.IsSoundInRun (seen_volume V.tells V.disk V.faults old.now new.now) (V.disk again.now) }
+    ensures moments { stored.IsSoundInRun (seen_volume V.reports V.disk V.faults old.now new.now) (V.disk again.now) }
 {}
 
 // ---- by words
 
-/// What words leave that spell a command is what the command leaves, unless memory was refused as they were read; and
-/// words that spell none are told so.
+/// What words leave that are a command is what the command leaves, unless memory was refused as they were read;
+/// and words that are no command are answered so.
 pub fn words_are_commands<V: Volume>(old: &V, new: &V)
-    ensures commands { command.IsByCommand (seen_volume V.tells V.disk V.faults old.now new.now) }
-    ensures usage { command.IsUsageTold (seen_volume V.tells V.disk V.faults old.now new.now) }
+    ensures commands { command.IsByCommand (seen_volume V.reports V.disk V.faults old.now new.now) }
+    ensures usage { command.IsUsageReported (seen_volume V.reports V.disk V.faults old.now new.now) }
 {}
 
 /// What `show` answers on a volume that opens: its four lines, unless a count of faults rose or memory was refused. On
 /// one that doesn't open it answers why.
 pub fn shows_are_answered<V: Volume>(old: &V, new: &V)
-    ensures complete { command.Showings (seen_volume V.tells V.disk V.faults old.now new.now)
-        (command.IsShowComplete (seen_volume V.tells V.disk V.faults old.now new.now)) }
-    ensures answered { command.Showings (seen_volume V.tells V.disk V.faults old.now new.now)
-        (command.IsShowAnswered (seen_volume V.tells V.disk V.faults old.now new.now)) }
-    ensures unopened { command.IsUnopenedShown (seen_volume V.tells V.disk V.faults old.now new.now) }
+    ensures complete { command.Showings (seen_volume V.reports V.disk V.faults old.now new.now)
+        (command.IsShowComplete (seen_volume V.reports V.disk V.faults old.now new.now)) }
+    ensures answered { command.Showings (seen_volume V.reports V.disk V.faults old.now new.now)
+        (command.IsShowAnswered (seen_volume V.reports V.disk V.faults old.now new.now)) }
+    ensures unopened { command.IsUnopenedShown (seen_volume V.reports V.disk V.faults old.now new.now) }
 {}
 
-/// What a sample comes to is one thing, and `sample` answers it unless a count of faults rose or memory was refused:
+/// What a sample yields is one thing, and `sample` answers it unless a count of faults rose or memory was refused:
 /// all ledgers close, or the files of one would be too long.
 pub fn samples_are_answered()
-    ensures full { command.SamplesAreWholeOrFull }
+    ensures full { command.SamplesAreCompleteOrFull }
     ensures one { command.SamplesAreOne }
     ensures complete { command.SamplesAreComplete }
 {
     samples_go_on();
 }
 
-/// `catchup` behind the image of a ledger writes what `run` writes of the same records on a store of it.
+/// `catchup` after the image of a ledger writes what `run` writes of the same records on a store of it.
 pub fn catchups_agree()
     ensures { command.CatchupsAgree }
 {}
 
 // ---- with merges beside it
 
-/// Whatever merges are handed in, and wherever it crashes, the ledger is what its records come to with no merge but
+/// Whatever merges are handed in, and wherever it crashes, the ledger is what its records yield with no merge but
 /// their own; at least as many are closed as are acknowledged, and a crash leaves these, or with them the record in
 /// hand.
 pub fn machines_keep_up()

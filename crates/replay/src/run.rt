@@ -3,11 +3,11 @@
 ghost use Rattle.std.specs.Prelude.{◌≡◌, ◌≤◌, ℕ, List};
 ghost use Rattle.stored_outcome.specs.run_streams.Seen.{seen};
 ghost use Rattle.stored_outcome.specs.run_streams.SeenVolume.{seen_volume};
-ghost use Rattle.stored_outcome.specs.run_outcome.Run.{IsTold, DidCatchUp};
+ghost use Rattle.stored_outcome.specs.run_outcome.Run.{IsReported, DidCatchUp};
 ghost use Rattle.stored_outcome.specs.run_outcome.Statuses.{status_code};
 ghost use Rattle.stored_outcome.specs.run_outcome.declared.status.Status.{Status};
 ghost use Rattle.stored_outcome.specs.run_outcome.declared.status.Status.TheVariants as status;
-ghost use Rattle.command_words.specs.Words.{words_of, Spells};
+ghost use Rattle.command_words.specs.Words.{words_of, Parses};
 ghost use Rattle.command_words.specs.Commands.{command_at};
 ghost use Rattle.stored_outcome.specs.StoredRun.{DidRun};
 ghost use Rattle.stored_outcome.specs.Init.{DidInit};
@@ -17,7 +17,7 @@ ghost use Rattle.stored_outcome.specs.Program.{Ran, RanAs};
 
 use crate::beside::run_beside;
 use crate::catchup::catch_up;
-use crate::ends::{tell, tell_no_memory, tell_usage};
+use crate::ends::{report, report_no_memory, report_usage};
 use crate::init::make;
 use crate::sample::sample;
 use crate::show::show;
@@ -31,7 +31,7 @@ use std::thread::Threads;
 use stored_outcome::run_outcome::Status;
 
 /// Runs `catchup`, with its line on standard error.
-fn catch_up_told<I: Source, O: Sink, E: Sink, L: Count>(
+fn catch_up_reported<I: Source, O: Sink, E: Sink, L: Count>(
     alloc: Global,
     network: &str,
     input: &mut I,
@@ -43,11 +43,11 @@ fn catch_up_told<I: Source, O: Sink, E: Sink, L: Count>(
         (seen O.taken O.faults out.old out.new) (seen E.taken E.faults err.old err.new) result }
 {
     let end = catch_up(alloc, network, input, out, steps);
-    tell(alloc, end, err)
+    report(alloc, end, err)
 }
 
 /// Runs `init`, with its line on standard error.
-fn init_told<I: Source, E: Sink, V: Volume>(
+fn init_reported<I: Source, E: Sink, V: Volume>(
     alloc: Global,
     network: &str,
     input: &mut I,
@@ -55,14 +55,14 @@ fn init_told<I: Source, E: Sink, V: Volume>(
     vol: &mut V,
 ) -> Status
     ensures { DidInit network.now (seen I.left I.faults input.old input.new)
-        (seen E.taken E.faults err.old err.new) (seen_volume V.tells V.disk V.faults vol.old vol.new) result }
+        (seen E.taken E.faults err.old err.new) (seen_volume V.reports V.disk V.faults vol.old vol.new) result }
 {
     let end = make(alloc, network, input, vol);
-    tell(alloc, end, err)
+    report(alloc, end, err)
 }
 
 /// Runs `show`, with its line on standard error.
-fn show_told<O: Sink, E: Sink, V: Volume, L: Count>(
+fn show_reported<O: Sink, E: Sink, V: Volume, L: Count>(
     alloc: Global,
     out: &mut O,
     err: &mut E,
@@ -70,14 +70,14 @@ fn show_told<O: Sink, E: Sink, V: Volume, L: Count>(
     steps: &mut Steps<L>,
 ) -> Status
     ensures { DidShow (seen O.taken O.faults out.old out.new) (seen E.taken E.faults err.old err.new)
-        (seen_volume V.tells V.disk V.faults vol.old vol.new) result }
+        (seen_volume V.reports V.disk V.faults vol.old vol.new) result }
 {
     let end = show(alloc, out, vol, steps);
-    tell(alloc, end, err)
+    report(alloc, end, err)
 }
 
 /// Runs `sample`, with its line on standard error.
-fn sample_told<O: Sink, E: Sink, L: Count>(
+fn sample_reported<O: Sink, E: Sink, L: Count>(
     alloc: Global,
     seed: u32,
     ledgers: u32,
@@ -90,11 +90,11 @@ fn sample_told<O: Sink, E: Sink, L: Count>(
         (seen E.taken E.faults err.old err.new) result }
 {
     let end = sample(alloc, seed, ledgers, out, steps);
-    tell(alloc, end, err)
+    report(alloc, end, err)
 }
 
 /// Runs `run` without workers, with its line on standard error.
-fn run_told<I: Source, O: Sink, E: Sink, V: Volume, L: Count>(
+fn run_reported<I: Source, O: Sink, E: Sink, V: Volume, L: Count>(
     alloc: Global,
     input: &mut I,
     out: &mut O,
@@ -103,14 +103,14 @@ fn run_told<I: Source, O: Sink, E: Sink, V: Volume, L: Count>(
     steps: &mut Steps<L>,
 ) -> Status
     ensures { DidRun (seen I.left I.faults input.old input.new) (seen O.taken O.faults out.old out.new)
-        (seen E.taken E.faults err.old err.new) (seen_volume V.tells V.disk V.faults vol.old vol.new) result }
+        (seen E.taken E.faults err.old err.new) (seen_volume V.reports V.disk V.faults vol.old vol.new) result }
 {
     let end = run_stored(alloc, input, out, vol, steps);
-    tell(alloc, end, err)
+    report(alloc, end, err)
 }
 
 /// Runs `run` with 1 to 8 workers, with its line on standard error.
-fn run_with_told<
+fn run_with_reported<
     R: Threads + Wait + Sync,
     I: Source,
     O: Sink,
@@ -132,10 +132,10 @@ fn run_with_told<
     requires some { 1 ≤ workers }
     requires few { workers ≤ 8 }
     ensures { DidRun (seen I.left I.faults input.old input.new) (seen O.taken O.faults out.old out.new)
-        (seen E.taken E.faults err.old err.new) (seen_volume V.tells V.disk V.faults vol.old vol.new) result }
+        (seen E.taken E.faults err.old err.new) (seen_volume V.reports V.disk V.faults vol.old vol.new) result }
 {
     let end = run_beside(rt, alloc, gate, workers, input, out, vol, steps);
-    tell(alloc, end, err)
+    report(alloc, end, err)
 }
 
 /// Runs a command, with its line on standard error.
@@ -150,22 +150,22 @@ fn run_command<R: Threads + Wait + Sync, I: Source, O: Sink, E: Sink, V: Volume,
     gate: &G,
     steps: &mut Steps<L>,
 ) -> Status
-    requires { (words : List (List ℕ)) × Spells words (command_at command) }
+    requires { (words : List (List ℕ)) × Parses words (command_at command) }
     ensures { RanAs (command_at command.entry) (seen I.left I.faults input.old input.new)
         (seen O.taken O.faults out.old out.new) (seen E.taken E.faults err.old err.new)
-        (seen_volume V.tells V.disk V.faults vol.old vol.new) result }
+        (seen_volume V.reports V.disk V.faults vol.old vol.new) result }
 {
     match command {
-        Command::Init { passphrase } => init_told(alloc, passphrase, input, err, vol),
-        Command::Run { workers: 0 } => run_told(alloc, input, out, err, vol, steps),
+        Command::Init { passphrase } => init_reported(alloc, passphrase, input, err, vol),
+        Command::Run { workers: 0 } => run_reported(alloc, input, out, err, vol, steps),
         Command::Run { workers } => {
-            run_with_told(rt, alloc, workers, input, out, err, vol, gate, steps)
+            run_with_reported(rt, alloc, workers, input, out, err, vol, gate, steps)
         }
         Command::CatchUp { passphrase } => {
-            catch_up_told(alloc, passphrase, input, out, err, steps)
+            catch_up_reported(alloc, passphrase, input, out, err, steps)
         }
-        Command::Show => show_told(alloc, out, err, vol, steps),
-        Command::Sample { seed, ledgers } => sample_told(alloc, seed, ledgers, out, err, steps),
+        Command::Show => show_reported(alloc, out, err, vol, steps),
+        Command::Sample { seed, ledgers } => sample_reported(alloc, seed, ledgers, out, err, steps),
     }
 }
 
@@ -183,19 +183,19 @@ fn run<R: Threads + Wait + Sync, I: Source, O: Sink, E: Sink, V: Volume, G: Gate
 ) -> Status
     ensures { Ran (words_of words.now) (seen I.left I.faults input.old input.new)
         (seen O.taken O.faults out.old out.new) (seen E.taken E.faults err.old err.new)
-        (seen_volume V.tells V.disk V.faults vol.old vol.new) result }
+        (seen_volume V.reports V.disk V.faults vol.old vol.new) result }
 {
     match read_command(alloc, words) {
         Ok(Some(command)) => run_command(rt, alloc, command, input, out, err, vol, gate, steps),
-        Ok(None) => tell_usage(err),
-        Err(_) => tell_no_memory(err),
+        Ok(None) => report_usage(err),
+        Err(_) => report_no_memory(err),
     }
 }
 
 /// Runs the command of the words and answers the exit status of the process. `init` reads a start image, and makes a
 /// store of it on the volume. `run` opens that store, closes a ledger for each record of the input, keeps the record,
-/// and prints what it came to; with workers, merges are made beside it, each behind the gate. `catchup` does so for the
-/// records behind a start image, in memory alone. `show` prints the ledger of the store, and `sample` closes ledgers
+/// and prints what it yielded; with workers, merges are made beside it, each after the gate. `catchup` does so for the
+/// records after a start image, in memory alone. `show` prints the ledger of the store, and `sample` closes ledgers
 /// that are made from a number. It waits for its workers.
 pub fn run_program<
     R: Threads + Wait + Sync,
@@ -219,7 +219,7 @@ pub fn run_program<
     ensures { (end : Status) × ((result ≡ status_code end)
         × Ran (words_of words.now) (seen I.left I.faults input.old input.new)
         (seen O.taken O.faults out.old out.new) (seen E.taken E.faults err.old err.new)
-        (seen_volume V.tells V.disk V.faults vol.old vol.new) end) }
+        (seen_volume V.reports V.disk V.faults vol.old vol.new) end) }
 {
     run(rt, alloc, words, input, out, err, vol, gate, steps).code()
 }
@@ -237,11 +237,11 @@ pub fn do_catchup<I: Source, O: Sink, E: Sink, L: Count>(
         × DidCatchUp network.now (seen I.left I.faults input.old input.new)
         (seen O.taken O.faults out.old out.new) (seen E.taken E.faults err.old err.new) end) }
 {
-    catch_up_told(alloc, network, input, out, err, steps).code()
+    catch_up_reported(alloc, network, input, out, err, steps).code()
 }
 
 /// Runs `run` without workers: it opens the store that the volume keeps, closes a ledger for each record of the input,
-/// keeps the record and prints what it came to. It answers the exit status of the process.
+/// keeps the record and prints what it yielded. It answers the exit status of the process.
 pub fn do_run_alone<I: Source, O: Sink, E: Sink, V: Volume, L: Count>(
     alloc: Global,
     input: &mut I,
@@ -252,9 +252,9 @@ pub fn do_run_alone<I: Source, O: Sink, E: Sink, V: Volume, L: Count>(
 ) -> u8
     ensures { (end : Status) × ((result ≡ status_code end)
         × DidRun (seen I.left I.faults input.old input.new) (seen O.taken O.faults out.old out.new)
-        (seen E.taken E.faults err.old err.new) (seen_volume V.tells V.disk V.faults vol.old vol.new) end) }
+        (seen E.taken E.faults err.old err.new) (seen_volume V.reports V.disk V.faults vol.old vol.new) end) }
 {
-    run_told(alloc, input, out, err, vol, steps).code()
+    run_reported(alloc, input, out, err, vol, steps).code()
 }
 
 /// Runs `run` with 1 to 8 workers. What is known of it is what is known of `do_run_alone`, whatever merges the workers
@@ -283,13 +283,13 @@ pub fn do_run_with<
     requires few { workers ≤ 8 }
     ensures { (end : Status) × ((result ≡ status_code end)
         × DidRun (seen I.left I.faults input.old input.new) (seen O.taken O.faults out.old out.new)
-        (seen E.taken E.faults err.old err.new) (seen_volume V.tells V.disk V.faults vol.old vol.new) end) }
+        (seen E.taken E.faults err.old err.new) (seen_volume V.reports V.disk V.faults vol.old vol.new) end) }
 {
-    run_with_told(rt, alloc, workers, input, out, err, vol, gate, steps).code()
+    run_with_reported(rt, alloc, workers, input, out, err, vol, gate, steps).code()
 }
 
-/// Runs `init` on the network with this passphrase: it reads a start image, which is the whole input, and makes a store
-/// of it on a volume that has none. It answers the exit status of the process.
+/// Runs `init` on the network with this passphrase: it reads a start image, which is the entire input, and makes a
+/// store of it on a volume that has none. It answers the exit status of the process.
 pub fn do_init<I: Source, E: Sink, V: Volume>(
     alloc: Global,
     network: &str,
@@ -299,9 +299,9 @@ pub fn do_init<I: Source, E: Sink, V: Volume>(
 ) -> u8
     ensures { (end : Status) × ((result ≡ status_code end)
         × DidInit network.now (seen I.left I.faults input.old input.new)
-        (seen E.taken E.faults err.old err.new) (seen_volume V.tells V.disk V.faults vol.old vol.new) end) }
+        (seen E.taken E.faults err.old err.new) (seen_volume V.reports V.disk V.faults vol.old vol.new) end) }
 {
-    init_told(alloc, network, input, err, vol).code()
+    init_reported(alloc, network, input, err, vol).code()
 }
 
 /// Runs `show`: it opens the store that the volume keeps, and prints its ledger, its epoch and records, its lumens and
@@ -315,13 +315,13 @@ pub fn do_show<O: Sink, E: Sink, V: Volume, L: Count>(
 ) -> u8
     ensures { (end : Status) × ((result ≡ status_code end)
         × DidShow (seen O.taken O.faults out.old out.new) (seen E.taken E.faults err.old err.new)
-        (seen_volume V.tells V.disk V.faults vol.old vol.new) end) }
+        (seen_volume V.reports V.disk V.faults vol.old vol.new) end) }
 {
-    show_told(alloc, out, err, vol, steps).code()
+    show_reported(alloc, out, err, vol, steps).code()
 }
 
 /// Runs `sample`: it makes an image and 1 to 20000 records from a seed, closes their ledgers in memory alone, and
-/// prints what they come to as one line. It answers the exit status of the process.
+/// prints what they yield as one line. It answers the exit status of the process.
 pub fn do_sample<O: Sink, E: Sink, L: Count>(
     alloc: Global,
     seed: u32,
@@ -336,14 +336,14 @@ pub fn do_sample<O: Sink, E: Sink, L: Count>(
         × DidSample seed ledgers (seen O.taken O.faults out.old out.new)
         (seen E.taken E.faults err.old err.new) end) }
 {
-    sample_told(alloc, seed, ledgers, out, err, steps).code()
+    sample_reported(alloc, seed, ledgers, out, err, steps).code()
 }
 
 /// Ends the program where memory was refused before its words were read: nothing else is read or written. It answers
 /// the exit status of the process.
 pub fn end_without_memory<E: Sink>(err: &mut E) -> u8
     ensures { (end : Status) × ((result ≡ status_code end)
-        × IsTold status.NoMemory (seen E.taken E.faults err.old err.new) end) }
+        × IsReported status.NoMemory (seen E.taken E.faults err.old err.new) end) }
 {
-    tell_no_memory(err).code()
+    report_no_memory(err).code()
 }

@@ -7,14 +7,14 @@ ghost use Rattle.stored_outcome.specs.run_outcome.Lines.{sample_line, success_co
 ghost use Rattle.stored_outcome.specs.run_outcome.declared.status.Status.TheVariants as status;
 ghost use Rattle.stored_outcome.specs.sample_ledger.Samples.{first_state, record_bytes as bytes_of};
 ghost use Rattle.replay.specs.Following.{Wrote};
-ghost use Rattle.replay.specs.Sampling.{HasCome, Advances, Samples};
+ghost use Rattle.replay.specs.Sampling.{HasReached, Advances, Samples};
 
 use crate::closes::refuse;
 use crate::ends::write_last;
 use crate::start::judge;
 use outside::{Sink, Steps};
 use run_text::{sample_text, success_count};
-use sample_laws::{first_states_close, samples_stand};
+use sample_laws::{first_states_close, samples_close};
 use std::alloc::{AllocError, Global};
 use std::sync::ledger::Ledger as Count;
 use stored_outcome::run_outcome::Status;
@@ -50,7 +50,7 @@ fn first_ledger(alloc: Global, seed: u32) -> Result<Ledger, Status>
 /// The sample of a seed before its first record.
 fn begin(alloc: Global, seed: u32) -> Result<Sampled, Status>
     ensures { MatchResult result
-        (λ sampled. HasCome seed 0 sampled.ledger.state sampled.transactions sampled.successes)
+        (λ sampled. HasReached seed 0 sampled.ledger.state sampled.transactions sampled.successes)
         (λ end. end ≡ status.NoMemory) }
 {
     Ok(Sampled {
@@ -60,7 +60,7 @@ fn begin(alloc: Global, seed: u32) -> Result<Sampled, Status>
     })
 }
 
-/// The bytes of the record behind the first `closed` ones.
+/// The bytes of the record after the first `closed` ones.
 fn record_bytes(
     alloc: Global,
     seed: u32,
@@ -68,12 +68,12 @@ fn record_bytes(
     sampled: &Sampled,
 ) -> Result<Vec<u8>, AllocError>
     requires few { closed < 20000 }
-    requires come { HasCome seed closed sampled.now.ledger.state sampled.now.transactions sampled.now.successes }
+    requires reached { HasReached seed closed sampled.now.ledger.state sampled.now.transactions sampled.now.successes }
     ensures are { IfOk result (λ bytes. bytes.items ≡ bytes_of seed (closed + 1) sampled.now.ledger.state) }
     ensures short { IfOk result (λ bytes. length bytes.items ≤ 16777216) }
 {
     records_are_written();
-    samples_stand();
+    samples_close();
     let record = make_record(alloc, seed, closed + 1, sampled.ledger.header())?;
     let mut builder = Builder::new(alloc);
     write_close_record(&record, &mut builder)?;
@@ -98,7 +98,7 @@ fn take_close(sampled: &mut Sampled, prepared: Prepared)
     sampled.ledger.install(prepared);
 }
 
-/// The record behind the first `closed` ones closes its ledger, or says why it doesn't.
+/// The record after the first `closed` ones closes its ledger, or says why it doesn't.
 fn close_next<L: Count>(
     alloc: Global,
     seed: u32,
@@ -107,7 +107,7 @@ fn close_next<L: Count>(
     steps: &mut Steps<L>,
 ) -> Result<(), CloseFault>
     requires few { closed < 20000 }
-    requires come { HasCome seed closed sampled.old.ledger.state sampled.old.transactions sampled.old.successes }
+    requires reached { HasReached seed closed sampled.old.ledger.state sampled.old.transactions sampled.old.successes }
     ensures { Advances seed closed sampled.old.ledger.state sampled.new.ledger.state sampled.new.transactions
         sampled.new.successes result }
 {
@@ -150,7 +150,7 @@ fn write_sample<O: Sink>(
     }
 }
 
-/// Closes 1 to 20000 ledgers of the sample of a seed, in memory alone, and writes what they come to as one line.
+/// Closes 1 to 20000 ledgers of the sample of a seed, in memory alone, and writes what they yield as one line.
 pub(crate) fn sample<O: Sink, L: Count>(
     alloc: Global,
     seed: u32,

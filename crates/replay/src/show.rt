@@ -51,7 +51,7 @@ pub(crate) fn show<O: Sink, V: Volume, L: Count>(
     steps: &mut Steps<L>,
 ) -> Status
     ensures { spec.Shows (seen O.taken O.faults out.old out.new)
-        (seen_volume V.tells V.disk V.faults vol.old vol.new) result }
+        (seen_volume V.reports V.disk V.faults vol.old vol.new) result }
 {
     match open(alloc, vol, steps) {
         Ok(opened) => show_opened(alloc, &opened, out),

@@ -1,4 +1,4 @@
-//! The start image at the front of an input.
+//! The start image that an input begins with.
 
 ghost use Rattle.std.specs.Prelude.{◌≡◌, [], MatchResult};
 ghost use Rattle.xdr_core.specs.Format.{IsBytes};
@@ -23,9 +23,9 @@ pub(crate) struct Started {
     pub(crate) at: usize,
 }
 
-/// An image, and how long its spelling is.
+/// An image, and how long its encoding is.
 #[derive(Drop)]
-pub(crate) struct FrontImage {
+pub(crate) struct PrefixImage {
     pub(crate) image: StartImage,
     pub(crate) at: usize,
 }
@@ -40,15 +40,15 @@ fn bad_image(text: &[u8], fault: XdrFault) -> Status
     }
 }
 
-/// Reads the image at the front of the input. Behind it other bytes may be ahead.
+/// Reads the image at the start of the input. After it other bytes may be ahead.
 pub(crate) fn read_image<I: Source>(
     alloc: Global,
     input: &mut I,
     ahead: &mut Vec<u8>,
-) -> Result<FrontImage, Status>
+) -> Result<PrefixImage, Status>
     requires { ahead.old.items ≡ [] }
     ensures { MatchResult result
-        (λ front. Cut front.image front.at ahead.new.items (seen I.left I.faults input.old input.new))
+        (λ prefix. Cut prefix.image prefix.at ahead.new.items (seen I.left I.faults input.old input.new))
         (λ end. IsUncut (seen I.left I.faults input.old input.new) end) }
 {
     let at = match read_piece::<ImageLength, I>(input, ahead) {
@@ -62,7 +62,7 @@ pub(crate) fn read_image<I: Source>(
     let Ok(image) = take_image(alloc, ahead) else {
         return Err(Status::NoMemory);
     };
-    Ok(FrontImage { image, at })
+    Ok(PrefixImage { image, at })
 }
 
 /// The ledger of an image on the network with this passphrase, or the end of a run from it.
@@ -79,7 +79,7 @@ pub(crate) fn judge(passphrase: &str, image: StartImage) -> Result<Ledger, Statu
     }
 }
 
-/// The ledger of the image at the front of the input, on the network with this passphrase.
+/// The ledger of the image at the start of the input, on the network with this passphrase.
 pub(crate) fn start<I: Source>(
     alloc: Global,
     passphrase: &str,
@@ -92,7 +92,7 @@ pub(crate) fn start<I: Source>(
         (seen I.left I.faults input.old input.new))
         (λ end. IsUnstarted passphrase.now (seen I.left I.faults input.old input.new) end) }
 {
-    let FrontImage { image, at } = read_image(alloc, input, ahead)?;
+    let PrefixImage { image, at } = read_image(alloc, input, ahead)?;
     match judge(passphrase, image) {
         Ok(ledger) => Ok(Started { ledger, at }),
         Err(end) => Err(end),

@@ -1,4 +1,4 @@
-//! A run over a store.
+//! Keeping records in a store: the keeper of a run over one.
 
 ghost use Rattle.std.specs.Prelude.{◌≡◌, ◌≤◌, ℕ, List, Ok, IfOk, OnOk, length, false};
 ghost use Rattle.outside.specs.Streams.{HasCause};
@@ -14,7 +14,7 @@ use outside::{Failed, Volume};
 use std::alloc::{AllocError, Global};
 use worker_merges::ledger_close::Ledger;
 
-/// A store that keeps the records of a run. Behind each ledger whose successor's number 64 divides it goes on to the
+/// A store that keeps the records of a run. After each ledger whose successor's number 64 divides it goes on to the
 /// next epoch.
 #[derive(Drop)]
 pub(crate) struct Stored {

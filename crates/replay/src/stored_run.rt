@@ -54,7 +54,7 @@ fn image_status(fault: ImageFault, epoch: u64) -> Status
     }
 }
 
-/// The ledger to which an image and the records behind it come.
+/// The ledger that an image and the records after it yield.
 fn restore<L: Count>(
     image: StartImage,
     network: Hash,
@@ -73,9 +73,9 @@ fn restore<L: Count>(
     match close_again(&mut ledger, closes, steps) {
         Ok(()) => Ok(ledger),
         Err(AgainFault::NoMemory) => Err(Status::NoMemory),
-        Err(AgainFault::Refused { place }) => Err(Status::BadStore {
+        Err(AgainFault::Refused { offset }) => Err(Status::BadStore {
             file: 2 + (epoch % 2) as u8,
-            place,
+            place: offset,
         }),
     }
 }
@@ -87,7 +87,7 @@ pub(crate) fn open<V: Volume, L: Count>(
     steps: &mut Steps<L>,
 ) -> Result<Opened, Status>
     ensures works { IfOk result (λ o. o.keeper.store.failed ≡ false) }
-    ensures opens { V.tells → spec.OpensSo (λ o. spec.IsOpened o.records o.ledger.state o.keeper.store (V.disk vol.new))
+    ensures opens { V.reports → spec.OpensSo (λ o. spec.IsOpened o.records o.ledger.state o.keeper.store (V.disk vol.new))
         (V.disk vol.old).reads (V.disk vol.new).reads result }
     ensures runs { Runs Same (V.disk vol.old) (V.disk vol.new) }
     ensures later { V.faults vol.old ≤ V.faults vol.new }
@@ -122,7 +122,7 @@ pub(crate) fn run_stored<I: Source, O: Sink, V: Volume, L: Count>(
     steps: &mut Steps<L>,
 ) -> Status
     ensures { spec.RanStored (seen I.left I.faults input.old input.new) (seen O.taken O.faults out.old out.new)
-        (seen_volume V.tells V.disk V.faults vol.old vol.new) result }
+        (seen_volume V.reports V.disk V.faults vol.old vol.new) result }
 {
     match open(alloc, vol, steps) {
         Ok(mut opened) => {

@@ -1,6 +1,5 @@
 -- How far from 0 reserves may be.
-use Rattle.std.proofs.Common.{ℕ, suc, ◌^◌, ◌<◌, ℤ, pos, negsuc, neg_ℤ, ◌-ℤ◌, ◌*ℤ◌, ◌≤ℤ◌, arith}
-use Rattle.std.proofs.lemmas.Int.{ints}
+use Rattle.reserve_rules.proofs.Prelude.{ℕ, suc, ◌^◌, ◌<◌, ℤ, pos, negsuc, neg_ℤ, ◌-ℤ◌, ◌*ℤ◌, ◌≤ℤ◌, arith, ints}
 use Rattle.std.proofs.lemmas.Nat.{mul-le}
 
 -- at most 2^35 reserves either way, of less than 2^32 stroops each

@@ -1,5 +1,5 @@
 -- When a change is refused.
-use Rattle.std.proofs.Common.{◌≡◌, ◌↔◌, ℤ, subst}
+use Rattle.reserve_rules.proofs.Prelude.{◌≡◌, ◌↔◌, ℤ, subst}
 use Rattle.reserve_rules.specs.Reserve.{Passes}
 
 -- what is said of the numbers that were passed on holds of those that they equal

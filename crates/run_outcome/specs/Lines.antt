@@ -16,7 +16,7 @@ use Rattle.close_rules.specs.declared.close_fault.CloseFault.{CloseFault}
 use Rattle.close_rules.specs.declared.close_fault.CloseFault.TheVariants as fault
 use Rattle.run_outcome.specs.Statuses.{ended_line}
 
--- a space in front
+-- a space before it
 abbrev pub spaced : List ℕ → List ℕ
 spaced text = 32 ∷ text
 
@@ -63,7 +63,7 @@ unfoldable pub ledger_line : LedgerHeader → List ℕ
 ledger_line header =
     ended_line (codes "ledger " ++ decimal header.ledger_seq ++ spaced (hash_text (ledger_hash_of header)))
 
--- `epoch <epoch> records <records behind its image>`
+-- `epoch <epoch> records <records after its image>`
 unfoldable pub epoch_line : (epoch records : ℕ) → List ℕ
 epoch_line epoch records = ended_line (codes "epoch " ++ decimal epoch ++ codes " records " ++ decimal records)
 
@@ -101,7 +101,7 @@ kind_name kind.BadMark = codes "BadMark"
 kind_name kind.Trailing = codes "Trailing"
 kind_name kind.TooDeep = codes "TooDeep"
 
--- the name of a fault and its values, each behind a space (memory is no fault of a record)
+-- the name of a fault and its values, each after a space (memory is no fault of a record)
 unfoldable pub fault_text : CloseFault → List ℕ
 fault_text (fault.BadXdr at kind) = codes "BadXdr" ++ spaced (decimal at) ++ spaced (kind_name kind)
 fault_text fault.SeqEnd = codes "SeqEnd"

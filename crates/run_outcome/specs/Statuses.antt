@@ -12,7 +12,7 @@ status_code status.Refused = 3
 status_code status.ReadFault = 4
 status_code status.WriteFault = 5
 status_code status.DiskFault = 6
-status_code (status.BadStore file place) = 7
+status_code (status.BadStore file offset) = 7
 status_code status.NoMemory = 8
 status_code (status.BadInput at) = 9
 status_code (status.BadImage rule) = 10
@@ -31,14 +31,14 @@ status_line status.Refused = []
 status_line status.ReadFault = ended_line (codes "read fault")
 status_line status.WriteFault = ended_line (codes "write fault")
 status_line status.DiskFault = ended_line (codes "disk fault")
-status_line (status.BadStore file place) = ended_line (codes "bad store at " ++ decimal file ++ 32 ∷ decimal place)
+status_line (status.BadStore file offset) = ended_line (codes "bad store at " ++ decimal file ++ 32 ∷ decimal offset)
 status_line status.NoMemory = ended_line (codes "no memory")
 status_line (status.BadInput at) = ended_line (codes "bad input at " ++ decimal at)
 status_line (status.BadImage rule) = ended_line (codes "bad image rule " ++ decimal (number_of rule))
 status_line status.Missing = ended_line (codes "missing")
 status_line status.AlreadyThere = ended_line (codes "already there")
 
--- the ends at which the output may stop before the whole text
+-- the ends at which the output may stop before the text is complete
 abbrev pub IsCutShort : Status → Type 0
 IsCutShort status.ReadFault = Unit {0}
 IsCutShort status.WriteFault = Unit {0}

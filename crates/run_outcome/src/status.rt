@@ -20,7 +20,7 @@ pub enum Status {
     WriteFault,
     /// 6: a call on the volume failed.
     DiskFault,
-    /// 7: what is open on the volume is no store, at this place of this file.
+    /// 7: what is open on the volume is no store, at this offset of this file.
     BadStore { file: u8, place: u64 },
     /// 8: memory was refused.
     NoMemory,

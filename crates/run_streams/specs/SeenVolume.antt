@@ -4,8 +4,8 @@ use Rattle.outside.specs.Streams.{Rose}
 use Rattle.outside.specs.Disk.{Image, Disk}
 
 pub record SeenVolume : Type 1 where
-  -- inhabited where the volume tells its bytes
-  pub tells : Type 0
+  -- inhabited where the volume reports its bytes
+  pub reports : Type 0
   pub before : Disk
   pub now : Disk
   pub faults_before : ℕ
@@ -13,10 +13,10 @@ pub record SeenVolume : Type 1 where
   -- it is the very value that it was: no call changed it
   pub same : Type 0
 
-abbrev pub seen_volume : {V : Type 0} → (tells : Type 0) → (V → Disk) → (V → ℕ) → V → V → SeenVolume
-seen_volume tells disk faults old new =
+abbrev pub seen_volume : {V : Type 0} → (reports : Type 0) → (V → Disk) → (V → ℕ) → V → V → SeenVolume
+seen_volume reports disk faults old new =
     record {
-      tells = tells;
+      reports = reports;
       before = disk old;
       now = disk new;
       faults_before = faults old;

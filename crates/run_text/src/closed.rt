@@ -14,7 +14,7 @@ use ledger_types::{Hash, LedgerHeader};
 use op_types::{Coded, TransactionOutcome, TransactionResultPair};
 use std::alloc::{AllocError, Global};
 
-/// Puts the code of how a transaction ended at the end of a text, behind a space.
+/// Puts the code of how a transaction ended at the end of a text, after a space.
 fn push_code_word(
     alloc: Global,
     text: &mut Vec<u8>,
@@ -120,7 +120,7 @@ pub fn closed_text(
     Ok(text)
 }
 
-/// The line at the end of the input, behind the last ledger, whose header has the hash `digest`.
+/// The line at the end of the input, after the last ledger, whose header has the hash `digest`.
 #[tactic(auto, unfolding(run_outcome::specs::Lines::end_line))]
 pub fn end_text(alloc: Global, header: &LedgerHeader, digest: &Hash) -> Result<Vec<u8>, AllocError>
     requires { digest.now ≡ ledger_hash_of header.now }

@@ -7,7 +7,7 @@ ghost use Rattle.run_outcome.specs.Lines.{spaced, hash_text};
 use ledger_types::Hash;
 use std::alloc::{AllocError, Global};
 
-/// Puts a word at the end of a text, behind a space.
+/// Puts a word at the end of a text, after a space.
 pub(crate) fn push_word(text: &mut Vec<u8>, word: &[u8]) -> Result<(), AllocError>
     ensures { OnOk result (text.new.items ≡ text.old.items ++ spaced word.now) }
 {
@@ -23,7 +23,7 @@ pub(crate) fn push_number(alloc: Global, text: &mut Vec<u8>, number: u128) -> Re
     text.extend_from_slice(digits.as_bytes())
 }
 
-/// Puts a number at the end of a text, behind a space.
+/// Puts a number at the end of a text, after a space.
 pub(crate) fn push_number_word(
     alloc: Global,
     text: &mut Vec<u8>,
@@ -35,7 +35,7 @@ pub(crate) fn push_number_word(
     push_word(text, digits.as_bytes())
 }
 
-/// Puts a number with its sign at the end of a text, behind a space.
+/// Puts a number with its sign at the end of a text, after a space.
 pub(crate) fn push_signed_word(
     alloc: Global,
     text: &mut Vec<u8>,
@@ -55,7 +55,7 @@ pub(crate) fn push_hash(alloc: Global, text: &mut Vec<u8>, digest: &Hash) -> Res
     text.extend_from_slice(digits.as_bytes())
 }
 
-/// Puts a hash at the end of a text, behind a space.
+/// Puts a hash at the end of a text, after a space.
 pub(crate) fn push_hash_word(
     alloc: Global,
     text: &mut Vec<u8>,

@@ -88,7 +88,7 @@ fn push_bad_xdr(
     push_word(text, kind_name(kind))
 }
 
-/// Puts a fault and its values at the end of a text, behind a space.
+/// Puts a fault and its values at the end of a text, after a space.
 #[tactic(auto, unfolding(run_outcome::specs::Lines::fault_text))]
 fn push_fault(alloc: Global, text: &mut Vec<u8>, fault: CloseFault) -> Result<(), AllocError>
     ensures { OnOk result (text.new.items ≡ text.old.items ++ spec.spaced (spec.fault_text fault)) }
@@ -134,7 +134,7 @@ fn push_fault(alloc: Global, text: &mut Vec<u8>, fault: CloseFault) -> Result<()
     }
 }
 
-/// The line of a record that doesn't close the ledger behind `header`.
+/// The line of a record that doesn't close the ledger after `header`.
 #[tactic(auto, unfolding(run_outcome::specs::Lines::refused_line))]
 pub fn refused_text(
     alloc: Global,

@@ -72,7 +72,7 @@ fn push_entries_line(alloc: Global, text: &mut Vec<u8>, entries: usize) -> Resul
 }
 
 /// The lines of a ledger with so many entries, whose header has the hash `digest`, and of the store that keeps it: its
-/// epoch, and how many records stand behind the image of that.
+/// epoch, and how many records follow the image of that.
 #[tactic(auto, unfolding(run_outcome::specs::Lines::shown_lines))]
 pub fn shown_text(
     alloc: Global,

@@ -20,13 +20,13 @@ fn numbered_line(alloc: Global, text: &[u8], number: u128) -> Result<Vec<u8>, Al
 }
 
 /// The line of a fault of a store.
-pub fn bad_store_line(alloc: Global, file: u8, place: u64) -> Result<Vec<u8>, AllocError>
-    ensures { IfOk result (λ line. line.items ≡ spec.status_line (status.BadStore file place)) }
+pub fn bad_store_line(alloc: Global, file: u8, index: u64) -> Result<Vec<u8>, AllocError>
+    ensures { IfOk result (λ line. line.items ≡ spec.status_line (status.BadStore file index)) }
 {
     let mut line = b"bad store at ".to_vec(alloc)?;
     push_number(alloc, &mut line, u128::from(file))?;
     line.push(b' ')?;
-    push_number(alloc, &mut line, u128::from(place))?;
+    push_number(alloc, &mut line, u128::from(index))?;
     line.push(b'\n')?;
     Ok(line)
 }

@@ -1,19 +1,12 @@
 -- The first accounts are plain: nobody sponsors, and their subentries are their signers.
-use Rattle.std.proofs.Common.{◌≡◌, ◌≢◌, ℕ, zero, suc, ◌<◌, ◌≤◌, true, false, [], ◌∷◌, Option, Some, None, pos}
-use Rattle.std.proofs.Common.{refl, arith, ◌==◌}
-use Rattle.std.proofs.lemmas.Int.{ints}
-use Rattle.std.proofs.lemmas.List.Elements.{All-nil, All-cons}
-use Rattle.std.specs.Prelude.{if◌then◌else◌}
-use Rattle.std.specs.List.{AllPairs}
-use Rattle.std.specs.declared.cmp.Ordering.TheVariants.{Less}
-use Rattle.sample_ledger.specs.ledger_types.declared.ids.AccountId.{AccountId}
+use Rattle.sample_laws.proofs.Prelude.{◌≡◌, ◌≢◌, ℕ, zero, suc, ◌<◌, ◌≤◌, true, false, [], ◌∷◌, Option, Some, None, pos}
+use Rattle.sample_laws.proofs.Prelude.{refl, arith, ◌==◌, ints, All-nil, All-cons, if◌then◌else◌, AllPairs, Less}
+use Rattle.sample_laws.proofs.Prelude.{AccountId, signer_key_cmp, IsPlainAccount, account_id, account_entry}
+use Rattle.sample_laws.proofs.Prelude.{ledger_entry, signer_of, flags_of}
 use Rattle.sample_ledger.specs.ledger_types.declared.signer.Signer.{Signer}
 use Rattle.sample_ledger.specs.ledger_types.declared.signer.SignerKey.TheVariants as signer
-use Rattle.sample_ledger.specs.ledger_types.KeyOrder.{signer_key_cmp}
 use Rattle.legal_rules.specs.valid_values.Texts.{is_valid_text}
 use Rattle.legal_rules.specs.Ranges.{AreAccountFlags, AreSignersInRange, IsAccountInRange}
-use Rattle.legal_rules.specs.FirstStates.{IsPlainAccount}
-use Rattle.sample_ledger.specs.Accounts.{account_id, account_entry, ledger_entry, signer_of, flags_of}
 
 flags_in_range : (account : ℕ) → AreAccountFlags (flags_of account)
 flags_in_range account = elim (account == 0) as (λ b. AreAccountFlags (if b then 10 else 0)) [

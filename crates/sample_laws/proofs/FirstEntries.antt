@@ -1,32 +1,17 @@
--- What stands in the map of the first accounts: the entries that are made from their numbers, and their lumens.
-use Rattle.std.proofs.Common.{◌≡◌, ◌≢◌, ℕ, zero, suc, ◌+◌, ◌*◌, ◌<◌, ◌≤◌, cond, List, []}
-use Rattle.std.proofs.Common.{◌∷◌, ◌++◌, length, map, take, get_or}
-use Rattle.std.proofs.Common.{Option, Some, None, ℤ, pos, ◌+ℤ◌, refl, sym, ap, subst, ◌∙◌, arith}
-use Rattle.std.proofs.lemmas.Int.{ints}
-use Rattle.std.proofs.lemmas.List.{length-take-le}
-use Rattle.std.specs.List.{AllByRecursion, range_with_len}
-use Rattle.std.specs.declared.cmp.Ordering.TheVariants.{Less, Equal, Greater}
-use Rattle.std.specs.Ordering.{is_eq}
-use Rattle.std.specs.Prelude.{codes}
-use Rattle.std.specs.FinMap.{get, get-from_entries}
-use Rattle.std.specs.FinMap.Entries.{find}
-use Rattle.sha2.specs.Sha256.{sha256}
-use Rattle.sha2.proofs.Facts256.{length-sha256}
+-- What is in the map of the first accounts: the entries that are made from their numbers, and their lumens.
+use Rattle.sample_laws.proofs.Prelude.{◌≡◌, ◌≢◌, ℕ, zero, suc, ◌+◌, ◌*◌, ◌<◌, ◌≤◌, cond, List, [], ◌∷◌, ◌++◌, length}
+use Rattle.sample_laws.proofs.Prelude.{map, take, get_or, Option, Some, None, ℤ, pos, ◌+ℤ◌, refl, sym, ap, subst, ◌∙◌}
+use Rattle.sample_laws.proofs.Prelude.{arith, ints, length-take-le, AllByRecursion, range_with_len, Less, Equal}
+use Rattle.sample_laws.proofs.Prelude.{Greater, is_eq, codes, get, get-from_entries, find, sha256, length-sha256}
+use Rattle.sample_laws.proofs.Prelude.{LedgerEntry, LedgerKey, key_of, key_cmp, keys_total, keys_exact, EntryMap, put}
+use Rattle.sample_laws.proofs.Prelude.{account_at, account_of, HasAccount, sample_text, key_bytes, account_id}
+use Rattle.sample_laws.proofs.Prelude.{account_entry, ledger_entry, keyed_entry, entries_of, first_entries}
 use Rattle.sample_ledger.specs.ledger_types.declared.asset.Asset.TheVariants as asset
-use Rattle.sample_ledger.specs.ledger_types.declared.entry.LedgerEntry.{LedgerEntry}
-use Rattle.sample_ledger.specs.ledger_types.declared.key.LedgerKey.{LedgerKey}
 use Rattle.sample_ledger.specs.ledger_types.declared.key.LedgerKey.TheVariants as key
-use Rattle.sample_ledger.specs.ledger_types.Keys.{key_of}
-use Rattle.sample_ledger.specs.ledger_types.KeyOrder.{key_cmp}
-use Rattle.sample_ledger.proofs.ledger_types_proofs.KeyOrdering.{keys_total, keys_exact}
-use Rattle.account_laws.specs.entry_map.EntryMap.{EntryMap, put}
-use Rattle.account_laws.specs.entry_slots.Accounts.{account_at, account_of, HasAccount}
 use Rattle.legal_rules.specs.entry_sums.Sums.{EachEntry, part, total}
-use Rattle.legal_rules.proofs.entry_sums_proofs.Lookups.{put_there, put_elsewhere}
 use Rattle.legal_rules.proofs.entry_sums_proofs.Summing.{total_put, total_none}
 use Rattle.legal_rules.specs.Supply.{held}
-use Rattle.sample_ledger.specs.Accounts.{sample_text, key_bytes, account_id, account_entry, ledger_entry}
-use Rattle.sample_ledger.specs.Samples.{keyed_entry, entries_of, first_entries}
+use Rattle.legal_rules.proofs.entry_map_proofs.Lookups.{put_elsewhere, put_there}
 
 -- ---- what holds of each
 
@@ -67,7 +52,7 @@ pub each_first : (P : LedgerKey → LedgerEntry → Type 0) (seed : ℕ)
     → ((a : ℕ) → a < 9 → P (key_of (ledger_entry seed a)) (ledger_entry seed a)) → EachEntry P (first_entries seed)
 each_first P seed all = each_entry P seed 0 9 (λ a low high. all a high)
 
--- ---- numbers tell keys apart
+-- ---- numbers distinguish keys
 
 last_item : (xs : List ℕ) (a n : ℕ) → length xs ≡ n → get_or (xs ++ a ∷ []) n 0 ≡ a
 last_item [] a zero is = refl
@@ -144,23 +129,23 @@ first_lumens seed = lumens_of_all seed 0 9
 
 -- ---- accounts
 
-stands : (seed a from d n : ℕ) → a ≡ from + d → d < n
+exists : (seed a from d n : ℕ) → a ≡ from + d → d < n
     → get (entries_of seed from n) (key_of (ledger_entry seed a)) ≡ Some (ledger_entry seed a)
-stands seed a from d zero is below = absurd (omega (arith, below))
-stands seed a from zero (suc n) is below =
+exists seed a from d zero is below = absurd (omega (arith, below))
+exists seed a from zero (suc n) is below =
     let same : from ≡ a = omega (arith, is) in
     subst (λ (b : ℕ). get (entries_of seed from (suc n)) (key_of (ledger_entry seed b)) ≡ Some (ledger_entry seed b))
     same
     (ap (λ (m : EntryMap). get m (key_of (ledger_entry seed from))) (one_more seed from n)
     ∙ put_there (entries_of seed (from + 1) n) (ledger_entry seed from))
-stands seed a from (suc d) (suc n) is below =
+exists seed a from (suc d) (suc n) is below =
     let k = key_of (ledger_entry seed a) in
     ap (λ (m : EntryMap). get m k) (one_more seed from n)
     ∙ put_elsewhere (entries_of seed (from + 1) n) (ledger_entry seed from) k
     (λ same. omega (arith, is, same_number seed a from same))
-    ∙ stands seed a (from + 1) d n (omega (arith, is)) (omega (arith, below))
+    ∙ exists seed a (from + 1) d n (omega (arith, is)) (omega (arith, below))
 
 pub first_accounts : (seed account : ℕ) → account < 9 → HasAccount (first_entries seed) (account_id seed account)
 unfolding account_at
 first_accounts seed account below =
-    (account_entry seed account, ap account_of (stands seed account 0 account 9 (omega arith) below))
+    (account_entry seed account, ap account_of (exists seed account 0 account 9 (omega arith) below))

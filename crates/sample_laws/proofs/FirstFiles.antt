@@ -1,24 +1,14 @@
 -- The first file is that of a bucket, and short.
-use Rattle.std.proofs.Common.{◌≡◌, ℕ, zero, suc, ◌-◌, ◌*◌, ◌<◌, ◌≤◌, List, [], ◌∷◌, ◌++◌, length, map, replicate, Some}
-use Rattle.std.proofs.Common.{None, refl, sym, ap, subst, ◌∙◌, arith, add-one, length-append}
+use Rattle.sample_laws.proofs.Prelude.{◌≡◌, ℕ, zero, suc, ◌-◌, ◌*◌, ◌<◌, ◌≤◌, List, [], ◌∷◌, ◌++◌, length, map}
+use Rattle.sample_laws.proofs.Prelude.{replicate, Some, None, refl, sym, ap, subst, ◌∙◌, arith, add-one, length-append}
+use Rattle.sample_laws.proofs.Prelude.{AllByRecursion, flat_map, Less, Equal, Greater, entries, by_order, AccountId}
+use Rattle.sample_laws.proofs.Prelude.{LedgerEntry, account_cmp, changed, IsEncodable, HasFile, file_of, empty_pair}
+use Rattle.sample_laws.proofs.Prelude.{account_id, ledger_entry, changes_of, first_bucket, levels_with, as_change}
+use Rattle.sample_laws.proofs.Prelude.{item_encodable, item_record_short, meta_record_short}
 use Rattle.std.proofs.lemmas.List.Sums.{sum_by-cons}
-use Rattle.std.specs.List.{AllByRecursion, flat_map}
-use Rattle.std.specs.declared.cmp.Ordering.TheVariants.{Less, Equal, Greater}
-use Rattle.std.specs.FinMap.{entries}
-use Rattle.std.specs.FinMap.Entries.{by_order}
-use Rattle.sample_ledger.specs.ledger_types.declared.ids.AccountId.{AccountId}
-use Rattle.sample_ledger.specs.ledger_types.declared.entry.LedgerEntry.{LedgerEntry}
 use Rattle.sample_ledger.specs.ledger_types.declared.bucket.BucketEntry.TheVariants as item
-use Rattle.sample_ledger.specs.ledger_types.KeyOrder.{account_cmp}
-use Rattle.sample_ledger.specs.shared_tree.Rows.{changed}
-use Rattle.account_laws.specs.bucket_items.MarkedItem.{record_of, IsSpellable}
-use Rattle.sample_ledger.specs.bucket_core.File.{HasFile, file_of}
-use Rattle.sample_ledger.specs.bucket_levels.Pairs.{empty_pair}
+use Rattle.account_laws.specs.bucket_items.MarkedItem.{record_of}
 use Rattle.sample_ledger.specs.bucket_levels.Size.{file_total, pair_size}
-use Rattle.sample_ledger.specs.Accounts.{account_id, ledger_entry}
-use Rattle.sample_ledger.specs.Image.{changes_of, first_bucket, levels_with}
-use Rattle.sample_ledger.specs.Rows.{as_change}
-use Rattle.sample_ledger.proofs.Entries.{item_spellable, item_record_short, meta_record_short}
 use Rattle.sample_ledger.proofs.Rows.{Row, init_record, next_row, no_changes, has_file, file_is}
 
 -- ---- the accounts in the order of their ids
@@ -90,7 +80,7 @@ pub first_has_file : (seed : ℕ) → HasFile (first_bucket seed)
 unfolding IsOfEach
 first_has_file seed =
     has_file seed (row_of seed 9) (row_is seed 9 (omega arith))
-    (each_in (λ e. IsSpellable (item.Init e)) seed 9 (λ a below. item_spellable seed a below))
+    (each_in (λ e. IsEncodable (item.Init e)) seed 9 (λ a below. item_encodable seed a below))
 
 IsRecordShort : LedgerEntry → Type 0
 IsRecordShort e = length (init_record e) ≤ 152
@@ -111,13 +101,13 @@ first_file_len : (seed : ℕ) → length (file_of (first_bucket seed)) ≤ 2000
 unfolding IsRecordShort
 first_file_len seed =
     let row = row_of seed 9 in
-    let behind = flat_map (λ (x : AccountId × LedgerEntry). init_record x.1) row in
-    let is : length (file_of (first_bucket seed)) ≡ length (record_of (item.Meta 18) ++ behind) =
+    let after = flat_map (λ (x : AccountId × LedgerEntry). init_record x.1) row in
+    let is : length (file_of (first_bucket seed)) ≡ length (record_of (item.Meta 18) ++ after) =
     ap (λ (bytes : List ℕ). length bytes) (file_is seed row (row_is seed 9 (omega arith))) in
     omega (
       arith,
       is,
-      length-append (record_of (item.Meta 18)) behind,
+      length-append (record_of (item.Meta 18)) after,
       meta_record_short,
       records_len row (each_in IsRecordShort seed 9 (λ a below. item_record_short seed a below)),
       row_len seed 9,

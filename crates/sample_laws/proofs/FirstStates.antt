@@ -1,29 +1,20 @@
--- A ledger closes from the first state of a sample, and the image stands for it.
-use Rattle.std.proofs.Common.{◌≡◌, ℕ, [], ◌∷◌, pos, refl, arith}
-use Rattle.std.proofs.lemmas.Int.{ints}
-use Rattle.std.proofs.lemmas.List.Elements.{All-from_recursion}
-use Rattle.std.specs.Prelude.{None}
-use Rattle.sha2.proofs.Facts256.{length-sha256}
-use Rattle.sample_ledger.specs.ledger_types.Keys.{key_of}
-use Rattle.sample_ledger.specs.xdr_header.Header.{ledger_header}
-use Rattle.account_laws.specs.entry_changes.Spellable.{AreSpellable, IsEntrySpellable}
+-- A ledger closes from the first state of a sample, and the image represents it.
+use Rattle.sample_laws.proofs.Prelude.{◌≡◌, ℕ, [], ◌∷◌, pos, refl, arith, ints, All-from_recursion, length-sha256}
+use Rattle.sample_laws.proofs.Prelude.{key_of, ledger_header, IsPlainAccount, PlainStatesAreLegal, HasFile, Pair}
+use Rattle.sample_laws.proofs.Prelude.{empty_pair, IsEncoded, IsClosingState, first_bucket, first_header, first_image}
+use Rattle.sample_laws.proofs.Prelude.{levels_with, first_entries, first_state, FirstStatesClose, entry_short}
+use Rattle.account_laws.specs.entry_changes.Encodable.{AreEncodable, IsEntryEncodable}
 use Rattle.legal_rules.specs.Headers.{IsHeaderInRange}
 use Rattle.legal_rules.specs.Legal.{IsLegal}
-use Rattle.legal_rules.specs.FirstStates.{IsPlainAccount, PlainStatesAreLegal}
-use Rattle.sample_ledger.specs.bucket_core.File.{HasFile}
-use Rattle.sample_ledger.specs.bucket_levels.Pairs.{Pair, empty_pair}
-use Rattle.sample_ledger.specs.close_rules.State.{IsSpelled, IsClosingState}
 use Rattle.sample_ledger.specs.close_rules.Images.{AreFilesOf}
-use Rattle.account_laws.specs.close_laws.Images.{ImagesStandForStates}
-use Rattle.sample_ledger.specs.Image.{first_bucket, first_header, first_image, levels_with}
-use Rattle.sample_ledger.specs.Samples.{first_entries, first_state, FirstStatesClose}
+use Rattle.account_laws.specs.close_laws.Images.{ImagesRepresentStates}
 use Rattle.sample_ledger.proofs.Bytes.{hash_fits}
-use Rattle.sample_ledger.proofs.Entries.{entry_short}
 use Rattle.sample_ledger.proofs.Headers.{header_within, header_sized}
 use Rattle.sample_laws.proofs.FirstEntries.{each_first, first_lumens}
 use Rattle.sample_laws.proofs.FirstAccounts.{plain_account}
-use Rattle.sample_laws.proofs.FirstLevels.{first_marks, first_standing}
+use Rattle.sample_laws.proofs.FirstLevels.{first_marks, first_represent}
 use Rattle.sample_laws.proofs.FirstFiles.{first_has_file, first_files_len}
+use Rattle.sample_ledger.proofs.bucket_core_proofs.Files.{nothing_has_file}
 
 header_in_range : (seed : ℕ) → IsHeaderInRange (first_header seed)
 header_in_range seed = record {
@@ -38,8 +29,8 @@ header_in_range seed = record {
   flags = omega arith;
 }
 
-header_spelled : (seed : ℕ) → IsSpelled ledger_header (first_header seed)
-header_spelled seed = record {
+header_encoded : (seed : ℕ) → IsEncoded ledger_header (first_header seed)
+header_encoded seed = record {
   within = header_within _ (length-sha256 _);
   sized = header_sized _ (hash_fits _);
 }
@@ -51,9 +42,9 @@ legal plain_states seed =
     (each_first (λ k e. IsPlainAccount e) seed (λ a below. plain_account seed a))
     (omega (arith, ints, first_lumens seed))
 
-spellable : (seed : ℕ) → AreSpellable (first_entries seed)
-spellable seed =
-    each_first (λ k e. IsEntrySpellable e) seed (λ a below.
+encodable : (seed : ℕ) → AreEncodable (first_entries seed)
+encodable seed =
+    each_first (λ k e. IsEntryEncodable e) seed (λ a below.
     let entry = entry_short seed a below in
     record { within = entry.within; sized = entry.sized; short = omega (arith, entry.short) })
 
@@ -62,17 +53,14 @@ closing plain_states seed = record {
   legal = legal plain_states seed;
   count = refl;
   marked = first_marks seed;
-  standing = first_standing seed;
+  existing = first_represent seed;
   hash = refl;
-  header = header_spelled seed;
-  entries = spellable seed;
+  header = header_encoded seed;
+  entries = encodable seed;
   files = omega (arith, first_files_len seed);
 }
 
 -- ---- the image
-
-none_has_file : HasFile None
-none_has_file = record { keyed = λ k c there. absurd (cc there); spelled = All-from_recursion _ [] tt }
 
 Have : Pair → Type 0
 Have pair = HasFile pair.curr × HasFile pair.snap
@@ -80,17 +68,17 @@ Have pair = HasFile pair.curr × HasFile pair.snap
 files_of_levels : (seed : ℕ) → AreFilesOf (levels_with (first_bucket seed)) (first_image seed).files
 unfolding Have
 files_of_levels seed =
-    let none : Have empty_pair = (none_has_file, none_has_file) in
+    let none : Have empty_pair = (nothing_has_file, nothing_has_file) in
     record {
       count = refl;
       have = All-from_recursion Have (levels_with (first_bucket seed)) (
-        (first_has_file seed, none_has_file),
+        (first_has_file seed, nothing_has_file),
         (none, (none, (none, (none, (none, (none, (none, (none, (none, (none, tt)))))))))),
       );
       are = refl;
     }
 
-pub first_states_close : PlainStatesAreLegal → ImagesStandForStates → FirstStatesClose
+pub first_states_close : PlainStatesAreLegal → ImagesRepresentStates → FirstStatesClose
 first_states_close plain_states images seed fits = record {
   closing = closing plain_states seed;
   judged = (images (first_state seed) (first_image seed) (closing plain_states seed)

@@ -1,27 +1,21 @@
--- A record of a sample isn't refused for what it is, where its accounts stand and its number and time come next.
-use Rattle.std.proofs.Common.{◌≡◌, ℕ, zero, suc, ◌+◌, ◌*◌, ◌<◌, ◌≤◌, Bool, true, false}
-use Rattle.std.proofs.Common.{cond, List, [], ◌∷◌, map, Option}
-use Rattle.std.proofs.Common.{Some, None, refl, ap, ◌∙◌, arith, if◌then◌else◌, nat_eq, nat_le, not, is_some}
+-- A record of a sample isn't refused for what it is, where its accounts exist and its number and time come next.
+use Rattle.sample_laws.proofs.Prelude.{◌≡◌, ℕ, zero, suc, ◌+◌, ◌*◌, ◌<◌, ◌≤◌, Bool, true, false, cond, List, [], ◌∷◌}
+use Rattle.sample_laws.proofs.Prelude.{map, Option, Some, None, refl, ap, ◌∙◌, arith, nat_eq, not, is_some, slice_get}
+use Rattle.sample_laws.proofs.Prelude.{option_map, AllByRecursion, range_with_len, TransactionEnvelope, EntryMap}
+use Rattle.sample_laws.proofs.Prelude.{HasAccount, hash_of_set, ClosingState, record_fault, term_fault, upgrade_fault}
+use Rattle.sample_laws.proofs.Prelude.{set_fault, account_id, envelope_of, record_of}
+use Rattle.std.proofs.Common.{if◌then◌else◌, nat_le}
 use Rattle.std.proofs.lemmas.Bool.Decides.{nat_tests}
 use Rattle.std.proofs.lemmas.Slice.Eq.{bytes_eq-Decides}
-use Rattle.std.specs.Prelude.{slice_get, option_map}
-use Rattle.std.specs.List.{AllByRecursion, find, range_with_len}
+use Rattle.std.specs.List.{find}
 use Rattle.std.specs.Option.{option_or}
 use Rattle.std.specs.Str.{bytes_eq}
-use Rattle.sample_ledger.specs.op_types.declared.transaction.TransactionEnvelope.{TransactionEnvelope}
-use Rattle.account_laws.specs.entry_map.EntryMap.{EntryMap}
-use Rattle.account_laws.specs.entry_slots.Accounts.{HasAccount}
 use Rattle.account_laws.specs.tx_apply.Set.{lacks_fee_source, missing_among}
 use Rattle.sample_ledger.specs.value_hashes.Hashes.{ledger_hash_of}
-use Rattle.sample_ledger.specs.fee_rules.SetHash.{hash_of_set}
 use Rattle.sample_ledger.specs.fee_rules.Turns.{apply_order_of}
 use Rattle.sample_ledger.specs.close_rules.declared.close_fault.CloseFault.TheVariants as fault
-use Rattle.sample_ledger.specs.close_rules.State.{ClosingState}
-use Rattle.sample_ledger.specs.close_rules.Refusals.{record_fault, term_fault, upgrade_fault, set_fault}
-use Rattle.sample_ledger.specs.Accounts.{account_id}
-use Rattle.sample_ledger.specs.Records.{envelope_of, record_of}
 
--- where a sample stands behind its first k records
+-- where a sample is after its first k records
 pub record IsNext (seed k : ℕ) (s : ClosingState) : Type 0 where
   pub seq : s.header.ledger_seq ≡ k + 1
   pub time : s.header.scp_value.close_time ≡ 1000 + 5 * k
@@ -29,10 +23,10 @@ pub record IsNext (seed k : ℕ) (s : ClosingState) : Type 0 where
 
 -- ---- its terms
 
-passes : {F : Type 0} (b : Bool) (wrong : F) (rest : Option F) → b ≡ false → rest ≡ None
+if_some_none_from : {F : Type 0} (b : Bool) (wrong : F) (rest : Option F) → b ≡ false → rest ≡ None
     → (if b then Some wrong else rest) ≡ None
-passes true wrong rest fails passed = absurd cc
-passes false wrong rest fails passed = passed
+if_some_none_from true wrong rest fails passed = absurd cc
+if_some_none_from false wrong rest fails passed = passed
 
 same_bytes : (bytes : List ℕ) → bytes_eq bytes bytes ≡ true
 same_bytes bytes = (bytes_eq-Decides bytes bytes).1 refl
@@ -48,11 +42,11 @@ terms_pass seed k s few next =
     let closing = record_of seed (suc k) s.header in
     let previous = closing.tx_set.previous_ledger_hash in
     let digest = closing.scp_value.tx_set_hash in
-    passes _ fault.SeqEnd _ number
-    (passes _ (fault.WrongSeq (s.header.ledger_seq + 1) closing.ledger_seq) _ (ap not follows)
-    (passes _ (fault.WrongPrevious (ledger_hash_of s.header) previous) _ (ap not (same_bytes previous.0))
-    (passes _ (fault.WrongSetHash (hash_of_set closing.tx_set) digest) _ (ap not (same_bytes digest.0))
-    (passes _ (fault.StaleTime s.header.scp_value.close_time closing.scp_value.close_time) None later refl))))
+    if_some_none_from _ fault.SeqEnd _ number
+    (if_some_none_from _ (fault.WrongSeq (s.header.ledger_seq + 1) closing.ledger_seq) _ (ap not follows)
+    (if_some_none_from _ (fault.WrongPrevious (ledger_hash_of s.header) previous) _ (ap not (same_bytes previous.0))
+    (if_some_none_from _ (fault.WrongSetHash (hash_of_set closing.tx_set) digest) _ (ap not (same_bytes digest.0))
+    (if_some_none_from _ (fault.StaleTime s.header.scp_value.close_time closing.scp_value.close_time) None later refl))))
 
 -- ---- its set
 
@@ -60,12 +54,12 @@ none_found : (p : ℕ → Bool) (xs : List ℕ) → ((x : ℕ) → p x ≡ false
 none_found p [] all = refl
 none_found p (x ∷ xs) all = ap (λ b. cond b (Some x) (find p xs)) (all x) ∙ none_found p xs all
 
-at_each_place : (m : EntryMap) (txs : List TransactionEnvelope)
-    → AllByRecursion (λ whole. lacks_fee_source m (Some whole) ≡ false) txs → (place : ℕ)
-    → lacks_fee_source m (slice_get txs place) ≡ false
-at_each_place m [] all place = refl
-at_each_place m (whole ∷ others) all zero = all.0
-at_each_place m (whole ∷ others) all (suc place) = at_each_place m others all.1 place
+at_each_index : (m : EntryMap) (txs : List TransactionEnvelope)
+    → AllByRecursion (λ entire. lacks_fee_source m (Some entire) ≡ false) txs → (index : ℕ)
+    → lacks_fee_source m (slice_get txs index) ≡ false
+at_each_index m [] all index = refl
+at_each_index m (entire ∷ others) all zero = all.0
+at_each_index m (entire ∷ others) all (suc index) = at_each_index m others all.1 index
 
 has_source : (seed k account : ℕ) (m : EntryMap) → HasAccount m (account_id seed account)
     → lacks_fee_source m (Some (envelope_of seed k account)) ≡ false
@@ -74,7 +68,7 @@ has_source seed k account m there = ap (λ o. not (is_some o)) there.1
 
 have_sources : (seed k from n : ℕ) (m : EntryMap)
     → ((account : ℕ) → account < from + n → HasAccount m (account_id seed account))
-    → AllByRecursion (λ whole. lacks_fee_source m (Some whole) ≡ false)
+    → AllByRecursion (λ entire. lacks_fee_source m (Some entire) ≡ false)
     (map (envelope_of seed k) (range_with_len from n))
 have_sources seed k from zero m there = tt
 have_sources seed k from (suc n) m there = (
@@ -88,9 +82,9 @@ unfolding set_fault missing_among
 set_passes seed k s next =
     let txs = map (envelope_of seed (suc k)) (range_with_len 0 9) in
     ap (option_map fault.FeeSourceMissing)
-    (none_found (λ place. lacks_fee_source s.entries (slice_get txs place))
+    (none_found (λ index. lacks_fee_source s.entries (slice_get txs index))
     (apply_order_of (record_of seed (suc k) s.header).tx_set)
-    (at_each_place s.entries txs (have_sources seed (suc k) 0 9 s.entries next.accounts)))
+    (at_each_index s.entries txs (have_sources seed (suc k) 0 9 s.entries next.accounts)))
 
 -- ---- all of it
 

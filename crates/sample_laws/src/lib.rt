@@ -4,22 +4,22 @@
 ghost use Rattle.sample_ledger.specs.Samples as spec;
 
 use account_laws::close_laws::closes::{next_is_closing, taken_is_closable};
-use account_laws::close_laws::images::images_stand_for_states;
+use account_laws::close_laws::images::images_represent_states;
 use account_laws::closes_keep_accounts;
 use legal_rules::first_states::plain_states_are_legal;
 use sample_ledger::records_are_written;
 
-/// A ledger closes from the state of the first ledger, and the image stands for that state.
+/// A ledger closes from the state of the first ledger, and the image represents that state.
 pub fn first_states_close()
     ensures { spec.FirstStatesClose }
 {
     plain_states_are_legal();
-    images_stand_for_states();
+    images_represent_states();
 }
 
 /// A ledger closes from each state that the records of a sample give.
-pub fn samples_stand()
-    ensures { spec.SamplesStand }
+pub fn samples_close()
+    ensures { spec.SamplesClose }
 {
     first_states_close();
     records_are_written();

@@ -1,28 +1,18 @@
 -- What the operations do is short.
-use Rattle.std.proofs.Common.{ℕ, ◌<◌, ◌≤◌, ◌^◌, List, [], length, pos, Some, arith}
-use Rattle.std.proofs.lemmas.Int.{ints}
-use Rattle.std.specs.Prelude.{codes}
-use Rattle.xdr_core.specs.Format.{IsBytes}
-use Rattle.xdr_core.specs.Leaves.{u32}
-use Rattle.ledger_types.specs.declared.asset.Asset.{Asset}
+use Rattle.sample_ledger.proofs.Prelude as prelude
+use prelude.{ℕ, ◌<◌, ◌≤◌, ◌^◌, List, [], length, pos, Some, arith, ints, codes, IsBytes, u32, Asset, OperationBody}
+use prelude.{change_trust_asset, pool_params, claimable_balance_id, claimant, claimant_fields, operation_body}
+use prelude.{payment_op, manage_data_op, change_trust_op, set_options_op, liquidity_pool_deposit_op, clawback_op}
+use prelude.{create_claimable_balance_op, claim_claimable_balance_op, begin_sponsoring_future_reserves_op}
+use prelude.{manage_sell_offer_op, path_payment_strict_send_op, account_id, account_count}
 use Rattle.ledger_types.specs.declared.asset.Asset.TheVariants as asset
 use Rattle.ledger_types.specs.declared.predicate.ClaimPredicate.TheVariants as predicate
 use Rattle.ledger_types.specs.declared.predicate.ClaimPredicate.TheViews.{out-ClaimPredicate}
-use Rattle.op_types.specs.declared.operation.OperationBody.{OperationBody}
 use Rattle.op_types.specs.declared.operation.OperationBody.TheVariants as op
 use Rattle.xdr_entries.specs.Basic as basic
-use Rattle.xdr_entries.specs.Basic.{change_trust_asset, pool_params, claimable_balance_id}
 use Rattle.xdr_entries.specs.Predicates.{predicate_below, claim_predicate, level_fields, level_part, level_arms}
 use Rattle.xdr_entries.specs.Predicates.{unconditional}
-use Rattle.xdr_entries.specs.Entries.{claimant, claimant_fields}
 use Rattle.value_hashes.specs.xdr_tx.Operations as form
-use Rattle.value_hashes.specs.xdr_tx.Operations.{operation_body, payment_op, manage_data_op, change_trust_op}
-use Rattle.value_hashes.specs.xdr_tx.Operations.{set_options_op}
-use Rattle.value_hashes.specs.xdr_tx.Operations.{liquidity_pool_deposit_op, clawback_op, create_claimable_balance_op}
-use Rattle.value_hashes.specs.xdr_tx.Operations.{claim_claimable_balance_op, begin_sponsoring_future_reserves_op}
-use Rattle.value_hashes.specs.xdr_tx.Operations.{manage_sell_offer_op, path_payment_strict_send_op}
-use Rattle.sample_ledger.specs.Accounts.{account_id}
-use Rattle.sample_ledger.specs.Image.{account_count}
 use Rattle.sample_ledger.specs.Records as spec
 use Rattle.sample_ledger.proofs.Bytes.{bytes_listed, word_fits}
 use Rattle.sample_ledger.proofs.Parts as parts
@@ -89,7 +79,7 @@ pub note_short : (k : ℕ) → IsShortBody (spec.note k)
 unfolding u32
 note_short k =
     let name = codes "note" in
-    data_short name (u32.spell k) (omega arith) (bytes_listed name (omega arith)) (omega arith) (word_fits k)
+    data_short name (u32.encoding k) (omega arith) (bytes_listed name (omega arith)) (omega arith) (word_fits k)
 
 pub domain_short : IsShortBody spec.name_domain
 unfolding set_options_op
@@ -154,7 +144,7 @@ claimant_short : (seed : ℕ)
 unfolding claimant
 claimant_short seed =
     short.short_struct claimant_fields (short.short_marked (pos 0)
-    (short.short_both (id_short seed 7 (omega arith)) (short.short_whole predicate_short)))
+    (short.short_both (id_short seed 7 (omega arith)) (short.short_entire predicate_short)))
 
 pub claimable_short : (seed : ℕ) → IsShortBody (spec.claimable seed)
 unfolding create_claimable_balance_op

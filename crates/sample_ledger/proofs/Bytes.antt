@@ -1,17 +1,9 @@
 -- Keys, hashes and secrets are bytes.
-use Rattle.std.proofs.Common.{ℕ, zero, suc, ◌<◌, ◌^◌, List, [], ◌∷◌, ◌++◌, take, drop, All, arith}
-use Rattle.std.proofs.lemmas.List.Elements.{All-nil, All-cons, All-append, All-head, All-tail, All-take, All-drop}
-use Rattle.std.proofs.lemmas.List.Elements.{All-from_recursion, All-from_get_or}
-use Rattle.std.proofs.lemmas.Fmt.{IsAscii-decimal}
-use Rattle.std.specs.Prelude.{codes, slice_index}
-use Rattle.std.specs.List.{AllByRecursion, flat_map}
-use Rattle.std.specs.Fmt.{decimal}
-use Rattle.std.specs.Int.{w32, byte_at, bytes_high_first, to_be_bytes}
-use Rattle.sha2.specs.Sha256.{sha256, digest_bytes, final_hash, initial_hash_256}
-use Rattle.xdr_core.specs.Format.{IsBytes}
-use Rattle.xdr_core.specs.Leaves.{u32}
-use Rattle.sample_ledger.specs.Accounts.{sample_text, key_bytes, secret}
-use Rattle.sample_ledger.specs.Image.{account_count}
+use Rattle.sample_ledger.proofs.Prelude as prelude
+use prelude.{ℕ, zero, suc, ◌<◌, ◌^◌, List, [], ◌∷◌, ◌++◌, take, drop, All, arith, All-nil, All-cons, All-append}
+use prelude.{All-head, All-tail, All-take, All-drop, All-from_recursion, All-from_get_or, IsAscii-decimal, codes}
+use prelude.{slice_index, AllByRecursion, flat_map, decimal, w32, byte_at, bytes_high_first, to_be_bytes, sha256}
+use prelude.{digest_bytes, final_hash, initial_hash_256, IsBytes, u32, sample_text, key_bytes, secret, account_count}
 
 abbrev IsByte : ℕ → Type 0
 IsByte byte = byte < 256
@@ -35,7 +27,7 @@ word_bytes : (n x : ℕ) → All IsByte (bytes_high_first n x)
 word_bytes zero x = All-nil IsByte
 word_bytes (suc n) x = All-cons IsByte (byte_at n x) (bytes_high_first n x) (byte_below n x) (word_bytes n x)
 
-pub word_fits : (n : ℕ) → IsBytes (u32.spell n)
+pub word_fits : (n : ℕ) → IsBytes (u32.encoding n)
 unfolding u32
 word_fits n = bytes_of_all (bytes_high_first 4 n) (word_bytes 4 n)
 
@@ -67,7 +59,7 @@ key_fits seed account below =
 decimal_all : (n : ℕ) → n < 2 ^ 64 → All IsByte (decimal n)
 decimal_all n fits = All-from_get_or IsByte (decimal n) 0 (λ i within. omega (arith, IsAscii-decimal n fits i))
 
--- a number with a space in front of it, and bytes behind it
+-- a number with a space before it, and bytes after it
 number_all : (n : ℕ) (rest : List ℕ) → n < 2 ^ 64 → All IsByte rest → All IsByte (32 ∷ (decimal n ++ rest))
 number_all n rest fits all =
     All-cons IsByte 32 (decimal n ++ rest) (omega arith)
@@ -75,8 +67,8 @@ number_all n rest fits all =
 
 pub secret_fits : (seed account : ℕ) → seed < 2 ^ 32 → account < account_count → IsBytes (secret seed account)
 secret_fits seed account fits below =
-    let front = codes "sample " ++ codes "secret" in
+    let prefix = codes "sample " ++ codes "secret" in
     let numbers = flat_map (λ (number : ℕ). 32 ∷ decimal number) (seed ∷ account ∷ []) in
-    bytes_of_all (front ++ numbers) (All-append IsByte front numbers
-    (All-from_recursion IsByte front (omega arith))
+    bytes_of_all (prefix ++ numbers) (All-append IsByte prefix numbers
+    (All-from_recursion IsByte prefix (omega arith))
     (number_all seed _ (omega arith) (number_all account [] (omega arith) (All-nil IsByte))))

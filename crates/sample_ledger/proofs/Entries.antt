@@ -1,19 +1,14 @@
 -- The entry of an account can be an item of a bucket's file.
-use Rattle.std.proofs.Common.{ℕ, ◌<◌, ◌≤◌, ◌^◌, length, List, [], ◌∷◌, pos, None, refl, arith, ◌==◌, true, false}
-use Rattle.std.proofs.lemmas.Int.{ints}
-use Rattle.std.specs.Prelude.{if◌then◌else◌}
+use Rattle.sample_ledger.proofs.Prelude.{ℕ, ◌<◌, ◌≤◌, ◌^◌, length, List, [], ◌∷◌, pos, None, refl, arith, ◌==◌, true}
+use Rattle.sample_ledger.proofs.Prelude.{false, ints, if◌then◌else◌, big_bytes, u32, i32, mark, mark_word, constant}
+use Rattle.sample_ledger.proofs.Prelude.{signer, signer_fields, signer_key, signer_key_part, signer_key_arms}
+use Rattle.sample_ledger.proofs.Prelude.{signer_hash_x, account_head, account_tail, account_fields, ledger_entry_body}
+use Rattle.sample_ledger.proofs.Prelude.{entry_fields, record_of, IsEncodable, account_id, secret, signer_of, flags_of}
+use Rattle.sample_ledger.proofs.Prelude.{account_entry, ledger_entry, account_count}
 use Rattle.ledger_types.specs.declared.bucket.BucketEntry.TheVariants as item
-use Rattle.byteorder.specs.Endian.{big_bytes}
-use Rattle.xdr_core.specs.Leaves.{u32, i32, mark, mark_word}
-use Rattle.xdr_core.specs.Combinators.{constant}
 use Rattle.xdr_entries.specs.Basic as basic
-use Rattle.xdr_entries.specs.Basic.{signer, signer_fields, signer_key, signer_key_part, signer_key_arms, signer_hash_x}
-use Rattle.xdr_entries.specs.Entries.{account_head, account_tail, account_fields, ledger_entry_body, entry_fields}
 use Rattle.xdr_entries.specs.Entries as entries
 use Rattle.xdr_entries.specs.Keys.{bucket_entry, bucket_part, bucket_arms, init_arm}
-use Rattle.bucket_core.specs.bucket_items.MarkedItem.{record_of, IsSpellable}
-use Rattle.sample_ledger.specs.Accounts.{account_id, secret, signer_of, flags_of, account_entry, ledger_entry}
-use Rattle.sample_ledger.specs.Image.{account_count}
 use Rattle.sample_ledger.proofs.Bytes.{bytes_listed}
 use Rattle.sample_ledger.proofs.Parts.{id_short, hash_short}
 use Rattle.sample_ledger.proofs.Short as short
@@ -81,14 +76,14 @@ item_short : (seed account : ℕ) → account < account_count
 unfolding bucket_entry
 item_short seed account below =
     short.short_union bucket_part bucket_arms
-    (short.short_arm init_arm (short.short_whole (entry_short seed account below)))
+    (short.short_arm init_arm (short.short_entire (entry_short seed account below)))
 
--- behind its mark
+-- after its mark
 pub item_record_short : (seed account : ℕ) → account < account_count
     → length (record_of (item.Init (ledger_entry seed account))) ≤ 152
 unfolding mark
 item_record_short seed account below =
-    let text = bucket_entry.spell (item.Init (ledger_entry seed account)) in
+    let text = bucket_entry.encoding (item.Init (ledger_entry seed account)) in
     let word = mark_word (length text) in
     short.both_len (big_bytes 4 word) text 4 148 (short.bytes_len 4 word) (item_short seed account below).short
 
@@ -96,11 +91,11 @@ pub meta_record_short : length (record_of (item.Meta 18)) ≤ 16
 unfolding mark bucket_entry u32 i32 constant
 meta_record_short = omega arith
 
-pub item_spellable : (seed account : ℕ) → account < account_count → IsSpellable (item.Init (ledger_entry seed account))
-item_spellable seed account below =
-    let whole = item_short seed account below in
-    record { within = whole.within; sized = whole.sized; short = omega (arith, whole.short) }
+pub item_encodable : (seed account : ℕ) → account < account_count → IsEncodable (item.Init (ledger_entry seed account))
+item_encodable seed account below =
+    let entire = item_short seed account below in
+    record { within = entire.within; sized = entire.sized; short = omega (arith, entire.short) }
 
-pub meta_spellable : IsSpellable (item.Meta 18)
+pub meta_encodable : IsEncodable (item.Meta 18)
 unfolding bucket_entry u32 i32 constant
-meta_spellable = record { within = (tt, tt); sized = (omega arith, tt); short = omega arith }
+meta_encodable = record { within = (tt, tt); sized = (omega arith, tt); short = omega arith }

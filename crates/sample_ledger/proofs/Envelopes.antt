@@ -1,34 +1,18 @@
 -- Each transaction of a record is short, and so is the record.
-use Rattle.std.proofs.Common.{ℕ, zero, suc, ◌+◌, ◌*◌, ◌<◌, ◌≤◌, ◌^◌, List, [], ◌∷◌, length, map, pos}
-use Rattle.std.proofs.Common.{arith, ◌==◌, ◌&&◌, ◌||◌}
-use Rattle.std.specs.Prelude.{nat_le, ◌%◌, ◌/◌, codes, drop}
-use Rattle.std.specs.List.{range_with_len}
-use Rattle.sha2.specs.Sha256.{sha256}
-use Rattle.xdr_core.specs.Leaves.{var}
-use Rattle.xdr_core.specs.Xdr.{list_of}
-use Rattle.ledger_types.specs.declared.header.LedgerHeader.{LedgerHeader}
-use Rattle.op_types.specs.declared.operation.Operation.{Operation}
-use Rattle.op_types.specs.declared.operation.OperationBody.{OperationBody}
+use Rattle.sample_ledger.proofs.Prelude as prelude
+use prelude.{ℕ, zero, suc, ◌+◌, ◌*◌, ◌<◌, ◌≤◌, ◌^◌, List, [], ◌∷◌, length, map, pos, arith, ◌==◌, ◌&&◌, ◌||◌, nat_le}
+use prelude.{◌%◌, ◌/◌, codes, range_with_len, sha256, var, list_of, LedgerHeader, Operation, OperationBody}
+use prelude.{muxed_account, operation, operation_fields, decorated_signature, signature_fields, time_bounds, memo}
+use prelude.{memo_part, memo_arms, memo_none, after_source, after_source_fields, transaction, transaction_fields}
+use prelude.{transaction_v1_envelope, v1_fields, transaction_envelope, envelope_part, envelope_arms, envelope_v1}
+use prelude.{transaction_set, set_fields, stellar_value, value_fields, ledger_close_value_signature, close_record}
+use prelude.{record_fields, hash_of_set, secret, account_count, issuer_turn, drawn_turn, issuer_operations}
+use prelude.{other_operation, operations_of, signers_of, envelope_of, is_claim, if_either}
+use Rattle.std.specs.Prelude.{drop}
 use Rattle.op_types.specs.declared.transaction.Memo.TheVariants as memos
-use Rattle.xdr_entries.specs.Basic.{muxed_account}
-use Rattle.value_hashes.specs.xdr_tx.Operations.{operation, operation_fields}
-use Rattle.value_hashes.specs.xdr_tx.Transactions.{decorated_signature, signature_fields, time_bounds, memo, memo_part}
-use Rattle.value_hashes.specs.xdr_tx.Transactions.{memo_arms}
-use Rattle.value_hashes.specs.xdr_tx.Transactions.{memo_none, behind_source, behind_source_fields, transaction}
-use Rattle.value_hashes.specs.xdr_tx.Transactions.{transaction_fields, transaction_v1_envelope, v1_fields}
-use Rattle.value_hashes.specs.xdr_tx.Transactions.{transaction_envelope}
-use Rattle.value_hashes.specs.xdr_tx.Transactions.{envelope_part, envelope_arms, envelope_v1, transaction_set}
-use Rattle.value_hashes.specs.xdr_tx.Transactions.{set_fields}
-use Rattle.xdr_header.specs.Header.{stellar_value, value_fields, ledger_close_value_signature}
-use Rattle.xdr_header.specs.Records.{close_record, record_fields}
-use Rattle.fee_rules.specs.SetHash.{hash_of_set}
-use Rattle.sample_ledger.specs.Accounts.{secret}
-use Rattle.sample_ledger.specs.Image.{account_count}
 use Rattle.sample_ledger.specs.Records as spec
-use Rattle.sample_ledger.specs.Records.{issuer_turn, drawn_turn, issuer_operations, other_operation, operations_of}
-use Rattle.sample_ledger.specs.Records.{signers_of, envelope_of, is_claim}
 use Rattle.sample_ledger.proofs.Lengths.{hint_len, secret_len}
-use Rattle.sample_ledger.proofs.Few.{either, few_operations}
+use Rattle.sample_ledger.proofs.Few.{few_operations}
 use Rattle.sample_ledger.proofs.Bytes.{bytes_listed, hint_fits, secret_fits}
 use Rattle.sample_ledger.proofs.Parts.{muxed_short, hash_short, usd_short, native_short, amount_short}
 use Rattle.sample_ledger.proofs.Bodies as bodies
@@ -59,9 +43,9 @@ by_short seed account body below done =
 turn_short : (seed k : ℕ) → IsShortOperation (issuer_turn seed k)
 unfolding issuer_turn
 turn_short seed k =
-    either IsShortOperation (k % 10 == 0) _ _ (own_short _ (bodies.claw_back_short seed (1 + k / 10 % 8) (omega arith)))
-    (either IsShortOperation (k % 10 == 5) _ _ (own_short _ (bodies.claimable_short seed))
-    (either IsShortOperation (is_claim k) _ _ (by_short seed 7 _ (omega arith) (bodies.claim_short seed k))
+    if_either IsShortOperation (k % 10 == 0) _ _ (own_short _ (bodies.claw_back_short seed (1 + k / 10 % 8) (omega arith)))
+    (if_either IsShortOperation (k % 10 == 5) _ _ (own_short _ (bodies.claimable_short seed))
+    (if_either IsShortOperation (is_claim k) _ _ (by_short seed 7 _ (omega arith) (bodies.claim_short seed k))
     (own_short _ (bodies.payment_short seed (1 + k % 8) (spec.usd seed) 1000 (omega arith) (omega arith)
     (usd_short seed)))))
 
@@ -75,10 +59,10 @@ drawn_short seed v =
     let below : other < 9 = omega arith in
     let few : 900 + v / 65536 % 200 < 2 ^ 31 = omega arith in
     let usd = usd_short seed in
-    either IsShortBody (v % 5 == 0) _ _ (bodies.payment_short seed other _ (1000 * amount) below many native_short)
-    (either IsShortBody (v % 5 == 1) _ _ (bodies.payment_short seed other _ amount below fits usd)
-    (either IsShortBody (v % 5 == 2) _ _ (bodies.sell_short _ _ amount _ fits few usd native_short)
-    (either IsShortBody (v % 5 == 3) _ _ (bodies.sell_short _ _ amount _ fits few native_short usd)
+    if_either IsShortBody (v % 5 == 0) _ _ (bodies.payment_short seed other _ (1000 * amount) below many native_short)
+    (if_either IsShortBody (v % 5 == 1) _ _ (bodies.payment_short seed other _ amount below fits usd)
+    (if_either IsShortBody (v % 5 == 2) _ _ (bodies.sell_short _ _ amount _ fits few usd native_short)
+    (if_either IsShortBody (v % 5 == 3) _ _ (bodies.sell_short _ _ amount _ fits few native_short usd)
     (bodies.send_path_short seed other amount below fits))))
 
 gift_short : (seed : ℕ) → AreShortOperations (spec.gift seed)
@@ -102,23 +86,23 @@ payments_short seed from (suc n) below = (
 issued_short : (seed k : ℕ) → AreShortOperations (issuer_operations seed k)
 unfolding issuer_operations
 issued_short seed k =
-    either AreShortOperations (k == 1) _ _ (own_short _ bodies.domain_short, tt)
-    (either AreShortOperations (k == 2) _ _ (payments_short seed 1 8 (omega arith))
-    (either AreShortOperations ((k == 3) || (k == 4)) _ _ (own_short _ (bodies.note_short k), tt)
-    (either AreShortOperations (k == 5) _ _ (gift_short seed) (turn_short seed k, tt))))
+    if_either AreShortOperations (k == 1) _ _ (own_short _ bodies.domain_short, tt)
+    (if_either AreShortOperations (k == 2) _ _ (payments_short seed 1 8 (omega arith))
+    (if_either AreShortOperations ((k == 3) || (k == 4)) _ _ (own_short _ (bodies.note_short k), tt)
+    (if_either AreShortOperations (k == 5) _ _ (gift_short seed) (turn_short seed k, tt))))
 
 other_short : (seed k account : ℕ) → IsShortBody (other_operation seed k account)
 unfolding other_operation
 other_short seed k account =
-    either IsShortBody (k == 1) _ _ (bodies.trust_usd_short seed)
-    (either IsShortBody (k == 3) _ _ (bodies.trust_pool_short seed)
-    (either IsShortBody ((k == 4) && (account == 1)) _ _ (bodies.deposit_short seed)
-    (either IsShortBody (nat_le k 5) _ _ (bodies.note_short k) (drawn_short seed _))))
+    if_either IsShortBody (k == 1) _ _ (bodies.trust_usd_short seed)
+    (if_either IsShortBody (k == 3) _ _ (bodies.trust_pool_short seed)
+    (if_either IsShortBody ((k == 4) && (account == 1)) _ _ (bodies.deposit_short seed)
+    (if_either IsShortBody (nat_le k 5) _ _ (bodies.note_short k) (drawn_short seed _))))
 
 done_short : (seed k account : ℕ) → AreShortOperations (operations_of seed k account)
 unfolding operations_of
 done_short seed k account =
-    either AreShortOperations (account == 0) _ _ (issued_short seed k)
+    if_either AreShortOperations (account == 0) _ _ (issued_short seed k)
     (own_short _ (other_short seed k account), tt)
 
 -- ---- signatures
@@ -149,9 +133,9 @@ signed_twice seed a b fits below also =
 signers_short : (seed k account : ℕ) → seed < 2 ^ 32 → account < account_count → AreSigned seed (signers_of k account)
 unfolding signers_of
 signers_short seed k account fits below =
-    either (AreSigned seed) (account == 0) _ _
-    (either (AreSigned seed) (k == 5) _ _ (signed_twice seed 0 8 fits (omega arith) (omega arith))
-    (either (AreSigned seed) (is_claim k) _ _ (signed_twice seed 0 7 fits (omega arith) (omega arith))
+    if_either (AreSigned seed) (account == 0) _ _
+    (if_either (AreSigned seed) (k == 5) _ _ (signed_twice seed 0 8 fits (omega arith) (omega arith))
+    (if_either (AreSigned seed) (is_claim k) _ _ (signed_twice seed 0 7 fits (omega arith) (omega arith))
     (signed_once seed 0 fits (omega arith))))
     (signed_once seed account fits below)
 
@@ -163,11 +147,11 @@ memo_short = short.short_union memo_part memo_arms (short.short_arm memo_none sh
 
 transaction_short : (seed k account : ℕ) → k ≤ 20000 → account < account_count
     → IsShort transaction 2011 (spec.transaction_of seed k account)
-unfolding transaction behind_source
+unfolding transaction after_source
 transaction_short seed k account few below =
     let done = operations_of seed k account in
     short.short_struct transaction_fields (short.short_both (muxed_short seed account below)
-    (short.short_struct behind_source_fields
+    (short.short_struct after_source_fields
     (short.short_both (short.short_u32 (100 * length done) (omega (arith, few_operations seed k account)))
     (short.short_both (amount_short k (omega arith))
     (short.short_both (short.short_none time_bounds) (short.short_both memo_short
@@ -180,7 +164,7 @@ envelope_short : (seed k account : ℕ) → seed < 2 ^ 32 → k ≤ 20000 → ac
 unfolding transaction_envelope transaction_v1_envelope envelope_of
 envelope_short seed k account fits few below =
     short.short_union envelope_part envelope_arms (short.short_arm envelope_v1 (short.short_struct v1_fields
-    (short.short_both (short.short_whole (transaction_short seed k account few below))
+    (short.short_both (short.short_entire (transaction_short seed k account few below))
     (signers_short seed k account fits below))))
 
 envelopes_short : (seed k from n : ℕ) → seed < 2 ^ 32 → k ≤ 20000 → from + n ≤ account_count
@@ -204,8 +188,8 @@ pub record_short : (seed k : ℕ) (header : LedgerHeader) → seed < 2 ^ 32 → 
 unfolding close_record stellar_value hash_of_set
 record_short seed k header fits few =
     short.short_struct record_fields (short.short_both (short.short_u32 (k + 1) (omega arith))
-    (short.short_both (short.short_whole (set_short seed k header fits few))
-    (short.short_whole (short.short_struct value_fields (short.short_both (hash_short _)
+    (short.short_both (short.short_entire (set_short seed k header fits few))
+    (short.short_entire (short.short_struct value_fields (short.short_both (hash_short _)
     (short.short_both (short.short_u64 (1000 + 5 * k) (omega arith))
     (short.short_both (short.short_list 6 0 (var 128) 0 [] (omega arith) (omega arith) tt)
     (short.no_extension (pos 1) ledger_close_value_signature))))))))

@@ -1,13 +1,7 @@
--- The header of the image has a spelling.
-use Rattle.std.proofs.Common.{◌≡◌, length, replicate, pos, refl, arith}
-use Rattle.std.proofs.lemmas.Int.{ints}
-use Rattle.xdr_core.specs.Format.{IsBytes}
-use Rattle.xdr_core.specs.Leaves.{u32, u64, i64, fixed}
-use Rattle.xdr_core.specs.Combinators.{list, extension, times}
-use Rattle.ledger_types.specs.declared.ids.Hash.{Hash}
-use Rattle.xdr_entries.specs.Basic.{hash}
-use Rattle.xdr_header.specs.Header.{ledger_header, stellar_value, counts, limits}
-use Rattle.sample_ledger.specs.Image.{zero_hash, header_with}
+-- The header of the image has an encoding.
+use Rattle.sample_ledger.proofs.Prelude.{◌≡◌, length, replicate, pos, refl, arith, ints, IsBytes, u32, u64, i64, fixed}
+use Rattle.sample_ledger.proofs.Prelude.{list, extension, times, Hash, hash, ledger_header, stellar_value, counts}
+use Rattle.sample_ledger.proofs.Prelude.{limits, zero_hash, header_with}
 use Rattle.sample_ledger.proofs.Bytes.{bytes_listed}
 
 zero_within : hash.within zero_hash

@@ -1,13 +1,7 @@
 -- How long keys, hints and secrets are.
-use Rattle.std.proofs.Common.{◌≡◌, ℕ, ◌<◌, ◌≤◌, ◌^◌, List, [], ◌∷◌, ◌++◌, length, take, drop, arith}
-use Rattle.std.proofs.Common.{length-append, length-drop}
-use Rattle.std.specs.Prelude.{codes}
-use Rattle.std.specs.Fmt.{decimal}
-use Rattle.std.proofs.lemmas.List.{length-take-le}
-use Rattle.std.proofs.lemmas.Fmt.{length-decimal-le}
-use Rattle.sha2.specs.Sha256.{sha256}
-use Rattle.sha2.proofs.Facts256.{length-sha256}
-use Rattle.sample_ledger.specs.Accounts.{sample_text, key_bytes, secret}
+use Rattle.sample_ledger.proofs.Prelude.{◌≡◌, ℕ, ◌<◌, ◌≤◌, ◌^◌, List, [], ◌∷◌, ◌++◌, length, take, drop, arith}
+use Rattle.sample_ledger.proofs.Prelude.{length-append, length-drop, codes, decimal, length-take-le, length-decimal-le}
+use Rattle.sample_ledger.proofs.Prelude.{sha256, length-sha256, sample_text, key_bytes, secret}
 
 pub key_len : (seed account : ℕ) → length (key_bytes seed account) ≡ 32
 key_len seed account =
@@ -23,5 +17,5 @@ secret_len seed account fits below =
     let seed_len : length (decimal seed) ≤ 10 = length-decimal-le 10 seed (omega arith) (omega arith) (omega arith) in
     let account_len : length (decimal account) ≤ 10 =
     length-decimal-le 10 account (omega arith) (omega arith) (omega arith) in
-    let behind : length (decimal account ++ []) ≤ 10 = omega (arith, length-append (decimal account) []) in
+    let after : length (decimal account ++ []) ≤ 10 = omega (arith, length-append (decimal account) []) in
     omega (arith, length-append (decimal seed) (32 ∷ (decimal account ++ [])))

@@ -1,18 +1,12 @@
 -- Ids, hashes, assets, prices and amounts are short.
-use Rattle.std.proofs.Common.{ℕ, ◌<◌, ◌^◌, List, [], ◌∷◌, ◌++◌, pos, refl, arith}
-use Rattle.std.proofs.lemmas.Int.{ints}
-use Rattle.std.specs.Prelude.{codes}
-use Rattle.sha2.specs.Sha256.{sha256}
-use Rattle.sha2.proofs.Facts256.{length-sha256}
+use Rattle.sample_ledger.proofs.Prelude.{ℕ, ◌<◌, ◌^◌, List, [], ◌∷◌, ◌++◌, pos, refl, arith, ints, codes, sha256}
+use Rattle.sample_ledger.proofs.Prelude.{length-sha256, i64, fixed, ◌⨾◌, hash, hash_fields, account_id_fields}
+use Rattle.sample_ledger.proofs.Prelude.{muxed_part, muxed_arms, muxed_ed25519, asset_part, asset_arms, native}
+use Rattle.sample_ledger.proofs.Prelude.{alphanum4, price, price_fields, key_bytes, account_id, account_count}
 use Rattle.ledger_types.specs.declared.asset.Asset.TheVariants as asset
-use Rattle.xdr_core.specs.Leaves.{i64, fixed}
-use Rattle.xdr_core.specs.Combinators.{◌⨾◌}
 use Rattle.xdr_entries.specs.Basic as basic
-use Rattle.xdr_entries.specs.Basic.{hash, hash_fields, account_id_fields, muxed_part, muxed_arms, muxed_ed25519}
-use Rattle.xdr_entries.specs.Basic.{asset_part, asset_arms, native, alphanum4, price, price_fields}
 use Rattle.hash_ids.specs.Ids.{hash_of}
-use Rattle.sample_ledger.specs.Accounts.{key_bytes, account_id, muxed_account}
-use Rattle.sample_ledger.specs.Image.{account_count}
+use Rattle.sample_ledger.specs.Accounts.{muxed_account}
 use Rattle.sample_ledger.specs.Records as spec
 use Rattle.sample_ledger.proofs.Lengths.{key_len}
 use Rattle.sample_ledger.proofs.Bytes.{bytes_listed, hash_fits, key_fits}

@@ -1,24 +1,18 @@
--- Values that have a spelling of at most so many bytes, by those that they are made of.
-use Rattle.std.proofs.Common.{◌≡◌, ℕ, suc, ◌+◌, ◌*◌, ◌<◌, ◌≤◌, ◌^◌, List, [], ◌∷◌, ◌++◌, length, replicate, None, Some}
-use Rattle.std.proofs.Common.{ℤ, pos, arith, length-append}
+-- Values that have an encoding of at most so many bytes, by those that they are made of.
+use Rattle.sample_ledger.proofs.Prelude as prelude
+use prelude.{◌≡◌, ℕ, suc, ◌+◌, ◌*◌, ◌<◌, ◌≤◌, ◌^◌, List, [], ◌∷◌, ◌++◌, length, replicate, None, Some, ℤ, pos, arith}
+use prelude.{length-append, length-replicate, FitsSigned, w32, w64, cast_unsigned, flat_map, AllByRecursion, big_bytes}
+use prelude.{IsBytes, u32, u64, i32, i64, flag, count, fixed, var, padded, padding_len, ◌⨾◌, Fields, struct_of, entire}
+use prelude.{empty, constant, marked, closed, option, list, Arm, Part, part, encode_part, part_within, part_sized}
+use prelude.{extension, Xdr, tag, optional, list_of, union_of, extension_of}
 use Rattle.std.proofs.Math.Nat.{mul-le-mul_right}
-use Rattle.std.proofs.lemmas.List.{length-replicate}
-use Rattle.std.specs.Prelude.{FitsSigned}
-use Rattle.std.specs.Int.{w32, w64, cast_unsigned}
-use Rattle.std.specs.List.{flat_map, AllByRecursion}
-use Rattle.byteorder.specs.Endian.{big_bytes}
 use Rattle.byteorder.specs.Numbers.{length-bytes_high_first}
 use Rattle.xdr_core.specs.declared.fault.XdrFault.{XdrFault}
-use Rattle.xdr_core.specs.Format.{IsBytes}
-use Rattle.xdr_core.specs.Leaves.{u32, u64, i32, i64, flag, count, fixed, var, padded, padding_len}
-use Rattle.xdr_core.specs.Combinators.{◌⨾◌, Fields, struct_of, whole, empty, constant, marked, closed, option, list}
-use Rattle.xdr_core.specs.Combinators.{Arm, Part, part, spell_part, part_within, part_sized, extension}
-use Rattle.xdr_core.specs.Xdr.{Xdr, tag, optional, list_of, union_of, extension_of}
 
 pub record IsShort {V : Type 0} (f : Xdr V) (most : ℕ) (v : V) : Type 0 where
   pub within : f.within v
   pub sized : f.sized v
-  pub short : length (f.spell v) ≤ most
+  pub short : length (f.encoding v) ≤ most
 
 -- the same under a higher bound
 pub longer : {V : Type 0} {f : Xdr V} {few : ℕ} {v : V} (most : ℕ) → IsShort f few v → few ≤ most → IsShort f most v
@@ -73,7 +67,7 @@ short_var max few bytes long most fits =
       short = both_len (big_bytes 4 (length bytes)) (padded bytes) 4 (few + 3) (bytes_len 4 (length bytes)) filled;
     }
 
--- ---- one behind another
+-- ---- one after another
 
 pub short_empty : IsShort empty 0 tt
 short_empty = record { within = tt; sized = tt; short = omega arith }
@@ -83,24 +77,24 @@ pub short_both : {A B : Type 0} {f : Xdr A} {g : Xdr B} {m n : ℕ} {a : A} {b :
 short_both {f = f} {g = g} {m = m} {n = n} {a = a} {b = b} first then = record {
   within = (first.within, then.within);
   sized = (first.sized, then.sized);
-  short = both_len (f.spell a) (g.spell b) m n first.short then.short;
+  short = both_len (f.encoding a) (g.encoding b) m n first.short then.short;
 }
 
 pub short_struct : {A V : Type 0} (fields : Fields A V) {f : Xdr A} {n : ℕ} {v : V} → IsShort f n (fields.from v)
     → IsShort (struct_of fields f) n v
 short_struct fields short = record { within = short.within; sized = short.sized; short = short.short }
 
-pub short_whole : {V : Type 0} {f : Xdr V} {n : ℕ} {v : V} → IsShort f n v → IsShort (whole f) n v
-short_whole short = record { within = short.within; sized = short.sized; short = short.short }
+pub short_entire : {V : Type 0} {f : Xdr V} {n : ℕ} {v : V} → IsShort f n v → IsShort (entire f) n v
+short_entire short = record { within = short.within; sized = short.sized; short = short.short }
 
--- ---- behind a discriminant, or in front of one
+-- ---- after a discriminant, or before one
 
-word_len : (mark : ℤ) → length (i32.spell mark) ≤ 4
+word_len : (mark : ℤ) → length (i32.encoding mark) ≤ 4
 unfolding i32
 word_len mark = bytes_len 4 (cast_unsigned w32 mark)
 
-marked_len : (mark : ℤ) (bytes : List ℕ) (n : ℕ) → length bytes ≤ n → length (i32.spell mark ++ bytes) ≤ 4 + n
-marked_len mark bytes n most = both_len (i32.spell mark) bytes 4 n (word_len mark) most
+marked_len : (mark : ℤ) (bytes : List ℕ) (n : ℕ) → length bytes ≤ n → length (i32.encoding mark ++ bytes) ≤ 4 + n
+marked_len mark bytes n most = both_len (i32.encoding mark) bytes 4 n (word_len mark) most
 
 pub short_marked : {A : Type 0} {f : Xdr A} {n : ℕ} {a : A} (mark : ℤ) → IsShort f n a
     → IsShort (marked (tag mark) f) (4 + n) a
@@ -108,7 +102,7 @@ unfolding constant
 short_marked {f = f} {n = n} {a = a} mark short = record {
   within = (tt, short.within);
   sized = (tt, short.sized);
-  short = marked_len mark (f.spell a) n short.short;
+  short = marked_len mark (f.encoding a) n short.short;
 }
 
 pub short_closed : {A : Type 0} {f : Xdr A} {n : ℕ} {a : A} (mark : ℤ) → IsShort f n a
@@ -117,22 +111,22 @@ unfolding constant
 short_closed {f = f} {n = n} {a = a} mark short = record {
   within = (short.within, tt);
   sized = (short.sized, tt);
-  short = both_len (f.spell a) (i32.spell mark) n 4 short.short (word_len mark);
+  short = both_len (f.encoding a) (i32.encoding mark) n 4 short.short (word_len mark);
 }
 
--- ---- unions: an arm of one, and the whole
+-- ---- unions: an arm of one, and all of it
 
 pub record IsShortPart {V : Type 0} (x : Part XdrFault V) (most : ℕ) : Type 0 where
   pub within : part_within x
   pub sized : part_sized x
-  pub short : length (spell_part x) ≤ most
+  pub short : length (encode_part x) ≤ most
 
 pub short_arm : {V : Type 0} (arm : Arm XdrFault V) {n : ℕ} {x : arm.Body} → IsShort arm.body n x
     → IsShortPart (part arm x) (4 + n)
 short_arm arm {n = n} {x = x} short = record {
   within = short.within;
   sized = short.sized;
-  short = marked_len arm.mark (arm.body.spell x) n short.short;
+  short = marked_len arm.mark (arm.body.encoding x) n short.short;
 }
 
 pub short_union : {V : Type 0} (part_of : V → Part XdrFault V) (arms : List (Arm XdrFault V)) {n : ℕ} {v : V}
@@ -154,7 +148,7 @@ unfolding option flag
 short_some {f = f} {n = n} {a = a} short = record {
   within = short.within;
   sized = short.sized;
-  short = both_len (big_bytes 4 1) (f.spell a) 4 n (bytes_len 4 1) short.short;
+  short = both_len (big_bytes 4 1) (f.encoding a) 4 n (bytes_len 4 1) short.short;
 }
 
 abbrev pub AreShort : {A : Type 0} → Xdr A → ℕ → List A → Type 0
@@ -172,20 +166,20 @@ one_more : (k n len : ℕ) → len ≤ n + k * n → len ≤ suc k * n
 one_more k n len le = omega arith
 
 all_len : {A : Type 0} (f : Xdr A) (n : ℕ) (vs : List A) → AreShort f n vs
-    → length (flat_map f.spell vs) ≤ length vs * n
+    → length (flat_map f.encoding vs) ≤ length vs * n
 all_len f n [] each = omega arith
 all_len f n (v ∷ vs) each =
-    one_more (length vs) n (length (f.spell v ++ flat_map f.spell vs))
-    (both_len (f.spell v) (flat_map f.spell vs) n (length vs * n) each.0.short (all_len f n vs each.1))
+    one_more (length vs) n (length (f.encoding v ++ flat_map f.encoding vs))
+    (both_len (f.encoding v) (flat_map f.encoding vs) n (length vs * n) each.0.short (all_len f n vs each.1))
 
 pub short_list : {A : Type 0} (max few : ℕ) (f : Xdr A) (n : ℕ) (vs : List A) → length vs ≤ few → few ≤ max
     → AreShort f n vs → IsShort (list_of max f) (4 + few * n) vs
 unfolding list count
 short_list max few f n vs some most each =
-    let items : length (flat_map f.spell vs) ≤ few * n =
+    let items : length (flat_map f.encoding vs) ≤ few * n =
     omega (arith, all_len f n vs each, mul-le-mul_right n some) in
     record {
       within = (omega arith, all_within f n vs each);
       sized = all_sized f n vs each;
-      short = both_len (big_bytes 4 (length vs)) (flat_map f.spell vs) 4 (few * n) (bytes_len 4 (length vs)) items;
+      short = both_len (big_bytes 4 (length vs)) (flat_map f.encoding vs) 4 (few * n) (bytes_len 4 (length vs)) items;
     }

@@ -52,7 +52,7 @@ payment seed to asset amount =
 
 -- the record's number, as four bytes
 abbrev pub note : (k : ℕ) → OperationBody
-note k = op.ManageData (record { data_name = codes "note"; data_value = Some (u32.spell k) })
+note k = op.ManageData (record { data_name = codes "note"; data_value = Some (u32.encoding k) })
 
 abbrev pub trust_usd : (seed : ℕ) → OperationBody
 trust_usd seed = op.ChangeTrust (record {
@@ -221,7 +221,7 @@ set_of seed k header = record {
   txs = map (envelope_of seed k) (range_with_len 0 account_count);
 }
 
--- behind the ledger of this header
+-- after the ledger of this header
 abbrev pub record_of : (seed k : ℕ) → LedgerHeader → CloseRecord
 record_of seed k header = record {
   ledger_seq = k + 1;

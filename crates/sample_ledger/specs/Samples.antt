@@ -1,4 +1,4 @@
--- The states behind the ledgers of a sample.
+-- The states after the ledgers of a sample.
 use Rattle.std.specs.Prelude.{◌≡◌, ℕ, zero, suc, ◌<◌, ◌≤◌, ◌^◌, List, [], ◌++◌, length, map, codes, Result, Ok, Err}
 use Rattle.std.specs.List.{range_with_len}
 use Rattle.std.specs.FinMap.{from_entries}
@@ -13,7 +13,7 @@ use Rattle.hash_ids.specs.Ids.{network_id_of}
 use Rattle.bucket_levels.specs.entry_map.EntryMap.{EntryMap}
 use Rattle.close_rules.specs.declared.close_fault.CloseFault.{CloseFault}
 use Rattle.close_rules.specs.declared.close_fault.CloseFault.TheVariants as fault
-use Rattle.close_rules.specs.State.{ClosingState, IsClosingState, IsSpelled}
+use Rattle.close_rules.specs.State.{ClosingState, IsClosingState, IsEncoded}
 use Rattle.close_rules.specs.Close.{PreparedClose, IsClose}
 use Rattle.close_rules.specs.Images.{IsJudged}
 use Rattle.sample_ledger.specs.Accounts.{ledger_entry}
@@ -46,11 +46,11 @@ first_state seed = record {
 
 -- ---- records
 
--- record k, behind a state
+-- record k, after a state
 abbrev pub record_bytes : (seed k : ℕ) → ClosingState → List ℕ
-record_bytes seed k s = close_record.spell (record_of seed k s.header)
+record_bytes seed k s = close_record.encoding (record_of seed k s.header)
 
--- what stands behind some records: the state, and the results of all their transactions
+-- what there is after some records: the state, and the results of all their transactions
 pub record Progress : Type 0 where
   pub state : ClosingState
   pub results : List TransactionResultPair
@@ -58,19 +58,19 @@ pub record Progress : Type 0 where
 abbrev pub first_progress : (seed : ℕ) → Progress
 first_progress seed = record { state = first_state seed; results = [] }
 
-abbrev pub progress_behind : Progress → PreparedClose → Progress
-progress_behind was closed = record { state = closed.state; results = was.results ++ closed.results }
+abbrev pub progress_after : Progress → PreparedClose → Progress
+progress_after was closed = record { state = closed.state; results = was.results ++ closed.results }
 
 -- the first k records close ledgers, each from the state that the ones before it give
 unfoldable pub HaveClosed : (seed k : ℕ) → Progress → Type 0
 HaveClosed seed zero now = now ≡ first_progress seed
 HaveClosed seed (suc k) now =
     (was : Progress) × (closed : PreparedClose) × HaveClosed seed k was
-    × IsClose was.state (record_bytes seed (suc k) was.state) (Ok closed) × (now ≡ progress_behind was closed)
+    × IsClose was.state (record_bytes seed (suc k) was.state) (Ok closed) × (now ≡ progress_after was closed)
 
 -- ---- laws
 
--- a ledger closes from the first state, and the image stands for it
+-- a ledger closes from the first state, and the image represents it
 pub record IsFirst (seed : ℕ) : Type 0 where
   pub closing : IsClosingState (first_state seed)
   pub judged : IsJudged sample_network (first_image seed) (Ok (first_state seed))
@@ -78,14 +78,14 @@ pub record IsFirst (seed : ℕ) : Type 0 where
 abbrev pub FirstStatesClose : Type 0
 FirstStatesClose = (seed : ℕ) → seed < 2 ^ 32 → IsFirst seed
 
--- a record has a spelling, of no more bytes than a record may have
+-- a record has an encoding, of no more bytes than a record may have
 pub record IsWritten (seed k : ℕ) (header : LedgerHeader) : Type 0 where
-  pub spelled : IsSpelled close_record (record_of seed k header)
-  pub short : length (close_record.spell (record_of seed k header)) ≤ 16777216
+  pub encoded : IsEncoded close_record (record_of seed k header)
+  pub short : length (close_record.encoding (record_of seed k header)) ≤ 16777216
 
 -- a ledger closes from each state that records give
-abbrev pub SamplesStand : Type 0
-SamplesStand = (seed k : ℕ) (now : Progress) → seed < 2 ^ 32 → k ≤ 20000 → HaveClosed seed k now
+abbrev pub SamplesClose : Type 0
+SamplesClose = (seed k : ℕ) (now : Progress) → seed < 2 ^ 32 → k ≤ 20000 → HaveClosed seed k now
     → IsClosingState now.state
 
 -- the next record is accepted, or the files of its ledger would be too long

@@ -5,10 +5,10 @@ ghost use Rattle.std.specs.List.{flat_map};
 ghost use Rattle.std.specs.FinMap.{entries};
 ghost use Rattle.ledger_types.specs.declared.bucket.BucketEntry.TheVariants as item;
 ghost use Rattle.xdr_entries.specs.Keys.{bucket_entry};
-ghost use Rattle.bucket_core.specs.bucket_items.MarkedItem.{record_of, IsSpellable};
+ghost use Rattle.bucket_core.specs.bucket_items.MarkedItem.{record_of, IsEncodable};
 ghost use Rattle.bucket_core.specs.File.{HasFile, file_of as file_with};
 ghost use Rattle.sample_ledger.specs.Image as spec;
-ghost use Rattle.sample_ledger.specs.Rows.{as_change, AreSpellable};
+ghost use Rattle.sample_ledger.specs.Rows.{as_change, AreEncodable};
 
 use crate::accounts::{ACCOUNT_COUNT, Accounts};
 use crate::entry::ledger_entry;
@@ -30,7 +30,7 @@ const VERSION: u32 = 18;
 /// The accounts' entries, in the order of their ids.
 fn rows(alloc: Global, accounts: &Accounts) -> Result<Tree<AccountId, LedgerEntry>, AllocError>
     ensures rows { IfOk result (λ rows. map as_change rows ≡ entries (spec.first_changes accounts.now)) }
-    ensures spellable { IfOk result (λ rows. AreSpellable rows) }
+    ensures encodable { IfOk result (λ rows. AreEncodable rows) }
 {
     let mut rows = Tree::empty();
     for done in 0..ACCOUNT_COUNT {
@@ -42,10 +42,10 @@ fn rows(alloc: Global, accounts: &Accounts) -> Result<Tree<AccountId, LedgerEntr
     Ok(rows)
 }
 
-/// Writes META behind its mark.
+/// Writes META after its mark.
 #[tactic(auto, unfolding(xdr_core::specs::Leaves::mark))]
 fn write_meta(alloc: Global, file: &mut Builder) -> Result<(), AllocError>
-    requires { IsSpellable (item.Meta 18) }
+    requires { IsEncodable (item.Meta 18) }
     ensures { OnOk result (file.new ≡ file.old ++ record_of (item.Meta 18)) }
 {
     let meta = BucketEntry::Meta {
@@ -60,16 +60,16 @@ fn write_meta(alloc: Global, file: &mut Builder) -> Result<(), AllocError>
 #[tactic(auto, unfolding(xdr_entries::specs::Keys::bucket_entry, xdr_core::specs::Leaves::i32))]
 fn write_init(entry: &LedgerEntry, text: &mut Builder) -> Result<(), AllocError>
     requires { bucket_entry.within (item.Init entry.now) }
-    ensures { OnOk result (text.new ≡ text.old ++ bucket_entry.spell (item.Init entry.now)) }
+    ensures { OnOk result (text.new ≡ text.old ++ bucket_entry.encoding (item.Init entry.now)) }
 {
     text.i32(INITENTRY)?;
     write_ledger_entry(entry, text)
 }
 
-/// Writes a new entry as an item behind its mark.
+/// Writes a new entry as an item after its mark.
 #[tactic(auto, unfolding(xdr_core::specs::Leaves::mark))]
 fn write_item(alloc: Global, entry: &LedgerEntry, file: &mut Builder) -> Result<(), AllocError>
-    requires { IsSpellable (item.Init entry.now) }
+    requires { IsEncodable (item.Init entry.now) }
     ensures { OnOk result (file.new ≡ file.old ++ record_of (item.Init entry.now)) }
 {
     let mut text = Builder::new(alloc);
@@ -83,11 +83,11 @@ fn write_items(
     rows: &Tree<AccountId, LedgerEntry>,
     file: &mut Builder,
 ) -> Result<(), AllocError>
-    requires { AreSpellable rows.now }
+    requires { AreEncodable rows.now }
     ensures { OnOk result (file.new ≡ file.old ++ flat_map (λ x. record_of (item.Init x.1)) rows.now) }
 {
-    for place in 0..rows.len() {
-        write_item(alloc, rows.entry(place), file)?;
+    for index in 0..rows.len() {
+        write_item(alloc, rows.entry(index), file)?;
     }
     Ok(())
 }

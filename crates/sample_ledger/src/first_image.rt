@@ -20,7 +20,7 @@ use xdr_header::{StartImage, write_ledger_header};
 /// How many levels are below the first one.
 const OTHER_LEVELS: usize = 10;
 
-/// How many files stand behind the first one.
+/// How many files follow the first one.
 const OTHER_FILES: usize = 21;
 
 /// The files of the levels, of which the first one alone isn't empty.
@@ -79,10 +79,10 @@ fn header_with(alloc: Global, levels: Hash) -> LedgerHeader
     }
 }
 
-/// The spelling of a header.
+/// The encoding of a header.
 fn header_bytes(alloc: Global, header: &LedgerHeader) -> Result<ItemList<u8>, AllocError>
     requires { ledger_header.within header.now }
-    ensures { IfOk result (λ bytes. bytes ≡ ledger_header.spell header.now) }
+    ensures { IfOk result (λ bytes. bytes ≡ ledger_header.encoding header.now) }
 {
     let mut builder = Builder::new(alloc);
     write_ledger_header(header, &mut builder)?;
@@ -95,7 +95,7 @@ fn files_with(alloc: Global, file: &[u8]) -> Result<ItemList<ItemList<u8>>, Allo
 {
     let mut files = ItemList::new(alloc);
     files.push(ItemList::from_slice(alloc, file)?)?;
-    for _place in 0..OTHER_FILES {
+    for _index in 0..OTHER_FILES {
         files.push(ItemList::new(alloc))?;
     }
     Ok(files)

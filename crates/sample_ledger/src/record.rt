@@ -17,7 +17,7 @@ use std::alloc::{AllocError, Global};
 use value_hashes::ledger_hash;
 use xdr_header::CloseRecord;
 
-/// The transactions of a record, behind the ledger of this header.
+/// The transactions of a record, after the ledger of this header.
 fn set_of(
     alloc: Global,
     seed: u32,
@@ -43,13 +43,13 @@ fn set_hash(alloc: Global, set: &TransactionSet) -> Result<Hash, AllocError>
 {
     let SetOrder {
         set_hash,
-        places: _,
+        indices: _,
     } = set_order(alloc, set)?;
     Ok(set_hash)
 }
 
-/// The record that closes ledger `k` + 1 of a sample, behind the ledger of this header: from 1 to 20000. The header has
-/// a spelling: its upgrades keep their bounds. So has the record.
+/// The record that closes ledger `k` + 1 of a sample, after the ledger of this header: from 1 to 20000. The header
+/// has an encoding: its upgrades keep their bounds. So has the record.
 pub fn make_record(
     alloc: Global,
     seed: u32,
@@ -58,7 +58,7 @@ pub fn make_record(
 ) -> Result<CloseRecord, AllocError>
     requires some { 1 ≤ k }
     requires few { k ≤ 20000 }
-    requires spelled { ledger_header.within header.now }
+    requires encoded { ledger_header.within header.now }
     ensures made { IfOk result (λ made. made ≡ spec.record_of seed k header.now) }
     ensures within { IfOk result (λ made. close_record.within made) }
 {

@@ -6,7 +6,7 @@ ghost use Rattle.sample_ledger.specs.Accounts as spec;
 
 use std::alloc::{AllocError, Global};
 
-/// Puts a number at the end of a text, behind a space.
+/// Puts a number at the end of a text, after a space.
 fn push_number(alloc: Global, text: &mut Vec<u8>, number: u32) -> Result<(), AllocError>
     ensures { OnOk result (text.new.items ≡ text.old.items ++ 32 ∷ decimal number) }
 {

@@ -1,18 +1,13 @@
--- What a row has under each key behind a change, and what the first value above a key is.
-use Rattle.std.proofs.Common.{◌≡◌, ◌≢◌, cond, Bool, true, false, T, List, [], ◌∷◌, Option, Some, None}
-use Rattle.std.proofs.Common.{refl, sym, ap, ◌∙◌}
-use Rattle.std.specs.declared.cmp.Ordering.{Ordering}
-use Rattle.std.specs.declared.cmp.Ordering.TheVariants.{Less, Equal, Greater}
-use Rattle.std.specs.Option.{unwrap_or}
-use Rattle.std.specs.Ordering.{is_lt, is_eq, eq_by_cmp}
-use Rattle.std.specs.Cmp.{IsTotalOrder, alike_right, tied_back, tied_itself}
-use Rattle.std.specs.FinMap.Entries.{find, is_sorted, below_all, by_order}
-use Rattle.shared_tree.specs.Rows.{front, changed, all_changed, first_above}
-use Rattle.shared_tree.proofs.Parts.{both, first, second, less, is_less, equal, greater, turned}
+-- What a row has under each key after a change, and what the first value above a key is.
+use Rattle.shared_tree.proofs.Prelude.{◌≡◌, ◌≢◌, cond, Bool, true, false, T, List, [], ◌∷◌, Option, Some, None, refl}
+use Rattle.shared_tree.proofs.Prelude.{sym, ap, ◌∙◌, Ordering, Less, Equal, Greater, unwrap_or, is_lt, is_eq, eq_by_cmp}
+use Rattle.shared_tree.proofs.Prelude.{IsTotalOrder, alike_right, tied_back, tied_itself, find, is_sorted, below_all}
+use Rattle.shared_tree.proofs.Prelude.{by_order, prefix, changed, all_changed, first_above, Equal-is}
+use Rattle.shared_tree.proofs.Parts.{both, first, second, less, is_less, greater, turned}
 
 module _ {K : Type 0} {R : K → K → Ordering} (total : IsTotalOrder R) where
   tied : (a b : K) → eq_by_cmp R a b ≡ true → R a b ≡ Equal
-  tied a b e = equal (R a b) e
+  tied a b e = (Equal-is (R a b)).0 e
 
   -- a key that ties with a lesser one doesn't tie with a greater one
   apart : (q a b : K) → R a b ≡ Less → eq_by_cmp R q a ≡ true → eq_by_cmp R q b ≡ false
@@ -40,48 +35,48 @@ module _ {K V : Type 0} {R : K → K → Ordering} (total : IsTotalOrder R) wher
 
   -- ---- a changed row rises
 
-  below_front : (k m : K) (o : Option V) (row : List (K × V)) → R k m ≡ Less → T (below_all R k row)
-      → T (below_all R k (front m o row))
-  below_front k m None row lt h = h
-  below_front k m (Some v) row lt h = both (is_lt (R k m)) (below_all R k row) (is_less (R k m) lt) h
+  below_prefix : (k m : K) (o : Option V) (row : List (K × V)) → R k m ≡ Less → T (below_all R k row)
+      → T (below_all R k (prefix m o row))
+  below_prefix k m None row lt h = h
+  below_prefix k m (Some v) row lt h = both (is_lt (R k m)) (below_all R k row) (is_less (R k m) lt) h
 
   pub below_changed : (k m : K) (o : Option V) (row : List (K × V)) → R k m ≡ Less → T (below_all R k row)
       → T (below_all R k (changed R m o row))
-  below_changed k m o [] lt h = below_front k m o [] lt tt
+  below_changed k m o [] lt h = below_prefix k m o [] lt tt
   below_changed k m o (x ∷ xs) lt h =
       elim (R x.0 m) as (λ r. T (below_all R k
-      (by_order r (x ∷ changed R m o xs) (front m o xs) (front m o (x ∷ xs))))) [
+      (by_order r (x ∷ changed R m o xs) (prefix m o xs) (prefix m o (x ∷ xs))))) [
         | Less ↦ both (is_lt (R k x.0)) (below_all R k (changed R m o xs)) (first _ _ h)
             (below_changed k m o xs lt (second _ _ h))
-        | Equal ↦ below_front k m o xs lt (second _ _ h)
-        | Greater ↦ below_front k m o (x ∷ xs) lt h
+        | Equal ↦ below_prefix k m o xs lt (second _ _ h)
+        | Greater ↦ below_prefix k m o (x ∷ xs) lt h
       ]
 
-  rising_front : (k : K) (o : Option V) (row : List (K × V)) → T (below_all R k row) → T (is_sorted R row)
-      → T (is_sorted R (front k o row))
-  rising_front k None row b h = h
-  rising_front k (Some v) row b h = both (below_all R k row) (is_sorted R row) b h
+  rising_prefix : (k : K) (o : Option V) (row : List (K × V)) → T (below_all R k row) → T (is_sorted R row)
+      → T (is_sorted R (prefix k o row))
+  rising_prefix k None row b h = h
+  rising_prefix k (Some v) row b h = both (below_all R k row) (is_sorted R row) b h
 
   pub rising_changed : (k : K) (o : Option V) (row : List (K × V)) → T (is_sorted R row)
       → T (is_sorted R (changed R k o row))
-  rising_changed k o [] h = rising_front k o [] tt tt
+  rising_changed k o [] h = rising_prefix k o [] tt tt
   rising_changed k o (x ∷ xs) h =
       elim (R x.0 k) as (λ r. R x.0 k ≡ r → T (is_sorted R
-      (by_order r (x ∷ changed R k o xs) (front k o xs) (front k o (x ∷ xs))))) [
+      (by_order r (x ∷ changed R k o xs) (prefix k o xs) (prefix k o (x ∷ xs))))) [
         | Less ↦ λ e. both (below_all R x.0 (changed R k o xs)) (is_sorted R (changed R k o xs))
             (below_changed x.0 k o xs e (first _ _ h)) (rising_changed k o xs (second _ _ h))
-        | Equal ↦ λ e. rising_front k o xs (below_tied k x.0 xs (tied_back total x.0 k e) (first _ _ h)) (second _ _ h)
-        | Greater ↦ λ e. rising_front k o (x ∷ xs)
+        | Equal ↦ λ e. rising_prefix k o xs (below_tied k x.0 xs (tied_back total x.0 k e) (first _ _ h)) (second _ _ h)
+        | Greater ↦ λ e. rising_prefix k o (x ∷ xs)
             (both (is_lt (R k x.0)) (below_all R k xs) (is_less (R k x.0) (turned total x.0 k e))
             (below_less k x.0 xs (turned total x.0 k e) (first _ _ h))) h
       ] refl
 
   -- ---- what it has under each key
 
-  at_front : (q k : K) (o : Option V) (row : List (K × V)) → (eq_by_cmp R q k ≡ true → find R q row ≡ None)
-      → find R q (front k o row) ≡ cond (eq_by_cmp R q k) o (find R q row)
-  at_front q k (Some v) row none = refl
-  at_front q k None row none =
+  at_prefix : (q k : K) (o : Option V) (row : List (K × V)) → (eq_by_cmp R q k ≡ true → find R q row ≡ None)
+      → find R q (prefix k o row) ≡ cond (eq_by_cmp R q k) o (find R q row)
+  at_prefix q k (Some v) row none = refl
+  at_prefix q k None row none =
       elim (eq_by_cmp R q k) as (λ b. (b ≡ true → find R q row ≡ None) → find R q row ≡ cond b None (find R q row)) [
         | true ↦ λ f. f refl
         | false ↦ λ f. refl
@@ -97,17 +92,17 @@ module _ {K V : Type 0} {R : K → K → Ordering} (total : IsTotalOrder R) wher
 
   pub find_changed : (q k : K) (o : Option V) (row : List (K × V)) → T (is_sorted R row)
       → find R q (changed R k o row) ≡ cond (eq_by_cmp R q k) o (find R q row)
-  find_changed q k o [] h = at_front q k o [] (λ _. refl)
+  find_changed q k o [] h = at_prefix q k o [] (λ _. refl)
   find_changed q k o (x ∷ xs) h =
       elim (R x.0 k) as (λ r. R x.0 k ≡ r
-      → find R q (by_order r (x ∷ changed R k o xs) (front k o xs) (front k o (x ∷ xs)))
+      → find R q (by_order r (x ∷ changed R k o xs) (prefix k o xs) (prefix k o (x ∷ xs)))
       ≡ cond (eq_by_cmp R q k) o (cond (eq_by_cmp R q x.0) (Some x.1) (find R q xs))) [
         | Less ↦ λ e. ap (cond (eq_by_cmp R q x.0) (Some x.1)) (find_changed q k o xs (second _ _ h))
             ∙ swapped (eq_by_cmp R q x.0) (eq_by_cmp R q k) (Some x.1) o (find R q xs) (apart total q x.0 k e)
-        | Equal ↦ λ e. at_front q k o xs (λ t. none_above q x.0 xs
+        | Equal ↦ λ e. at_prefix q k o xs (λ t. none_above q x.0 xs
             (alike_right total x.0 k q e ∙ tied total q k t) (first _ _ h))
             ∙ shadowed (eq_by_cmp R q x.0) (eq_by_cmp R q k) (Some x.1) o (find R q xs) (alike total q x.0 k e)
-        | Greater ↦ λ e. at_front q k o (x ∷ xs) (λ t. none_above q k (x ∷ xs) (tied total q k t)
+        | Greater ↦ λ e. at_prefix q k o (x ∷ xs) (λ t. none_above q k (x ∷ xs) (tied total q k t)
             (both (is_lt (R k x.0)) (below_all R k xs) (is_less (R k x.0) (turned total x.0 k e))
             (below_less k x.0 xs (turned total x.0 k e) (first _ _ h))))
       ] refl
@@ -126,7 +121,7 @@ module _ {K V : Type 0} {R : K → K → Ordering} (total : IsTotalOrder R) wher
 
   -- ---- the first above a key
 
-  -- the least key above k that stands in a row
+  -- the least key above k that is in a row
   pub record IsFirst (row : List (K × V)) (k : K) (x : K × V) : Type 0 where
     pub there : find R x.0 row ≡ Some x.1
     pub above : R k x.0 ≡ Less
@@ -136,7 +131,7 @@ module _ {K V : Type 0} {R : K → K → Ordering} (total : IsTotalOrder R) wher
   IsFirstAbove row k None = (q : K) → R k q ≡ Less → find R q row ≡ None
   IsFirstAbove row k (Some x) = IsFirst row k x
 
-  -- a key below x ties with nothing behind it
+  -- a key below x ties with nothing after it
   step_past : (q : K) (x : K × V) (xs : List (K × V)) → eq_by_cmp R q x.0 ≡ false
       → find R q (x ∷ xs) ≡ find R q xs
   step_past q x xs e = ap (λ b. cond b (Some x.1) (find R q xs)) e

@@ -1,3 +1,4 @@
 pub mod Parts
 pub mod Changed
 pub mod Divided
+pub mod Prelude

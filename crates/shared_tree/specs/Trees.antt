@@ -7,12 +7,12 @@ use Rattle.shared_tree.specs.declared.tree.Top.TheVariants.{Empty, Full}
 module _ {K V : Type 0} where
   abbrev pub row_in : Top K V → List (K × V)
   row_in Empty = []
-  row_in (Full fork) = fork.value.before ++ fork.value.kept ∷ fork.value.behind
+  row_in (Full fork) = fork.value.before ++ fork.value.kept ∷ fork.value.after
 
-  -- the row of what stands on top
+  -- the row of what is on top
   abbrev pub parts_of : Option (Fork K V) → List (K × V)
   parts_of None = []
-  parts_of (Some fork) = fork.before ++ fork.kept ∷ fork.behind
+  parts_of (Some fork) = fork.before ++ fork.kept ∷ fork.after
 
   abbrev pub len_in : Top K V → ℕ
   len_in Empty = 0

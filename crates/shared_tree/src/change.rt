@@ -1,4 +1,4 @@
-//! What is to stand under a key.
+//! What is to be under a key.
 
 ghost use Rattle.std.specs.Prelude.{◌≡◌, None, Some};
 ghost use Rattle.std.specs.Option.{option_copied};
@@ -7,7 +7,7 @@ ghost use Rattle.shared_tree.specs.Rows.{kept_by};
 use crate::kept::Kept;
 use std::marker::Model;
 
-/// A change of what stands under a key. Contracts see the key, and the value that is to stand there, if any.
+/// A change of what is under a key. Contracts see the key, and the value that is to be there, if any.
 #[derive(Drop)]
 pub struct Change<'a, K, V> {
     key: &'a K,
@@ -38,7 +38,7 @@ impl<'a, K, V> Change<'a, K, V> {
         }
     }
 
-    /// What stands under a key is taken away.
+    /// What is under a key is taken away.
     pub fn take(key: &'a K) -> Change<'a, K, V>
         ensures { result ≡ (key.now, None) }
     {

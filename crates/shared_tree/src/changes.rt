@@ -27,7 +27,7 @@ fn count_below<K: Ord, V>(changes: &[Change<'_, K, V>], key: &K) -> usize
     }
 }
 
-/// Changes by how their keys stand to that of a value: those below it, what is to stand in the place of the value, and
+/// Changes by how their keys compare with that of a value: those below it, what is to take the place of the value, and
 /// those above it.
 fn divided<'a, K: Ord, V>(
     kept: &'a Kept<K, V>,
@@ -61,8 +61,8 @@ impl<K: Drop, V: Drop> Tree<K, V> {
             return Ok(Tree::empty());
         };
         let before = Tree::of_changes(alloc, earlier)?;
-        let behind = Tree::of_changes(alloc, later)?;
-        Tree::joined(alloc, &before, change.kept(), &behind)
+        let after = Tree::of_changes(alloc, later)?;
+        Tree::joined(alloc, &before, change.kept(), &after)
     }
 }
 
@@ -85,8 +85,8 @@ impl<K: Ord + Drop, V: Drop> Tree<K, V> {
         };
         let (earlier, middle, later) = divided(&fork.kept, &*changes);
         let before = fork.before.with_changes(alloc, earlier)?;
-        let behind = fork.behind.with_changes(alloc, later)?;
-        Tree::joined(alloc, &before, middle, &behind)
+        let after = fork.after.with_changes(alloc, later)?;
+        Tree::joined(alloc, &before, middle, &after)
     }
 
     /// The row with a value put under its key.
@@ -97,7 +97,7 @@ impl<K: Ord + Drop, V: Drop> Tree<K, V> {
         self.with_changes(alloc, slice::from_ref(&Change::put(kept)))
     }
 
-    /// The row without what stands under a key.
+    /// The row without what is under a key.
     pub fn take(&self, alloc: Global, key: &K) -> Result<Tree<K, V>, AllocError>
         requires { IsRising K.cmp self.now }
         ensures { IfOk result (λ tree. tree ≡ changed K.cmp key.now None self.now) }

@@ -19,7 +19,7 @@ impl<K: Ord, V> Tree<K, V> {
             return None;
         };
         match fork.kept.order(key) {
-            Ordering::Less => fork.behind.find(key),
+            Ordering::Less => fork.after.find(key),
             Ordering::Equal => Some(fork.kept.value()),
             Ordering::Greater => fork.before.find(key),
         }
@@ -34,8 +34,8 @@ impl<K: Ord, V> Tree<K, V> {
             return None;
         };
         match fork.kept.order(key) {
-            Ordering::Less => fork.behind.above(key),
-            Ordering::Equal => fork.behind.above(key),
+            Ordering::Less => fork.after.above(key),
+            Ordering::Equal => fork.after.above(key),
             Ordering::Greater => match fork.before.above(key) {
                 None => Some(&fork.kept),
                 Some(kept) => Some(kept),

@@ -23,13 +23,13 @@ enum Top<K, V> {
     Full(Arc<Fork<K, V>>),
 }
 
-/// A value under its key, between those before it and those behind it.
+/// A value under its key, between those before it and those after it.
 #[cycle(tree)]
 #[derive(Drop)]
 pub(crate) struct Fork<K, V> {
     pub(crate) before: Tree<K, V>,
     pub(crate) kept: Kept<K, V>,
-    pub(crate) behind: Tree<K, V>,
+    pub(crate) after: Tree<K, V>,
     // How many values there are in all.
     len: usize,
 }
@@ -63,7 +63,7 @@ impl<K, V> Tree<K, V> {
         Tree { top: Top::Empty }
     }
 
-    /// What stands on top, if the row isn't empty.
+    /// What is on top, if the row isn't empty.
     pub(crate) fn top(&self) -> Option<&Fork<K, V>>
         ensures { self.now ≡ parts_of (option_copied result) }
     {
@@ -83,21 +83,21 @@ impl<K, V> Tree<K, V> {
         }
     }
 
-    /// The value at a place.
-    pub fn entry(&self, place: usize) -> &V
-        requires { place < length self.now }
-        ensures { option_map (λ x. x.1) (slice_get self.now place) ≡ Some result.now }
+    /// The value at an index.
+    pub fn entry(&self, index: usize) -> &V
+        requires { index < length self.now }
+        ensures { option_map (λ x. x.1) (slice_get self.now index) ≡ Some result.now }
     {
         let Some(fork) = self.top() else {
             unreachable!()
         };
         let before = fork.before.len();
-        if place < before {
-            fork.before.entry(place)
-        } else if place == before {
+        if index < before {
+            fork.before.entry(index)
+        } else if index == before {
             fork.kept.value()
         } else {
-            fork.behind.entry(place - before - 1)
+            fork.after.entry(index - before - 1)
         }
     }
 }
@@ -120,11 +120,11 @@ impl<K: Drop, V: Drop> Tree<K, V> {
         alloc: Global,
         before: &Tree<K, V>,
         kept: &Kept<K, V>,
-        behind: &Tree<K, V>,
+        after: &Tree<K, V>,
     ) -> Result<Tree<K, V>, AllocError>
-        ensures { IfOk result (λ tree. tree ≡ before.now ++ kept.now ∷ behind.now) }
+        ensures { IfOk result (λ tree. tree ≡ before.now ++ kept.now ∷ after.now) }
     {
-        let Some(others) = before.len().checked_add(behind.len()) else {
+        let Some(others) = before.len().checked_add(after.len()) else {
             return Err(AllocError);
         };
         let Some(len) = others.checked_add(1) else {
@@ -133,7 +133,7 @@ impl<K: Drop, V: Drop> Tree<K, V> {
         let fork = Fork {
             before: before.share()?,
             kept: kept.share()?,
-            behind: behind.share()?,
+            after: after.share()?,
             len,
         };
         Ok(Tree {
@@ -150,7 +150,7 @@ impl<K: Drop, V: Drop> Tree<K, V> {
             return Ok(Tree::empty());
         };
         let before = Tree::of_row(alloc, earlier)?;
-        let behind = Tree::of_row(alloc, later)?;
-        Tree::fork(alloc, &before, kept, &behind)
+        let after = Tree::of_row(alloc, later)?;
+        Tree::fork(alloc, &before, kept, &after)
     }
 }

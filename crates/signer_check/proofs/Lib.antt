@@ -1,4 +1,5 @@
 pub mod Needs
 pub mod Own
-pub mod Places
+pub mod Indices
 pub mod Turns
+pub mod Prelude

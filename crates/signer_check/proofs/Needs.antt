@@ -1,14 +1,10 @@
--- What is missing, in place of the need and the sum so far.
-use Rattle.std.proofs.Common.{◌≡◌, ℕ, ◌+◌, ◌-◌, Bool, true, leb, cond, ◌||◌, List, [], ◌∷◌, ◌++◌, map, Option, Some}
-use Rattle.std.proofs.Common.{None, refl, sym, ap, ◌∙◌, arith, inl, inr}
-use Rattle.std.specs.Option.{option_and_then}
-use Rattle.std.proofs.lemmas.Bool.{le-leb, lt-leb, cases_lt}
-use Rattle.ledger_types.specs.declared.signer.Signer.{Signer}
-use Rattle.signer_check.specs.declared.held.HeldSignature.{HeldSignature}
-use Rattle.signer_check.specs.Weight.{Counted, weight_of, reaches, until_reached, used_for}
-use Rattle.signer_check.specs.Progress.{missing_with, missing_after}
+-- What is missing, in place of the threshold and the sum so far.
+use Rattle.signer_check.proofs.Prelude.{◌≡◌, ℕ, ◌+◌, ◌-◌, Bool, true, leb, cond, ◌||◌, List, [], ◌∷◌, ◌++◌, map, Option}
+use Rattle.signer_check.proofs.Prelude.{Some, None, refl, sym, ap, ◌∙◌, arith, inl, inr, option_and_then, le-leb}
+use Rattle.signer_check.proofs.Prelude.{lt-leb, cases_lt, Signer, HeldSignature, Counted, weight_of, reaches}
+use Rattle.signer_check.proofs.Prelude.{until_reached, used_for, missing_with, missing_after}
 
--- only the difference of the need and the sum matters
+-- only the difference of the threshold and the sum matters
 same_test : (k need sum : ℕ) → leb (k + need) (k + sum) ≡ leb need sum
 same_test k need sum =
     elim (cases_lt sum need) [
@@ -39,7 +35,7 @@ until_alike k need sum sum' (c ∷ cs) e =
     ∙ ap (λ (l : List Counted). c ∷ cond (leb need (sum + c.weight)) [] l) (until_alike k need (sum + c.weight)
     (sum' + c.weight) cs sums)
 
--- whether the need is reached, and what counts until then, from what is missing on
+-- whether the threshold is reached, and what counts until then, from what is missing on
 abbrev pub reaches_from : Option ℕ → List Counted → Bool
 reaches_from None cs = true
 reaches_from (Some missing) cs = reaches missing 0 cs

@@ -4,7 +4,7 @@ use Rattle.std.specs.Prelude.{if◌then◌else◌}
 use Rattle.ledger_types.specs.declared.signer.Signer.{Signer}
 use Rattle.signer_check.specs.Weight.{Counted, Match}
 
--- what is missing of a need once a signer of this weight counts, or nothing where it weighs enough
+-- what is missing of a threshold once a signer of this weight counts, or nothing where it weighs enough
 abbrev pub missing_with : (need weight : ℕ) → Option ℕ
 missing_with need weight = if nat_le need weight then None else Some (need - weight)
 

@@ -48,7 +48,7 @@ matches_key signature (PreAuthTx wanted) = false
 
 -- ---- which signers count
 
--- a signer that counts: what it weighs, and the place of the signature that made it count, if one did
+-- a signer that counts: what it weighs, and the index of the signature that made it count, if one did
 pub record Counted : Type 0 where
   pub weight : ℕ
   pub signature : Option ℕ
@@ -64,40 +64,40 @@ pub record Match : Type 0 where
   pub signer : Signer
   pub others : List Signer
 
-abbrev pub behind : Signer → Option Match → Option Match
-behind signer None = None
-behind signer (Some match_of) = Some (record { signer = match_of.signer; others = signer ∷ match_of.others })
+abbrev pub after : Signer → Option Match → Option Match
+after signer None = None
+after signer (Some match_of) = Some (record { signer = match_of.signer; others = signer ∷ match_of.others })
 
 unfoldable pub first_match : HeldSignature → List Signer → Option Match
 first_match signature [] = None
 first_match signature (signer ∷ others) =
     if matches_key signature signer.key then Some (record { signer = signer; others = others })
-    else behind signer (first_match signature others)
+    else after signer (first_match signature others)
 
--- Each signature in turn, from a place on: it counts the first signer left that it matches, if there is one. So each
+-- Each signature in turn, from an index on: it counts the first signer left that it matches, if there is one. So each
 -- signer counts once.
 unfoldable pub counted_by_signatures : ℕ → List HeldSignature → List Signer → List Counted
-counted_by_signatures place [] left = []
-counted_by_signatures place (signature ∷ signatures) left =
+counted_by_signatures index [] left = []
+counted_by_signatures index (signature ∷ signatures) left =
     elim (first_match signature left) [
-      | None ↦ counted_by_signatures (suc place) signatures left
+      | None ↦ counted_by_signatures (suc index) signatures left
       | Some found ↦
-          record { weight = weight_of found.signer; signature = Some place }
-          ∷ counted_by_signatures (suc place) signatures found.others
+          record { weight = weight_of found.signer; signature = Some index }
+          ∷ counted_by_signatures (suc index) signatures found.others
     ]
 
 -- all signers that count, in their order
 abbrev pub counted : Hash → List HeldSignature → List Signer → List Counted
 counted hash signatures signers = counted_by_hash hash signers ++ counted_by_signatures 0 signatures signers
 
--- ---- whether they reach the need
+-- ---- whether they reach the threshold
 
--- after some signer that counts, the sum of the weights so far is the need or more
+-- after some signer that counts, the sum of the weights so far is the threshold or more
 unfoldable pub reaches : (need sum : ℕ) → List Counted → Bool
 reaches need sum [] = false
 reaches need sum (c ∷ cs) = nat_le need (sum + c.weight) || reaches need (sum + c.weight) cs
 
--- the signers that count up to the first one with which the sum reaches the need, or all where it never does
+-- the signers that count up to the first one with which the sum reaches the threshold, or all where it never does
 unfoldable pub until_reached : (need sum : ℕ) → List Counted → List Counted
 until_reached need sum [] = []
 until_reached need sum (c ∷ cs) =
@@ -106,13 +106,13 @@ until_reached need sum (c ∷ cs) =
 -- ---- which signatures are used
 
 unfoldable pub used_at : ℕ → List HeldSignature → List HeldSignature
-used_at place [] = []
+used_at index [] = []
 used_at zero (signature ∷ signatures) = record signature { is_used = true } ∷ signatures
-used_at (suc place) (signature ∷ signatures) = signature ∷ used_at place signatures
+used_at (suc index) (signature ∷ signatures) = signature ∷ used_at index signatures
 
 abbrev pub used_by : Option ℕ → List HeldSignature → List HeldSignature
 used_by None signatures = signatures
-used_by (Some place) signatures = used_at place signatures
+used_by (Some index) signatures = used_at index signatures
 
 -- the signatures, of which those are used that made one of these signers count
 unfoldable pub used_for : List Counted → List HeldSignature → List HeldSignature
@@ -121,12 +121,12 @@ used_for (c ∷ cs) signatures = used_for cs (used_by c.signature signatures)
 
 -- ---- a check of an account
 
--- The signers of the account that count reach the need.
+-- The signers of the account that count reach the threshold.
 abbrev pub succeeds : Hash → List HeldSignature → AccountEntry → ℕ → Bool
 succeeds hash signatures account need = reaches need 0 (counted hash signatures (signers_of account))
 
 -- The signatures after the check. A signature is used if it was before, or if it made a signer count up to the one that
--- reached the need.
+-- reached the threshold.
 abbrev pub after_check : Hash → List HeldSignature → AccountEntry → ℕ → List HeldSignature
 after_check hash signatures account need =
     used_for (until_reached need 0 (counted hash signatures (signers_of account))) signatures

@@ -52,7 +52,7 @@ impl Checker {
 
     /// Whether the signatures reach a weight for an account: pre-authorised signers count first, and then the hash-x
     /// signers by the signatures in their order, each signer once and with at most 255. The check ends as soon as a
-    /// signer that counts brings the sum to `needed`, so a need of 0 takes one signer. It takes no memory.
+    /// signer that counts brings the sum to `needed`, so a threshold of 0 takes one signer. It takes no memory.
     pub fn check(&mut self, account: &AccountEntry, needed: u32) -> bool
         requires { length account.now.signers ≤ 20 }
         ensures succeeds { result ≡ succeeds self.old.hash self.old.signatures account.now needed }

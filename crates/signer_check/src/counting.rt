@@ -13,8 +13,8 @@ use ledger_types::Signer;
 /// The most signers of an account, as the length of a table.
 pub const MAX_SIGNERS: usize = ledger_types::MAX_SIGNERS as usize;
 
-/// Where the first signer stands that has not counted and that the signature matches.
-fn first_place(
+/// The index of the first signer that has not counted and that the signature matches.
+fn first_index(
     counted: &[bool; MAX_SIGNERS],
     signers: &[Signer],
     signature: &HeldSignature,
@@ -37,7 +37,7 @@ pub fn count_signer<'a>(
     ensures others { left_of counted.new signers.now ≡
         left_after (left_of counted.old signers.now) (first_match signature.now (left_of counted.old signers.now)) }
 {
-    let place = first_place(counted, signers, signature)?;
-    counted[place] = true;
-    Some(&signers[place])
+    let index = first_index(counted, signers, signature)?;
+    counted[index] = true;
+    Some(&signers[index])
 }

@@ -7,7 +7,7 @@
 //!     speed head COUNT              makes a map whose so many best offers are erased; asks for its best a million
 //!                                   times
 //!     speed head-base COUNT         makes the map alone
-//!     speed index COUNT PAIRS       makes an index of so many offers, and 1,000 times the one behind a batch of 100
+//!     speed index COUNT PAIRS       makes an index of so many offers, and 1,000 times the one after a batch of 100
 //!     speed index-base COUNT PAIRS  makes the index alone
 //!
 //! These print how many offers were answered, and the sum of their numbers.
@@ -20,10 +20,10 @@
 //! These print how many stores were made, how many records were appended, or how many there were.
 #![tactic(auto)]
 
-mod books;
+mod order_books;
 mod stores;
 
-use books::{Seen, pass_book, pass_head, pass_index};
+use order_books::{Seen, pass_book, pass_head, pass_index};
 use std::rt::Files;
 use std::{env, io};
 use stores::pass_store;

@@ -9,7 +9,7 @@ use outside::DirVolume;
 use std::alloc::{AllocError, Global};
 use std::fs::Files;
 use xdr_core::{Builder, Cursor};
-use xdr_header::laws::reading_and_spelling_agree;
+use xdr_header::laws::reading_and_encoding_agree;
 use xdr_header::{StartImage, read_start_image};
 
 /// The most bytes of a record.
@@ -18,7 +18,7 @@ const MOST_OF_RECORD: usize = 16777216;
 /// An epoch from here on is the last one.
 const LAST_EPOCH: u64 = 9223372036854775807;
 
-/// The spelling of an image whose first file has so many bytes, and whose others are empty.
+/// The encoding of an image whose first file has so many bytes, and whose others are empty.
 fn image_text(alloc: Global, count: usize) -> Result<Vec<u8>, AllocError> {
     let mut text = Builder::new(alloc);
     text.raw(b"SLI1")?;
@@ -31,11 +31,11 @@ fn image_text(alloc: Global, count: usize) -> Result<Vec<u8>, AllocError> {
     Ok(text.finish())
 }
 
-/// The image with this spelling.
+/// The image with this encoding.
 fn image_in(alloc: Global, text: &[u8]) -> Option<StartImage>
     ensures { IfSome result start_image.within }
 {
-    reading_and_spelling_agree();
+    reading_and_encoding_agree();
     let mut cursor = Cursor::new(text);
     match read_start_image(alloc, &mut cursor) {
         Ok(image) => Some(image),

@@ -1,25 +1,12 @@
 -- What a change of one count leaves of an account, and what of an entry depends on its account.
-use Rattle.std.proofs.Common.{◌≡◌, refl, sym, ap, ◌∙◌, ℕ, suc, ◌+◌, true, false, cond, List, [], ◌∷◌, length, map}
-use Rattle.std.proofs.Common.{Option, Some, None, nat_eq, arith}
-use Rattle.std.specs.Prelude.{if◌then◌else◌}
-use Rattle.std.specs.List.{count_by}
-use borrow.Author.Tests.{eqb-true}
-use Rattle.sponsor_rules.specs.ledger_types.declared.ids.AccountId.{AccountId}
-use Rattle.sponsor_rules.specs.ledger_types.declared.signer.Signer.{Signer}
-use Rattle.sponsor_rules.specs.ledger_types.declared.account.AccountEntry.{AccountEntry}
-use Rattle.sponsor_rules.specs.ledger_types.declared.account.AccountEntryExtensionV2.{AccountEntryExtensionV2}
-use Rattle.sponsor_rules.specs.ledger_types.declared.entry.LedgerEntry.{LedgerEntry}
-use Rattle.sponsor_rules.specs.ledger_types.declared.entry.LedgerEntryBody.{LedgerEntryBody}
+use Rattle.sponsor_laws.proofs.Prelude as prelude
+use prelude.{◌≡◌, refl, sym, ap, ◌∙◌, ℕ, ◌+◌, true, false, cond, List, [], length, Option, Some, None, nat_eq, arith}
+use prelude.{if◌then◌else◌, count_by, eqb-true, AccountId, Signer, AccountEntry, AccountEntryExtensionV2, LedgerEntry}
+use prelude.{LedgerEntryBody, second_in, sponsorship_in, sponsor_of, multiplicity, owner_of, count_in, with_count}
+use prelude.{with_new_count, is_same_account, Count, SubEntries, Sponsoring, Sponsored, signer_sponsors, is_this}
+use prelude.{is_there, subentries_for, sponsored_signers, sponsoring_signers, counted_for, HasItems, same_sponsored}
+use prelude.{same_sponsoring, length-map}
 use Rattle.sponsor_rules.specs.ledger_types.declared.entry.LedgerEntryBody.TheVariants as body
-use Rattle.sponsor_rules.specs.entry_slots.AccountExtensions.{second_in, sponsored_in, sponsoring_in, sponsorship_in}
-use Rattle.sponsor_rules.specs.entry_slots.EntrySponsor.{sponsor_of}
-use Rattle.sponsor_rules.specs.Charge.{multiplicity, owner_of}
-use Rattle.sponsor_rules.specs.Counting.{count_in, with_count, with_new_count}
-use Rattle.sponsor_rules.specs.Payers.{is_same_account}
-use Rattle.sponsor_rules.specs.declared.count.Count.{Count}
-use Rattle.sponsor_rules.specs.declared.count.Count.TheVariants.{SubEntries, Sponsoring, Sponsored}
-use Rattle.sponsor_laws.specs.Sums.{signer_sponsors, is_this, is_there, subentries_for, sponsored_signers}
-use Rattle.sponsor_laws.specs.Sums.{sponsoring_signers, counted_for, HasItems}
 
 -- ---- counts
 
@@ -30,16 +17,6 @@ instead Sponsoring Sponsoring n m = n
 instead Sponsored Sponsored n m = n
 instead at other n m = m
 
-stood_for_sponsored : (signers : List Signer) (o : Option AccountEntryExtensionV2)
-    → (sponsorship_in signers o).num_sponsored ≡ sponsored_in o
-stood_for_sponsored signers None = refl
-stood_for_sponsored signers (Some ext) = refl
-
-stood_for_sponsoring : (signers : List Signer) (o : Option AccountEntryExtensionV2)
-    → (sponsorship_in signers o).num_sponsoring ≡ sponsoring_in o
-stood_for_sponsoring signers None = refl
-stood_for_sponsoring signers (Some ext) = refl
-
 with_new_count-count : (count other : Count) (n : ℕ) (a : AccountEntry)
     → count_in other (with_new_count count n a) ≡ instead count other n (count_in other a)
 with_new_count-count SubEntries SubEntries n a = refl
@@ -47,9 +24,9 @@ with_new_count-count SubEntries Sponsoring n a = refl
 with_new_count-count SubEntries Sponsored n a = refl
 with_new_count-count Sponsoring SubEntries n a = refl
 with_new_count-count Sponsoring Sponsoring n a = refl
-with_new_count-count Sponsoring Sponsored n a = stood_for_sponsored a.signers (second_in a.ext)
+with_new_count-count Sponsoring Sponsored n a = same_sponsored a.signers (second_in a.ext)
 with_new_count-count Sponsored SubEntries n a = refl
-with_new_count-count Sponsored Sponsoring n a = stood_for_sponsoring a.signers (second_in a.ext)
+with_new_count-count Sponsored Sponsoring n a = same_sponsoring a.signers (second_in a.ext)
 with_new_count-count Sponsored Sponsored n a = refl
 
 instead_same : (count other : Count) (a : AccountEntry)
@@ -97,14 +74,10 @@ with_count-keeps count n a = elim (nat_eq n (count_in count a)) as
 
 -- ---- items
 
-length_mapped : {X Y : Type 0} (f : X → Y) (xs : List X) → length (map f xs) ≡ length xs
-length_mapped f [] = refl
-length_mapped f (x ∷ xs) = ap suc (length_mapped f xs)
-
 as_many_in : (signers : List Signer) (o : Option AccountEntryExtensionV2)
     → ((ext : AccountEntryExtensionV2) → o ≡ Some ext → length ext.signer_sponsoring_ids ≡ length signers)
     → length (sponsorship_in signers o).signer_sponsoring_ids ≡ length signers
-as_many_in signers None h = length_mapped _ signers
+as_many_in signers None h = length-map signers _
 as_many_in signers (Some ext) h = h ext refl
 
 pub as_many : (a : AccountEntry) → HasItems a → length (signer_sponsors a) ≡ length a.signers

@@ -1,33 +1,20 @@
 -- Adding a signer keeps counts equal to their sums.
-use Rattle.std.proofs.Common.{◌≡◌, ◌≢◌, refl, ap, subst, ◌∙◌, ℕ, ◌+◌, ◌≤◌, cond, length, Option, Some, None, Ok, arith}
-use Rattle.std.specs.List.{sum_by, insert}
-use Rattle.std.proofs.lemmas.List.Edits.{length-insert}
-use Rattle.std.proofs.lemmas.List.Sums.{sum_by-insert, prefix_len-le-length}
-use Rattle.sponsor_rules.specs.ledger_types.declared.ids.AccountId.{AccountId}
-use Rattle.sponsor_rules.specs.ledger_types.declared.signer.Signer.{Signer}
-use Rattle.sponsor_rules.specs.ledger_types.declared.account.AccountEntry.{AccountEntry}
-use Rattle.sponsor_rules.specs.entry_map.EntryMap.{EntryMap}
-use Rattle.sponsor_rules.specs.declared.context.Ctx.{Ctx}
-use Rattle.sponsor_rules.specs.declared.count.Count.TheVariants.{SubEntries, Sponsoring, Sponsored}
-use Rattle.sponsor_rules.specs.entry_slots.Accounts.{HasAccount}
-use Rattle.sponsor_rules.specs.Counting.{count_in, with_more}
-use Rattle.sponsor_rules.specs.Paying.{map_after_charging, with_subentry}
-use Rattle.sponsor_rules.specs.Payers.{open_sponsor, payer_of, payer_by, subentry_tests_at}
-use Rattle.sponsor_rules.specs.Adding.{map_after_counting}
-use Rattle.sponsor_rules.specs.SignerPlace.{place_for, with_signer}
-use Rattle.sponsor_rules.specs.Signers.{map_after_adding_signer, map_with_signer}
-use Rattle.sponsor_laws.specs.Sums.{is_this, is_there, signer_sponsors}
-use Rattle.sponsor_laws.specs.Laws.{IsApart, AddingSignerKeeps}
+use Rattle.sponsor_laws.proofs.Prelude.{◌≡◌, ◌≢◌, refl, ap, subst, ◌∙◌, ℕ, ◌+◌, ◌≤◌, cond, length, Option, Some, None}
+use Rattle.sponsor_laws.proofs.Prelude.{Ok, arith, sum_by, insert, length-insert, sum_by-insert, prefix_len-le-length}
+use Rattle.sponsor_laws.proofs.Prelude.{AccountId, Signer, AccountEntry, EntryMap, Ctx, SubEntries, Sponsoring}
+use Rattle.sponsor_laws.proofs.Prelude.{Sponsored, HasAccount, count_in, with_more, map_after_charging, with_subentry}
+use Rattle.sponsor_laws.proofs.Prelude.{open_sponsor, payer_of, payer_by, subentry_tests_at, map_after_counting}
+use Rattle.sponsor_laws.proofs.Prelude.{index_for, with_signer, map_after_adding_signer, map_with_signer, is_this}
+use Rattle.sponsor_laws.proofs.Prelude.{is_there, signer_sponsors, IsApart, AddingSignerKeeps, counts_edited}
 use Rattle.sponsor_laws.proofs.Even.{AreOwn, IsEven, even, kept_of}
 use Rattle.sponsor_laws.proofs.Shifts.{Shift, at_one, plus, no_shift, IsShiftedAccount, unshifted}
 use Rattle.sponsor_laws.proofs.Changes.{more_keeps, twice, shifted_raise}
 use Rattle.sponsor_laws.proofs.Paying.{shared, shifted_counting}
 use Rattle.sponsor_laws.proofs.Bounds.{done_by, have_passed, has_few, has_room, few_more, both_more, HasRoom}
-use Rattle.sponsor_laws.proofs.Edits.{IsEdited, edited, named_stands, signed_more}
-use Rattle.sponsor_rules.proofs.Keeping.{counts_edited}
+use Rattle.sponsor_laws.proofs.Edits.{IsEdited, edited, named_exists, signed_more}
 use Rattle.sponsor_laws.proofs.SignerLists.{sponsors_inserted}
-use Rattle.sponsor_laws.proofs.SignedAccounts.{there_is, IsHeld, held_by, own_id, own_stands, as_many_sponsors}
-use Rattle.sponsor_laws.proofs.SignedAccounts.{signer_stands, own_of, own_share}
+use Rattle.sponsor_laws.proofs.SignedAccounts.{there_is, IsHeld, held_by, own_id, own_exists, as_many_sponsors}
+use Rattle.sponsor_laws.proofs.SignedAccounts.{signer_exists, own_of, own_share}
 
 -- a subentry more of the owner, which the sponsor pays, if there is one
 abbrev signer_shift : AccountId → Option AccountId → Shift
@@ -58,21 +45,21 @@ module _ (old : EntryMap) (h : IsEven old) (id : AccountId) (a : AccountEntry) (
       → (b : AccountEntry) → IsShiftedAccount (signer_shift id s) no_shift a b
       → IsEdited (signer_shift id s) no_shift old a (with_signer signer s b)
   with_signer_edits signer s payer b shifted =
-      let place = place_for signer.key b.signers in
+      let index = index_for signer.key b.signers in
       let c = with_signer signer s b in
-      let within : place ≤ length b.signers = prefix_len-le-length _ b.signers in
-      let sponsors : signer_sponsors c ≡ insert (signer_sponsors a) place s =
-      sponsors_inserted place signer s b (paid_for s b shifted)
-      ∙ ap (λ xs. insert xs place s) shifted.parts.sponsors in
-      let sums = λ (g : Option AccountId → ℕ). ap (sum_by g) sponsors ∙ sum_by-insert g (signer_sponsors a) place s in
+      let within : index ≤ length b.signers = prefix_len-le-length _ b.signers in
+      let sponsors : signer_sponsors c ≡ insert (signer_sponsors a) index s =
+      sponsors_inserted index signer s b (paid_for s b shifted)
+      ∙ ap (λ xs. insert xs index s) shifted.parts.sponsors in
+      let sums = λ (g : Option AccountId → ℕ). ap (sum_by g) sponsors ∙ sum_by-insert g (signer_sponsors a) index s in
       let same_length = ap length shifted.parts.signers in
-      let longer = length-insert b.signers place signer within in
+      let longer = length-insert b.signers index signer within in
       let all = as_many_sponsors old h id a held in
       record {
         id = shifted.parts.id;
-        counts = λ count. ap (λ n. n + 0) (counts_edited (λ xs. insert xs place s) count b
-            (insert b.signers place signer)) ∙ shifted.counts count;
-        items = (let more = length-insert (signer_sponsors a) place s (omega arith) in let new = ap length sponsors in
+        counts = λ count. ap (λ n. n + 0) (counts_edited (λ xs. insert xs index s) count b
+            (insert b.signers index signer)) ∙ shifted.counts count;
+        items = (let more = length-insert (signer_sponsors a) index s (omega arith) in let new = ap length sponsors in
             omega arith);
         parts = λ count i.
             let before = own_of old h id a held count i a own in
@@ -80,32 +67,32 @@ module _ (old : EntryMap) (h : IsEven old) (id : AccountId) (a : AccountEntry) (
             let more = signed_more count i id (length a.signers) (length c.signers) (signer_sponsors a)
             (signer_sponsors c) s (omega arith) sums in
             omega arith;
-        names = λ i. named_stands old (signer_sponsors a) (signer_sponsors c) s i (let sum =
-            sums (λ o. cond (is_this i o) 1 0) in omega arith) (payer i) (signer_stands old h id a held i);
+        names = λ i. named_exists old (signer_sponsors a) (signer_sponsors c) s i (let sum =
+            sums (λ o. cond (is_this i o) 1 0) in omega arith) (payer i) (signer_exists old h id a held i);
       }
 
   signer_added : (ctx : Ctx) (signer : Signer) (new : EntryMap) → HasAccount old (payer_of ctx id) → IsApart ctx id
       → map_after_adding_signer ctx id signer old ≡ Ok new → IsEven new
-  signer_added ctx signer new payer_stands apart done =
+  signer_added ctx signer new payer_exists apart done =
       let s = open_sponsor ctx id in
       let m = map_after_counting id 1 s old in
       let after = map_with_signer id signer s old in
       let tests = have_passed ctx old id 1 after new done in
-      let stands = own_stands old h id a held in
+      let exists = own_exists old h id a held in
       let second = shifted_counting no_shift no_shift 1 old old h.own (unshifted old h.own) id s in
       let once = twice (map_after_charging 1 s old) id (with_subentry 1 s) (with_signer signer s) (charging_own old h s)
       (with_subentry_id s) (λ b. refl) in
       let payer_is : (x : AccountId) → s ≡ Some x → payer_of ctx id ≡ x = λ x pays. ap (payer_by id) pays in
       subst IsEven (once ∙ done_by (subentry_tests_at ctx old id 1) after new done)
       (edited (signer_shift id s) no_shift id (with_signer signer s) old m h second held.entry a held.there held.is
-      (with_signer_edits signer s (λ x pays. subst (HasAccount old) (payer_is x pays) payer_stands))
-      (λ i. let le = few_more old id i 1 h (has_few old id 1 h stands tests.not_full) in omega arith)
-      (λ i. let le = both_more old i id s 1 h (has_room old id 1 h stands tests.owner) (λ x pays. (
-        subst (λ y. HasRoom old y 1) (payer_is x pays) (has_room old (payer_of ctx id) 1 h payer_stands tests.payer),
+      (with_signer_edits signer s (λ x pays. subst (HasAccount old) (payer_is x pays) payer_exists))
+      (λ i. let le = few_more old id i 1 h (has_few old id 1 h exists tests.not_full) in omega arith)
+      (λ i. let le = both_more old i id s 1 h (has_room old id 1 h exists tests.owner) (λ x pays. (
+        subst (λ y. HasRoom old y 1) (payer_is x pays) (has_room old (payer_of ctx id) 1 h payer_exists tests.payer),
         apart x pays,
       )) in omega arith))
 
 pub adding_signer_keeps : AddingSignerKeeps
-adding_signer_keeps ctx id signer old new kept stands payer_stands apart done =
-    kept_of new (signer_added old (even old kept) id stands.0
-    (held_by old id stands.0 stands.1) ctx signer new payer_stands apart done)
+adding_signer_keeps ctx id signer old new kept exists payer_exists apart done =
+    kept_of new (signer_added old (even old kept) id exists.0
+    (held_by old id exists.0 exists.1) ctx signer new payer_exists apart done)

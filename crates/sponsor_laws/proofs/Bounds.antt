@@ -1,30 +1,19 @@
 -- What the tests of a payer say, once they let a change through.
-use Rattle.std.proofs.Common.{◌≡◌, ◌≢◌, refl, sym, ap, subst, ◌∙◌, ℕ, ◌+◌, ◌≤◌, Bool, true, false, ◌||◌, [], ◌∷◌}
-use Rattle.std.proofs.Common.{Option, Some, None, Ok, arith}
-use Rattle.std.specs.Prelude.{if◌then◌else◌}
-use borrow.Author.Tests.{ltb-false}
-use Rattle.sponsor_rules.specs.ledger_types.declared.ids.AccountId.{AccountId}
-use Rattle.sponsor_rules.specs.entry_map.EntryMap.{EntryMap}
-use Rattle.sponsor_rules.specs.declared.count.Count.{Count}
-use Rattle.sponsor_rules.specs.declared.count.Count.TheVariants.{SubEntries, Sponsoring}
-use Rattle.sponsor_rules.specs.declared.context.Ctx.{Ctx}
+use Rattle.sponsor_laws.proofs.Prelude as prelude
+use prelude.{◌≡◌, ◌≢◌, refl, sym, ap, subst, ◌∙◌, ℕ, ◌+◌, ◌≤◌, Bool, true, false, ◌||◌, [], ◌∷◌, Option, Some, None, Ok}
+use prelude.{arith, if◌then◌else◌, ltb-false, AccountId, EntryMap, Count, SubEntries, Sponsoring, Ctx, account_at}
+use prelude.{HasAccount, Tests, first_fault, unless_fault, unless_first, count_at, count_if, is_full, is_over, is_short}
+use prelude.{payer_of, payer_tests_at, subentry_tests_at, is_same_account, is_this, total, same_account, or_parts}
 use Rattle.sponsor_rules.specs.declared.fault.AddFault.{AddFault}
 use Rattle.sponsor_rules.specs.declared.fault.AddFault.TheVariants.{TooManySubentries, TooManySponsoring}
 use Rattle.sponsor_rules.specs.declared.fault.AddFault.TheVariants.{LowReserve}
-use Rattle.sponsor_rules.specs.entry_slots.Accounts.{account_at, HasAccount}
-use Rattle.sponsor_rules.specs.entry_slots.Tests.{Tests, first_fault, unless_fault, unless_first}
-use Rattle.sponsor_rules.specs.Counting.{count_at, count_if}
-use Rattle.sponsor_rules.specs.Payers.{is_full, is_over, is_short, payer_of, payer_tests_at, subentry_tests_at}
-use Rattle.sponsor_rules.specs.Payers.{is_same_account}
-use Rattle.sponsor_laws.specs.Sums.{is_this, total}
-use Rattle.sponsor_rules.proofs.Ids.{same_account}
 use Rattle.sponsor_laws.proofs.Even.{IsEven, sums_of, all_few, all_fit, this_is}
 
 -- ---- tests that let a change through
 
-passed : (tests : Tests AddFault) (m new : EntryMap) → unless_first tests m ≡ Ok new
+unless_first_same : (tests : Tests AddFault) (m new : EntryMap) → unless_first tests m ≡ Ok new
     → (first_fault tests ≡ None) × (m ≡ new)
-passed tests m new is = elim (first_fault tests) as (λ o. first_fault tests ≡ o → unless_fault o m ≡ Ok new
+unless_first_same tests m new is = elim (first_fault tests) as (λ o. first_fault tests ≡ o → unless_fault o m ≡ Ok new
     → (first_fault tests ≡ None) × (m ≡ new)) [
       | None ↦ λ none done. (none, cc)
       | Some fault ↦ λ some done. absurd (cc)
@@ -35,19 +24,15 @@ first_passed : (b : Bool) (fault : AddFault) (tests : Tests AddFault) → first_
 first_passed true fault tests is = absurd (cc)
 first_passed false fault tests is = (refl, is)
 
-neither : (a b : Bool) → (a || b) ≡ false → (a ≡ false) × (b ≡ false)
-neither true b is = absurd (cc)
-neither false b is = (refl, is)
-
 pub done_by : (tests : Tests AddFault) (m new : EntryMap) → unless_first tests m ≡ Ok new → m ≡ new
-done_by tests m new is = (passed tests m new is).1
+done_by tests m new is = (unless_first_same tests m new is).1
 
 -- a payer that passed
 pub payer_passed : (ctx : Ctx) (m : EntryMap) (payer : AccountId) (k : ℕ) (after new : EntryMap)
     → unless_first (payer_tests_at ctx m payer k) after ≡ Ok new → is_over (account_at m payer) k ≡ false
 payer_passed ctx m payer k after new is = (first_passed (is_over (account_at m payer) k) TooManySponsoring
     ((is_short ctx.base_reserve (account_at m payer) k, LowReserve) ∷ [])
-    (passed (payer_tests_at ctx m payer k) after new is).0).0
+    (unless_first_same (payer_tests_at ctx m payer k) after new is).0).0
 
 -- an owner and a payer that passed
 pub record HavePassed (ctx : Ctx) (m : EntryMap) (id : AccountId) (k : ℕ) : Type 0 where
@@ -65,8 +50,8 @@ have_passed ctx m owner k after new is =
           (account_at m (payer_of ctx owner)) k || is_over (account_at m owner) k,
       TooManySponsoring,
     ) ∷ short)
-    (passed (subentry_tests_at ctx m owner k) after new is).0 in
-    let over = neither (is_over (account_at m (payer_of ctx owner)) k) (is_over (account_at m owner) k)
+    (unless_first_same (subentry_tests_at ctx m owner k) after new is).0 in
+    let over = or_parts (is_over (account_at m (payer_of ctx owner)) k) (is_over (account_at m owner) k)
     (first_passed (is_over (account_at m (payer_of ctx owner)) k || is_over
     (account_at m owner) k) TooManySponsoring short full.1).0 in
     record { not_full = full.0; payer = over.0; owner = over.1 }
@@ -75,18 +60,18 @@ have_passed ctx m owner k after new is =
 
 count_at_total : (m : EntryMap) (id : AccountId) (count : Count) → IsEven m → HasAccount m id
     → count_at m id count ≡ total count id m
-count_at_total m id count h stands = ap (count_if count) stands.1 ∙ sums_of m h id stands.0 count stands.1
+count_at_total m id count h exists = ap (count_if count) exists.1 ∙ sums_of m h id exists.0 count exists.1
 
 pub has_few : (m : EntryMap) (id : AccountId) (k : ℕ) → IsEven m → HasAccount m id → is_full (account_at m id) k ≡ false
     → total SubEntries id m + k ≤ 1000
-has_few m id k h stands not_full = let count = count_at_total m id SubEntries h stands in
+has_few m id k h exists not_full = let count = count_at_total m id SubEntries h exists in
     let le = ltb-false _ _ not_full in omega arith
 
 pub has_room : (m : EntryMap) (id : AccountId) (k : ℕ) → IsEven m → HasAccount m id
     → is_over (account_at m id) k ≡ false → total SubEntries id m + total Sponsoring id m + k ≤ 4294967295
-has_room m id k h stands not_over =
-    let subs = count_at_total m id SubEntries h stands in
-    let pays = count_at_total m id Sponsoring h stands in
+has_room m id k h exists not_over =
+    let subs = count_at_total m id SubEntries h exists in
+    let pays = count_at_total m id Sponsoring h exists in
     let le = ltb-false _ _ not_over in
     omega arith
 

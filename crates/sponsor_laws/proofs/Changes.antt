@@ -1,42 +1,22 @@
 -- Raising and lowering a count of one account, and what sponsors then pay.
-use Rattle.std.proofs.Common.{◌≡◌, ◌≢◌, ◌⊎◌, inl, inr, refl, sym, ap, subst, ◌∙◌, ℕ, ◌+◌, ◌-◌, ◌≤◌, true, false, cond}
-use Rattle.std.proofs.Common.{Option, Some, None, arith}
-use Rattle.std.specs.Prelude.{if◌then◌else◌}
-use Rattle.std.specs.Ordering.{eq_by_cmp}
-use Rattle.std.specs.FinMap.{get, get-insert, same_map}
-use Rattle.sponsor_rules.specs.ledger_types.declared.ids.AccountId.{AccountId}
-use Rattle.sponsor_rules.specs.ledger_types.declared.account.AccountEntry.{AccountEntry}
-use Rattle.sponsor_rules.specs.ledger_types.declared.entry.LedgerEntry.{LedgerEntry}
-use Rattle.sponsor_rules.specs.ledger_types.declared.entry.LedgerEntryBody.{LedgerEntryBody}
+use Rattle.sponsor_laws.proofs.Prelude.{◌≡◌, ◌≢◌, ◌⊎◌, inl, inr, refl, sym, ap, subst, ◌∙◌, ℕ, ◌+◌, ◌-◌, ◌≤◌, true}
+use Rattle.sponsor_laws.proofs.Prelude.{false, cond, Option, Some, None, arith, if◌then◌else◌, eq_by_cmp, get, same_map}
+use Rattle.sponsor_laws.proofs.Prelude.{AccountId, AccountEntry, LedgerEntry, LedgerEntryBody, LedgerKey, key_of}
+use Rattle.sponsor_laws.proofs.Prelude.{key_of_body, key_cmp, keys_total, keys_exact, EntryMap, put, same_itself, Count}
+use Rattle.sponsor_laws.proofs.Prelude.{SubEntries, Sponsoring, Sponsored, account_in, account_of, account_at}
+use Rattle.sponsor_laws.proofs.Prelude.{with_account, with_account_of, with_account_in, count_in, with_more, with_less}
+use Rattle.sponsor_laws.proofs.Prelude.{is_same_account, total, counted_for, is_itself, put_get, same_keys}
 use Rattle.sponsor_rules.specs.ledger_types.declared.entry.LedgerEntryBody.TheVariants as body
-use Rattle.sponsor_rules.specs.ledger_types.declared.key.LedgerKey.{LedgerKey}
 use Rattle.sponsor_rules.specs.ledger_types.declared.key.LedgerKey.TheVariants as key
-use Rattle.sponsor_rules.specs.ledger_types.Keys.{key_of, key_of_body}
-use Rattle.sponsor_rules.specs.ledger_types.KeyOrder.{key_cmp}
-use Rattle.sponsor_rules.proofs.ledger_types_proofs.KeyOrdering.{keys_total, keys_exact}
-use Rattle.sponsor_rules.specs.entry_map.EntryMap.{EntryMap, put}
-use Rattle.sponsor_rules.proofs.entry_map_proofs.KeyMaps.{same_keys, same_itself}
 use Rattle.sponsor_rules.proofs.entry_map_proofs.Layers.{after_insert}
-use Rattle.sponsor_rules.specs.declared.count.Count.{Count}
-use Rattle.sponsor_rules.specs.declared.count.Count.TheVariants.{SubEntries, Sponsoring, Sponsored}
-use Rattle.sponsor_rules.specs.entry_slots.Accounts.{account_in, account_of, account_at, with_account, with_account_of}
-use Rattle.sponsor_rules.specs.entry_slots.Accounts.{with_account_in}
-use Rattle.sponsor_rules.specs.Counting.{count_in, with_more, with_less}
-use Rattle.sponsor_rules.specs.Payers.{is_same_account}
-use Rattle.sponsor_laws.specs.Sums.{total, counted_for}
 use Rattle.sponsor_laws.proofs.Totals.{part_of, sum_in-insert}
-use Rattle.sponsor_rules.proofs.Ids.{is_itself}
 use Rattle.sponsor_laws.proofs.Accounts.{KeepsParts, keeps_twice, with_count-keeps, with_count-count, instead}
 use Rattle.sponsor_laws.proofs.Accounts.{counted-keeps}
-use Rattle.sponsor_laws.proofs.Even.{AreOwn, account_key, stands_in}
+use Rattle.sponsor_laws.proofs.Even.{AreOwn, account_key, exists_in}
 use Rattle.sponsor_laws.proofs.Shifts.{Shift, at_one, plus, IsShiftedAccount, AlikeBodies, Alike, IsShifted, apart_ids}
 use Rattle.sponsor_laws.proofs.Shifts.{account_after, entry_after, shifted_as, alike_agree}
 
 -- ---- the map after a put
-
-pub put_get : (m : EntryMap) (e : LedgerEntry) (k : LedgerKey)
-    → get (put m e) k ≡ cond (eq_by_cmp key_cmp k (key_of e)) (Some e) (get m k)
-put_get m e k = get-insert keys_total m (key_of e) e k
 
 put_own : (m : EntryMap) (e : LedgerEntry) → AreOwn m → AreOwn (put m e)
 put_own m e own k x there = after_insert (λ q y. key_of y ≡ q) m (key_of e) e refl own k x there
@@ -147,7 +127,7 @@ twice m id f g own keeps_f keeps_g = elim (changed_at m id f own) [
   where
     missing_not : (m : EntryMap) (id : AccountId) (f : AccountEntry → AccountEntry) → account_at m id ≡ None
         → IsChangedAt m id f → ⊥
-    missing_not m id f none c = let stands = stands_in m id c.entry c.account c.there (ap account_in c.is) in
+    missing_not m id f none c = let exists = exists_in m id c.entry c.account c.there (ap account_in c.is) in
         absurd (cc)
 
     unchanged : (m : EntryMap) (id : AccountId) (g : AccountEntry → AccountEntry) → AreOwn m → account_at m id ≡ None
@@ -185,8 +165,8 @@ module _ (p q p' q' : Shift) (id : AccountId) (f : AccountEntry → AccountEntry
   moved_bodies : (x : LedgerEntryBody) (a : AccountEntry) → Moves → key_of_body x ≡ key.Account id
       → ((was : AccountEntry) → account_in x ≡ Some was → account_at old id ≡ Some was)
       → AlikeBodies p q x (body.Account a) → AlikeBodies p' q' x (body.Account (f a))
-  moved_bodies (body.Account was) a moves own stands h = moves was a (stands was refl) (cc) h
-  moved_bodies other a moves own stands h = absurd (cc)
+  moved_bodies (body.Account was) a moves own exists h = moves was a (exists was refl) (cc) h
+  moved_bodies other a moves own exists h = absurd (cc)
 
   moved_entry : (x : Option LedgerEntry) (e : LedgerEntry) (a : AccountEntry) → Moves → e.body ≡ body.Account a
       → ((y : LedgerEntry) → x ≡ Some y → key_of y ≡ key.Account id) → x ≡ get old (key.Account id)
@@ -195,7 +175,7 @@ module _ (p q p' q' : Shift) (id : AccountId) (f : AccountEntry → AccountEntry
   moved_entry None e a moves is own at h = absurd h
   moved_entry (Some x) e a moves is own at h = record {
     sponsor = h.sponsor;
-    bodies = moved_bodies x.body a moves (own x refl) (λ was holds. stands_in old id x was (sym at) holds)
+    bodies = moved_bodies x.body a moves (own x refl) (λ was holds. exists_in old id x was (sym at) holds)
         (subst (AlikeBodies p q x.body) is h.bodies);
   }
 
@@ -226,14 +206,14 @@ module _ (p q p' q' : Shift) (id : AccountId) (f : AccountEntry → AccountEntry
 
   module _ (m : EntryMap) (own : AreOwn old) (h : IsShifted p q old m) (keeps : (a : AccountEntry)
       → KeepsParts a (f a)) (moves : Moves) (elsewhere : AgreeElsewhere) where
-    -- an account that stands in the old map, under its key, is still there
+    -- an account that exists in the old map, under its key, is still there
     still_there : (k : LedgerKey) (e : LedgerEntry) (account : AccountEntry) → get old k ≡ Some e
         → account_in e.body ≡ Some account → account_at m account.account_id ≢ None
     still_there k e account there is none =
         let at : k ≡ key.Account account.account_id = sym (own k e there) ∙ account_key e.body account is in
         let now = entry_after p q old m k e h there in
         let account_now = account_after p q e.body now.0.body account now.2.bodies is in
-        let stands = stands_in m account.account_id now.0 account_now.0 (ap (get m) (sym at) ∙ now.1) account_now.1 in
+        let exists = exists_in m account.account_id now.0 account_now.0 (ap (get m) (sym at) ∙ now.1) account_now.1 in
         cc
 
     missing : IsMissing m id f → IsShifted p' q' old (with_account m id f)
@@ -288,9 +268,9 @@ instead_none Sponsoring Sponsoring = refl
 instead_none Sponsored Sponsored = refl
 instead_none at other = refl
 
-pub here : (count other : Count) (k : ℕ) (id i : AccountId) → i ≡ id
+pub at_one_is_instead : (count other : Count) (k : ℕ) (id i : AccountId) → i ≡ id
     → at_one count k id other i ≡ instead count other k 0
-here count other k id i same = ap (λ t. instead count other (if t then k else 0) 0) (ap (is_same_account id) same
+at_one_is_instead count other k id i same = ap (λ t. instead count other (if t then k else 0) 0) (ap (is_same_account id) same
     ∙ is_itself id)
 
 pub elsewhere_none : (count other : Count) (k : ℕ) (id i : AccountId) → is_same_account id i ≡ false
@@ -303,14 +283,14 @@ module _ (p q : Shift) (count : Count) (k : ℕ) (id : AccountId) (old m : Entry
   pub shifted_raise : IsShifted (plus p (at_one count k id)) q old (map_with_more count k id m)
   shifted_raise = shifted_change p q (plus p (at_one count k id)) q id (with_more count k) old m own h
       (λ a. with_count-keeps count (count_in count a + k) a)
-      (λ was account stands same s. record {
+      (λ was account exists same s. record {
         parts = keeps_twice was account (with_more count k account) s.parts
             (with_count-keeps count (count_in count account + k) account);
         counts = λ other.
             let is = with_count-count count other (count_in count account + k) account in
             let moved = instead_plus count other (count_in count account) (count_in other account) k
             (λ e. ap (λ c. count_in c account) e) in
-            let at = here count other k id was.account_id same in
+            let at = at_one_is_instead count other k id was.account_id same in
             let before = s.counts other in
             omega arith;
       })
@@ -321,16 +301,16 @@ module _ (p q : Shift) (count : Count) (k : ℕ) (id : AccountId) (old m : Entry
       → IsShifted p (plus q (at_one count k id)) old (map_with_less count k id m)
   shifted_lower enough = shifted_change p q p (plus q (at_one count k id)) id (with_less count k) old m own h
       (λ a. with_count-keeps count (count_in count a - k) a)
-      (λ was account stands same s. record {
+      (λ was account exists same s. record {
         parts = keeps_twice was account (with_less count k account) s.parts
             (with_count-keeps count (count_in count account - k) account);
         counts = λ other.
             let is = with_count-count count other (count_in count account - k) account in
-            let le : k ≤ count_in count account = (let at_id = enough was stands in let mine = s.counts count in
+            let le : k ≤ count_in count account = (let at_id = enough was exists in let mine = s.counts count in
             let q_at = ap (q count) same in let p_at = ap (p count) same in omega arith) in
             let moved = instead_minus count other (count_in count account) (count_in other account) k
             (λ e. ap (λ c. count_in c account) e) le in
-            let at = here count other k id was.account_id same in
+            let at = at_one_is_instead count other k id was.account_id same in
             let before = s.counts other in
             omega arith;
       })

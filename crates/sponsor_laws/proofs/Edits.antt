@@ -1,32 +1,18 @@
 -- A map whose counts moved, after an account's signers are edited so that each count is its sum again.
-use Rattle.std.proofs.Common.{◌≡◌, inl, inr, refl, sym, ap, subst, ◌∙◌, ℕ, ◌+◌, ◌≤◌, Bool, true, false, cond, List}
-use Rattle.std.proofs.Common.{length, Option, Some, Contains, slice_index_or, arith}
-use Rattle.std.specs.Prelude.{if◌then◌else◌}
-use Rattle.std.specs.List.{sum_by, count_by}
-use Rattle.std.specs.FinMap.{get}
-use Rattle.std.proofs.lemmas.List.Sums.{get_or-le-sum_by}
-use Rattle.sponsor_rules.specs.ledger_types.declared.ids.AccountId.{AccountId}
-use Rattle.sponsor_rules.specs.ledger_types.declared.account.AccountEntry.{AccountEntry}
-use Rattle.sponsor_rules.specs.ledger_types.declared.entry.LedgerEntry.{LedgerEntry}
+use Rattle.sponsor_laws.proofs.Prelude as prelude
+use prelude.{◌≡◌, inl, inr, refl, sym, ap, subst, ◌∙◌, ℕ, ◌+◌, ◌≤◌, Bool, true, false, cond, List, length, Option, Some}
+use prelude.{Contains, slice_index_or, arith, if◌then◌else◌, sum_by, count_by, get, get_or-le-sum_by, AccountId}
+use prelude.{AccountEntry, LedgerEntry, key_of, key_of_body, EntryMap, put, Count, SubEntries, Sponsoring, Sponsored}
+use prelude.{account_in, with_account, HasAccount, sponsor_of, multiplicity, owner_of, count_in, is_same_account}
+use prelude.{HasItems, is_this, is_there, signer_sponsors, total, counted_for, is_itself}
 use Rattle.sponsor_rules.specs.ledger_types.declared.entry.LedgerEntryBody.TheVariants as body
 use Rattle.sponsor_rules.specs.ledger_types.declared.key.LedgerKey.TheVariants as key
-use Rattle.sponsor_rules.specs.ledger_types.Keys.{key_of, key_of_body}
-use Rattle.sponsor_rules.specs.entry_map.EntryMap.{EntryMap, put}
-use Rattle.sponsor_rules.specs.declared.count.Count.{Count}
-use Rattle.sponsor_rules.specs.declared.count.Count.TheVariants.{SubEntries, Sponsoring, Sponsored}
-use Rattle.sponsor_rules.specs.entry_slots.Accounts.{account_in, with_account, HasAccount}
-use Rattle.sponsor_rules.specs.entry_slots.EntrySponsor.{sponsor_of}
-use Rattle.sponsor_rules.specs.Charge.{multiplicity, owner_of}
-use Rattle.sponsor_rules.specs.Counting.{count_in}
-use Rattle.sponsor_rules.specs.Payers.{is_same_account}
-use Rattle.sponsor_laws.specs.Sums.{HasItems, is_this, is_there, signer_sponsors, total, counted_for}
 use Rattle.sponsor_laws.proofs.Totals.{part_of}
-use Rattle.sponsor_rules.proofs.Ids.{is_itself}
 use Rattle.sponsor_laws.proofs.Accounts.{share, own_part, counted_split, has_items}
-use Rattle.sponsor_laws.proofs.Even.{IsEven, count_none, stands_or_not, not_this}
+use Rattle.sponsor_laws.proofs.Even.{IsEven, count_none, exists_or_not, not_this}
 use Rattle.sponsor_laws.proofs.Shifts.{Shift, at_one, IsShifted, IsShiftedAccount, AlikeBodies, entry_after}
 use Rattle.sponsor_laws.proofs.Changes.{IsChangedAt, changed_at}
-use Rattle.sponsor_laws.proofs.Settling.{placed, stands_after, stands_put, stands_placed}
+use Rattle.sponsor_laws.proofs.Settling.{inserted, exists_after, exists_put, exists_inserted}
 
 -- an account, made from another one, whose counts went up by p and down by q, and which settles that
 pub record IsEdited (p q : Shift) (old : EntryMap) (a c : AccountEntry) : Type 0 where
@@ -65,7 +51,7 @@ module _ (p q : Shift) (id : AccountId) (f : AccountEntry → AccountEntry) (old
         let e' : LedgerEntry = record x.entry { body = body.Account c } in
         let edit = edits x.account shifted_account in
         let its_key : key_of e' ≡ key.Account id = ap key.Account (edit.id ∙ own_id) in
-        placed p q old m e' h s (record {
+        inserted p q old m e' h s (record {
           balanced = λ count i.
               let part : part_of (counted_for count i) (get old (key_of e')) ≡ counted_for count i e =
               ap (part_of (counted_for count i)) (ap (get old) its_key ∙ there) in
@@ -88,11 +74,11 @@ module _ (p q : Shift) (id : AccountId) (f : AccountEntry → AccountEntry) (old
           items = λ account holds. let same : c ≡ account = cc in subst HasItems same (has_items c edit.items);
           names = λ i names. elim names [
             | inl owns ↦ let same : c.account_id ≡ i = cc in
-                subst (HasAccount (put m e')) same (stands_placed m e' c refl)
-            | inr (inl pays) ↦ stands_put m e' i (stands_after p q old m i s
+                subst (HasAccount (put m e')) same (exists_inserted m e' c refl)
+            | inr (inl pays) ↦ exists_put m e' i (exists_after p q old m i s
                 (h.names (key.Account id) e i there (inr (inl (sym same_sponsor ∙ pays)))))
             | inr (inr n) ↦ let same : c ≡ n.account = (let holds = n.is in cc) in
-                stands_put m e' i (stands_after p q old m i s
+                exists_put m e' i (exists_after p q old m i s
                 (edit.names i (subst (λ (y : AccountEntry). Contains (signer_sponsors y) (Some i))
                 (sym same) n.sponsor)))
           ];
@@ -103,9 +89,9 @@ module _ (p q : Shift) (id : AccountId) (f : AccountEntry → AccountEntry) (old
   pub edited : IsEven (with_account m id f)
   edited = elim (changed_at m id f s.own) [
     | inl missing ↦ absurd (
-        let stands = stands_after p q old m id s (h.names (key.Account id) e id there (inl (ap owner_of is
+        let exists = exists_after p q old m id s (h.names (key.Account id) e id there (inl (ap owner_of is
         ∙ ap Some own_id))) in
-        let found = stands.1 in let none = missing.0 in cc)
+        let found = exists.1 in let none = missing.0 in cc)
     | inr x ↦ subst IsEven (sym x.is_put) (edited_put x)
   ]
 
@@ -118,12 +104,12 @@ counted_once xs i has =
     ap (λ o. cond (is_this i o) 1 0) has.2 ∙ ap (λ t. cond t 1 0) (is_itself i) in
     omega arith
 
--- where a list has one sponsor more at most, who is named in it stands
-pub named_stands : (old : EntryMap) (xs more : List (Option AccountId)) (s : Option AccountId) (i : AccountId)
+-- where a list has one sponsor more at most, who is named in it exists
+pub named_exists : (old : EntryMap) (xs more : List (Option AccountId)) (s : Option AccountId) (i : AccountId)
     → count_by (is_this i) more ≤ count_by (is_this i) xs + cond (is_this i s) 1 0
     → (s ≡ Some i → HasAccount old i) → (Contains xs (Some i) → HasAccount old i) → Contains more (Some i)
     → HasAccount old i
-named_stands old xs more s i le new before has = stands_or_not (HasAccount old i) old i (λ stands. stands) (λ apart.
+named_exists old xs more s i le new before has = exists_or_not (HasAccount old i) old i (λ exists. exists) (λ apart.
     let once = counted_once more i has in
     let none = count_none i xs (λ there. apart (before there)) in
     let other : ◌≡◌ {A = ℕ} (cond (is_this i s) 1 0) 0 = ap (λ t. cond t 1 0) (not_this i s (λ is. apart (new is))) in
@@ -147,11 +133,11 @@ one_more_if : (t : Bool) (n m k : ℕ) → m ≡ n + k → (if t then m else 0) 
 one_more_if true n m k is = is
 one_more_if false n m k is = refl
 
-turned : (t u : Bool) (k : ℕ) → (if t then (if u then k else 0) else 0) ≡ (if u then (if t then k else 0) else 0)
-turned true true k = refl
-turned true false k = refl
-turned false true k = refl
-turned false false k = refl
+ifs_swapped : (t u : Bool) (k : ℕ) → (if t then (if u then k else 0) else 0) ≡ (if u then (if t then k else 0) else 0)
+ifs_swapped true true k = refl
+ifs_swapped true false k = refl
+ifs_swapped false true k = refl
+ifs_swapped false false k = refl
 
 -- one signer more, whose sponsor is s
 pub signed_more : (count : Count) (i id : AccountId) (n m : ℕ) (xs more : List (Option AccountId))
@@ -165,7 +151,7 @@ signed_more Sponsoring i id n m xs more s one sums = let is = sums (λ o. cond (
 signed_more Sponsored i id n m xs more s one sums =
     let is = one_more_if (is_same_account id i) (count_by is_there xs) (count_by is_there more) (cond (is_there s) 1 0)
     (sums (λ o. cond (is_there o) 1 0)) in
-    let other = turned (is_same_account id i) (is_there s) 1 in
+    let other = ifs_swapped (is_same_account id i) (is_there s) 1 in
     omega arith
 
 -- a signer that had the sponsor s has the sponsor t
@@ -180,6 +166,6 @@ signed_other Sponsored i id n xs more s t sums =
     (cond (is_there s) 1 0) refl in
     let new = one_more_if (is_same_account id i) (count_by is_there xs) (count_by is_there more + cond (is_there s) 1 0)
     (cond (is_there t) 1 0) (sums (λ o. cond (is_there o) 1 0)) in
-    let first = turned (is_same_account id i) (is_there s) 1 in
-    let second = turned (is_same_account id i) (is_there t) 1 in
+    let first = ifs_swapped (is_same_account id i) (is_there s) 1 in
+    let second = ifs_swapped (is_same_account id i) (is_there t) 1 in
     omega arith

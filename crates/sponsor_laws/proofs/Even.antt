@@ -1,31 +1,14 @@
 -- What is kept, said of each entry by its key.
-use Rattle.std.proofs.Common.{◌≡◌, ◌⊎◌, inl, inr, refl, sym, ap, subst, ◌∙◌, ℕ, suc, ◌+◌, ◌≤◌, Bool, true, false, cond}
-use Rattle.std.proofs.Common.{List, [], ◌∷◌, length, Option, Some, None, IfSome, Contains, arith}
-use Rattle.std.specs.Prelude.{if◌then◌else◌}
-use Rattle.std.specs.List.{count_by}
-use Rattle.std.specs.FinMap.{get}
-use Rattle.std.proofs.lemmas.List.Sums.{sum_by-cons}
-use Rattle.sponsor_rules.specs.ledger_types.declared.ids.AccountId.{AccountId}
-use Rattle.sponsor_rules.specs.ledger_types.declared.account.AccountEntry.{AccountEntry}
-use Rattle.sponsor_rules.specs.ledger_types.declared.entry.LedgerEntry.{LedgerEntry}
-use Rattle.sponsor_rules.specs.ledger_types.declared.entry.LedgerEntryBody.{LedgerEntryBody}
+use Rattle.sponsor_laws.proofs.Prelude as prelude
+use prelude.{◌≡◌, ◌⊎◌, inl, inr, refl, sym, ap, subst, ◌∙◌, ℕ, suc, ◌+◌, ◌≤◌, Bool, true, false, cond, List, [], ◌∷◌}
+use prelude.{length, Option, Some, None, Contains, arith, if◌then◌else◌, count_by, get, sum_by-cons, AccountId}
+use prelude.{AccountEntry, LedgerEntry, LedgerEntryBody, LedgerKey, key_of, key_of_body, keys_total, EntryMap, IsKeyed}
+use prelude.{Count, SubEntries, Sponsoring, Sponsored, account_in, account_of, account_at, HasAccount, sponsor_of}
+use prelude.{multiplicity, owner_of, count_in, HasItems, signer_sponsors, subentries_for, sponsored_signers}
+use prelude.{sponsoring_signers, total, counted_for, is_this, is_there, AreKept, same_account, if_some_at, if_some_from}
 use Rattle.sponsor_rules.specs.ledger_types.declared.entry.LedgerEntryBody.TheVariants as body
-use Rattle.sponsor_rules.specs.ledger_types.declared.key.LedgerKey.{LedgerKey}
 use Rattle.sponsor_rules.specs.ledger_types.declared.key.LedgerKey.TheVariants as key
-use Rattle.sponsor_rules.specs.ledger_types.Keys.{key_of, key_of_body}
-use Rattle.sponsor_rules.proofs.ledger_types_proofs.KeyOrdering.{keys_total}
-use Rattle.sponsor_rules.specs.entry_map.EntryMap.{EntryMap, IsKeyed}
-use Rattle.sponsor_rules.specs.declared.count.Count.{Count}
-use Rattle.sponsor_rules.specs.declared.count.Count.TheVariants.{SubEntries, Sponsoring, Sponsored}
-use Rattle.sponsor_rules.specs.entry_slots.Accounts.{account_in, account_of, account_at, HasAccount}
-use Rattle.sponsor_rules.specs.entry_slots.EntrySponsor.{sponsor_of}
-use Rattle.sponsor_rules.specs.Charge.{multiplicity, owner_of}
-use Rattle.sponsor_rules.specs.Counting.{count_in}
-use Rattle.sponsor_laws.specs.Sums.{HasItems, signer_sponsors, subentries_for, sponsored_signers, sponsoring_signers}
-use Rattle.sponsor_laws.specs.Sums.{total, counted_for, is_this, is_there}
-use Rattle.sponsor_laws.specs.Laws.{AreKept}
 use Rattle.sponsor_laws.proofs.Totals.{sum_in-none}
-use Rattle.sponsor_rules.proofs.Ids.{same_account}
 
 -- an entry names an account as its owner, its sponsor or the sponsor of a signer
 pub record NamesSigner (e : LedgerEntry) (id : AccountId) : Type 0 where
@@ -36,7 +19,7 @@ pub record NamesSigner (e : LedgerEntry) (id : AccountId) : Type 0 where
 abbrev pub Names : LedgerEntry → AccountId → Type 0
 Names e id = (owner_of e.body ≡ Some id) ⊎ ((sponsor_of e ≡ Some id) ⊎ NamesSigner e id)
 
--- each entry stands under its own key
+-- each entry is under its own key
 abbrev pub AreOwn : EntryMap → Type 0
 AreOwn m = (k : LedgerKey) (e : LedgerEntry) → get m k ≡ Some e → key_of e ≡ k
 
@@ -53,19 +36,11 @@ pub record IsEven (m : EntryMap) : Type 0 where
 
 -- ---- keys
 
-some_of : {X : Type 0} (P : X → Type 0) (o : Option X) (x : X) → IfSome o P → o ≡ Some x → P x
-some_of P None x h is = absurd (cc)
-some_of P (Some y) x h is = let same : y ≡ x = cc in subst P same h
-
-if_some : {X : Type 0} (P : X → Type 0) (o : Option X) → ((x : X) → o ≡ Some x → P x) → IfSome o P
-if_some P None h = tt
-if_some P (Some x) h = h x refl
-
 own_keys : (m : EntryMap) → IsKeyed m → AreOwn m
-own_keys m keyed k e there = some_of (λ x. key_of x ≡ k) (get m k) e (keyed k) there
+own_keys m keyed k e there = if_some_at (λ x. key_of x ≡ k) (get m k) e (keyed k) there
 
 keyed_of : (m : EntryMap) → AreOwn m → IsKeyed m
-keyed_of m own k = if_some (λ x. key_of x ≡ k) (get m k) (own k)
+keyed_of m own k = if_some_from (λ x. key_of x ≡ k) (get m k) (own k)
 
 pub account_body : (b : LedgerEntryBody) (account : AccountEntry) → account_in b ≡ Some account
     → b ≡ body.Account account
@@ -83,16 +58,16 @@ account_entry_of : (o : Option LedgerEntry) (account : AccountEntry) → account
 account_entry_of None account h = absurd (cc)
 account_entry_of (Some e) account h = (e, (refl, h))
 
--- the entry of an account that stands
+-- the entry of an account that exists
 pub account_entry : (m : EntryMap) (id : AccountId) (account : AccountEntry) → account_at m id ≡ Some account
     → (e : LedgerEntry) × ((get m (key.Account id) ≡ Some e) × (account_in e.body ≡ Some account))
 unfolding account_at
 account_entry m id account h = account_entry_of (get m (key.Account id)) account h
 
-pub stands_in : (m : EntryMap) (id : AccountId) (e : LedgerEntry) (account : AccountEntry)
+pub exists_in : (m : EntryMap) (id : AccountId) (e : LedgerEntry) (account : AccountEntry)
     → get m (key.Account id) ≡ Some e → account_in e.body ≡ Some account → account_at m id ≡ Some account
 unfolding account_at
-stands_in m id e account there is = ap account_of there ∙ is
+exists_in m id e account there is = ap account_of there ∙ is
 
 pub same_id : (m : EntryMap) (id : AccountId) (e : LedgerEntry) (account : AccountEntry) → AreOwn m
     → get m (key.Account id) ≡ Some e → account_in e.body ≡ Some account → account.account_id ≡ id
@@ -101,7 +76,7 @@ same_id m id e account own there is = let same : key.Account account.account_id 
 
 pub account_of_entry : (m : EntryMap) (k : LedgerKey) (e : LedgerEntry) (account : AccountEntry) → AreOwn m
     → get m k ≡ Some e → account_in e.body ≡ Some account → account_at m account.account_id ≡ Some account
-account_of_entry m k e account own there is = stands_in m account.account_id e account
+account_of_entry m k e account own there is = exists_in m account.account_id e account
     (ap (get m) (sym (account_key e.body account is) ∙ own k e there) ∙ there) is
 
 -- ---- the two forms
@@ -134,10 +109,10 @@ even m kept =
         | inr (inr n) ↦ kept.counted.signers n.account.account_id n.account id
             (account_of_entry m k e n.account own there n.is) n.sponsor
       ];
-      few = λ id stands. subst (λ n. n ≤ 1000) (kept.counted.sums id stands.0 SubEntries stands.1)
-          (kept.counted.few id stands.0 stands.1);
-      fits = λ id stands. ap_le (kept.counted.sums id stands.0 SubEntries stands.1)
-          (kept.counted.sums id stands.0 Sponsoring stands.1) (kept.counted.fits id stands.0 stands.1);
+      few = λ id exists. subst (λ n. n ≤ 1000) (kept.counted.sums id exists.0 SubEntries exists.1)
+          (kept.counted.few id exists.0 exists.1);
+      fits = λ id exists. ap_le (kept.counted.sums id exists.0 SubEntries exists.1)
+          (kept.counted.sums id exists.0 Sponsoring exists.1) (kept.counted.fits id exists.0 exists.1);
     }
 
 pub kept_of : (m : EntryMap) → IsEven m → AreKept m
@@ -228,18 +203,18 @@ unstanding_total count id m h apart = unnamed_total count id m (λ k e there nam
 
 -- ---- bounds of all totals
 
-pub stands_or_not : (P : Type 0) (m : EntryMap) (id : AccountId) → (HasAccount m id → P) → ((HasAccount m id → ⊥) → P)
+pub exists_or_not : (P : Type 0) (m : EntryMap) (id : AccountId) → (HasAccount m id → P) → ((HasAccount m id → ⊥) → P)
     → P
-stands_or_not P m id f g = elim (account_at m id) as (λ o. account_at m id ≡ o → P) [
-  | None ↦ λ none. g (λ stands. let there = stands.1 in absurd (cc))
+exists_or_not P m id f g = elim (account_at m id) as (λ o. account_at m id ≡ o → P) [
+  | None ↦ λ none. g (λ exists. let there = exists.1 in absurd (cc))
   | Some account ↦ λ there. f (account, there)
 ] refl
 
 pub all_few : (m : EntryMap) (id : AccountId) → IsEven m → total SubEntries id m ≤ 1000
-all_few m id h = stands_or_not (total SubEntries id m ≤ 1000) m id (h.few id) (λ apart. let none =
+all_few m id h = exists_or_not (total SubEntries id m ≤ 1000) m id (h.few id) (λ apart. let none =
     unstanding_total SubEntries id m h apart in omega arith)
 
 pub all_fit : (m : EntryMap) (id : AccountId) → IsEven m → total SubEntries id m + total Sponsoring id m ≤ 4294967295
-all_fit m id h = stands_or_not (total SubEntries id m + total Sponsoring id m ≤ 4294967295) m id (h.fits id)
+all_fit m id h = exists_or_not (total SubEntries id m + total Sponsoring id m ≤ 4294967295) m id (h.fits id)
     (λ apart. let none = unstanding_total SubEntries id m h apart in
     let unpaid = unstanding_total Sponsoring id m h apart in omega arith)

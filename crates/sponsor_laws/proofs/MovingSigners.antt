@@ -1,25 +1,13 @@
 -- Moving a signer to another payer keeps counts equal to their sums.
-use Rattle.std.proofs.Common.{◌≡◌, ◌≢◌, inl, inr, refl, sym, ap, subst, ◌∙◌, ℕ, ◌+◌, ◌<◌, ◌≤◌, cond, length, Option}
-use Rattle.std.proofs.Common.{Some, None, Ok, slice_set, arith}
-use Rattle.std.proofs.lemmas.List.{length-set}
-use Rattle.sponsor_rules.specs.ledger_types.declared.ids.AccountId.{AccountId}
-use Rattle.sponsor_rules.specs.ledger_types.declared.signer.SignerKey.{SignerKey}
-use Rattle.sponsor_rules.specs.ledger_types.declared.account.AccountEntry.{AccountEntry}
+use Rattle.sponsor_laws.proofs.Prelude as prelude
+use prelude.{◌≡◌, ◌≢◌, inl, inr, refl, sym, ap, subst, ◌∙◌, ℕ, ◌+◌, ◌<◌, ◌≤◌, cond, length, Option, Some, None, Ok}
+use prelude.{slice_set, arith, length-set, AccountId, SignerKey, AccountEntry, EntryMap, Ctx, Sponsoring, Sponsored}
+use prelude.{account_at, with_account, HasAccount, signer_sponsor, count_in, with_less, unless_first}
+use prelude.{map_after_releasing, map_after_exchange, with_other_payer, payer_other_than, move_tests_at}
+use prelude.{map_with_other_payer, found_at, index_of, with_signer_sponsor, found_signer, map_after_moving_found}
+use prelude.{map_after_moving_signer_between, with_moved_signer, is_this, is_there, signer_sponsors, PayerExists}
+use prelude.{MovingSignerKeeps, counts_edited}
 use Rattle.sponsor_rules.specs.ledger_types.declared.key.LedgerKey.TheVariants as key
-use Rattle.sponsor_rules.specs.entry_map.EntryMap.{EntryMap}
-use Rattle.sponsor_rules.specs.declared.context.Ctx.{Ctx}
-use Rattle.sponsor_rules.specs.declared.count.Count.TheVariants.{Sponsoring, Sponsored}
-use Rattle.sponsor_rules.specs.entry_slots.Accounts.{account_at, with_account, HasAccount}
-use Rattle.sponsor_rules.specs.entry_slots.AccountExtensions.{signer_sponsor}
-use Rattle.sponsor_rules.specs.Counting.{count_in, with_less}
-use Rattle.sponsor_rules.specs.entry_slots.Tests.{unless_first}
-use Rattle.sponsor_rules.specs.Paying.{map_after_releasing, map_after_exchange, with_other_payer}
-use Rattle.sponsor_rules.specs.Payers.{payer_other_than, move_tests_at}
-use Rattle.sponsor_rules.specs.Moving.{map_with_other_payer}
-use Rattle.sponsor_rules.specs.SignerPlace.{found_at, place_of, with_signer_sponsor, found_signer}
-use Rattle.sponsor_rules.specs.Signers.{map_after_moving_found, map_after_moving_signer_between, with_moved_signer}
-use Rattle.sponsor_laws.specs.Sums.{is_this, is_there, signer_sponsors}
-use Rattle.sponsor_laws.specs.Laws.{PayerStands, MovingSignerKeeps}
 use Rattle.sponsor_laws.proofs.Even.{AreOwn, IsEven, even, kept_of, all_few}
 use Rattle.sponsor_laws.proofs.Shifts.{Shift, plus, no_shift, IsShifted, IsShiftedAccount, unshifted}
 use Rattle.sponsor_laws.proofs.Changes.{more_keeps, less_keeps, twice, shifted_raise}
@@ -27,12 +15,11 @@ use Rattle.sponsor_laws.proofs.Paying.{AreNone, HasEnough, shared, shifted_payer
 use Rattle.sponsor_laws.proofs.Parts.{in_total}
 use Rattle.sponsor_laws.proofs.Bounds.{done_by, pays_more, HasRoom}
 use Rattle.sponsor_laws.proofs.Moving.{other_is, room_of}
-use Rattle.sponsor_laws.proofs.Edits.{IsEdited, edited, named_stands, signed, signed_other}
-use Rattle.sponsor_rules.proofs.Keeping.{counts_edited}
+use Rattle.sponsor_laws.proofs.Edits.{IsEdited, edited, named_exists, signed, signed_other}
 use Rattle.sponsor_laws.proofs.SignerLists.{sponsors_set}
-use Rattle.sponsor_laws.proofs.SignedAccounts.{there_is, IsHeld, held_by, own_id, as_many_sponsors, signer_stands}
+use Rattle.sponsor_laws.proofs.SignedAccounts.{there_is, IsHeld, held_by, own_id, as_many_sponsors, signer_exists}
 use Rattle.sponsor_laws.proofs.SignedAccounts.{own_sum, own_of, own_share, sum-with, counts_sponsored, sponsor_enough}
-use Rattle.sponsor_laws.proofs.SignedAccounts.{place_within_signers}
+use Rattle.sponsor_laws.proofs.SignedAccounts.{index_within_signers}
 
 with_other_payer_id : (s t : Option AccountId) (b : AccountEntry) → (with_other_payer 1 s t b).account_id ≡ b.account_id
 with_other_payer_id None None b = refl
@@ -40,45 +27,45 @@ with_other_payer_id None (Some t) b = more_keeps Sponsored 1 b
 with_other_payer_id (Some s) None b = less_keeps Sponsored 1 b
 with_other_payer_id (Some s) (Some t) b = more_keeps Sponsored 1 (with_less Sponsored 1 b) ∙ less_keeps Sponsored 1 b
 
-module _ (old : EntryMap) (h : IsEven old) (id : AccountId) (a : AccountEntry) (held : IsHeld old id a) (place : ℕ)
-    (within : place < length a.signers) where
+module _ (old : EntryMap) (h : IsEven old) (id : AccountId) (a : AccountEntry) (held : IsHeld old id a) (index : ℕ)
+    (within : index < length a.signers) where
   own : a.account_id ≡ id
   own = own_id old h id a held
 
   -- what the new sponsor pays, and what the old one no longer does
-  abbrev comes : Option AccountId → Shift
-  comes t = plus no_shift (shared 1 (Some id) t)
+  abbrev enters : Option AccountId → Shift
+  enters t = plus no_shift (shared 1 (Some id) t)
 
   abbrev goes : Shift
-  goes = plus no_shift (shared 1 (Some id) (signer_sponsor a place))
+  goes = plus no_shift (shared 1 (Some id) (signer_sponsor a index))
 
   -- an account has the extension, once something is paid for it
-  paid_for : (t : Option AccountId) (b : AccountEntry) → IsShiftedAccount (comes t) goes a b → t ≢ None
+  paid_for : (t : Option AccountId) (b : AccountEntry) → IsShiftedAccount (enters t) goes a b → t ≢ None
       → 1 ≤ count_in Sponsored b
   paid_for t b shifted some =
       let moved = shifted.counts Sponsored in
       let one : ◌≡◌ {A = ℕ} (cond (is_there t) 1 0) 1 = ap (λ x. cond x 1 0) (there_is t some) in
       let new = own_share old h id a held t in
-      let was = own_share old h id a held (signer_sponsor a place) in
+      let was = own_share old h id a held (signer_sponsor a index) in
       let sum = own_sum old h id a held Sponsored in
       let le = in_total old (key.Account id) held.entry Sponsored id held.there in
-      let part = counts_sponsored old h id a held place within in
+      let part = counts_sponsored old h id a held index within in
       omega arith
 
   with_sponsor_edits : (t : Option AccountId) → ((x : AccountId) → t ≡ Some x → HasAccount old x) → (b : AccountEntry)
-      → IsShiftedAccount (comes t) goes a b
-      → IsEdited (comes t) goes old a (with_signer_sponsor place t b)
+      → IsShiftedAccount (enters t) goes a b
+      → IsEdited (enters t) goes old a (with_signer_sponsor index t b)
   with_sponsor_edits t payer b shifted =
-      let c = with_signer_sponsor place t b in
-      let sponsors : signer_sponsors c ≡ slice_set (signer_sponsors a) place t =
-      sponsors_set place t b (paid_for t b shifted) ∙ ap (λ xs. slice_set xs place t) shifted.parts.sponsors in
+      let c = with_signer_sponsor index t b in
+      let sponsors : signer_sponsors c ≡ slice_set (signer_sponsors a) index t =
+      sponsors_set index t b (paid_for t b shifted) ∙ ap (λ xs. slice_set xs index t) shifted.parts.sponsors in
       let same_length : length c.signers ≡ length a.signers = ap length shifted.parts.signers in
-      let sums = sum-with old h id a held place within (signer_sponsors c) t sponsors in
+      let sums = sum-with old h id a held index within (signer_sponsors c) t sponsors in
       record {
         id = shifted.parts.id;
         counts = λ count. ap (λ n. n + goes count a.account_id)
-            (counts_edited (λ xs. slice_set xs place t) count b b.signers) ∙ shifted.counts count;
-        items = ap length sponsors ∙ length-set (signer_sponsors a) place t ∙ as_many_sponsors old h id a held
+            (counts_edited (λ xs. slice_set xs index t) count b b.signers) ∙ shifted.counts count;
+        items = ap length sponsors ∙ length-set (signer_sponsors a) index t ∙ as_many_sponsors old h id a held
             ∙ sym same_length;
         parts = λ count i.
             let before = own_of old h id a held count i a own in
@@ -87,16 +74,16 @@ module _ (old : EntryMap) (h : IsEven old) (id : AccountId) (a : AccountEntry) (
             ≡ signed count i id (length a.signers) (signer_sponsors c) =
             ap (λ n. signed count i id n (signer_sponsors c)) same_length in
             let other = signed_other count i id (length a.signers) (signer_sponsors a) (signer_sponsors c)
-            (signer_sponsor a place) t sums in
+            (signer_sponsor a index) t sums in
             omega arith;
-        names = λ i. named_stands old (signer_sponsors a) (signer_sponsors c) t i (let sum =
-            sums (λ o. cond (is_this i o) 1 0) in omega arith) (payer i) (signer_stands old h id a held i);
+        names = λ i. named_exists old (signer_sponsors a) (signer_sponsors c) t i (let sum =
+            sums (λ o. cond (is_this i o) 1 0) in omega arith) (payer i) (signer_exists old h id a held i);
       }
 
   -- what is moved has enough to let go of
-  enough_of : (x : AccountId) → signer_sponsor a place ≡ Some x
+  enough_of : (x : AccountId) → signer_sponsor a index ≡ Some x
       → HasEnough no_shift no_shift Sponsored 1 id old × HasEnough no_shift no_shift Sponsoring 1 x old
-  enough_of = sponsor_enough old h id a held place within no_shift refl (λ i. refl)
+  enough_of = sponsor_enough old h id a held index within no_shift refl (λ i. refl)
 
   exchange_own : (s t : Option AccountId) → ((x : AccountId) → s ≡ Some x
       → HasEnough no_shift no_shift Sponsoring 1 x old) → AreOwn (map_after_exchange 1 s t old)
@@ -108,36 +95,36 @@ module _ (old : EntryMap) (h : IsEven old) (id : AccountId) (a : AccountEntry) (
 
   moved_between : (t : Option AccountId) → ((x : AccountId) → t ≡ Some x → HasAccount old x)
       → ((x : AccountId) → t ≡ Some x → HasRoom old x 1)
-      → IsShifted (comes t) goes old (map_with_other_payer id 1 (signer_sponsor a place) t old)
-      → IsEven (with_account (map_after_exchange 1 (signer_sponsor a place) t old) id
-      (with_moved_signer place (signer_sponsor a place) t))
+      → IsShifted (enters t) goes old (map_with_other_payer id 1 (signer_sponsor a index) t old)
+      → IsEven (with_account (map_after_exchange 1 (signer_sponsor a index) t old) id
+      (with_moved_signer index (signer_sponsor a index) t))
   moved_between t payer room second =
-      let s = signer_sponsor a place in
-      let once = twice (map_after_exchange 1 s t old) id (with_other_payer 1 s t) (with_signer_sponsor place t)
+      let s = signer_sponsor a index in
+      let once = twice (map_after_exchange 1 s t old) id (with_other_payer 1 s t) (with_signer_sponsor index t)
       (exchange_own s t (λ x pays. (enough_of x pays).1)) (with_other_payer_id s t) (λ b. refl) in
-      subst IsEven once (edited (comes t) goes id (with_signer_sponsor place t) old
+      subst IsEven once (edited (enters t) goes id (with_signer_sponsor index t) old
       (map_with_other_payer id 1 s t old) h second held.entry a held.there held.is (with_sponsor_edits t payer)
       (λ i. let le = all_few old i h in omega arith)
       (λ i. let le = pays_more old i t 1 h room in omega arith))
 
   none_done : (ctx : Ctx) (s t : Option AccountId) (new : EntryMap) → s ≡ None → t ≡ None
-      → map_after_moving_signer_between ctx id place s t old ≡ Ok new → old ≡ new
+      → map_after_moving_signer_between ctx id index s t old ≡ Ok new → old ≡ new
   none_done ctx None None new was none done = cc
   none_done ctx None (Some t) new was none done = absurd (cc)
   none_done ctx (Some x) t new was none done = absurd (cc)
 
   between_done : (ctx : Ctx) (s t : Option AccountId) (new : EntryMap) → (AreNone s t → ⊥)
-      → map_after_moving_signer_between ctx id place s t old ≡ Ok new
+      → map_after_moving_signer_between ctx id index s t old ≡ Ok new
       → unless_first (move_tests_at ctx old id t 1) (with_account (map_after_exchange 1 s t old) id
-      (with_moved_signer place s t)) ≡ Ok new
+      (with_moved_signer index s t)) ≡ Ok new
   between_done ctx None None new some done = absurd (some (refl, refl))
   between_done ctx s t new some done = done
 
   signer_moved : (ctx : Ctx) (t : Option AccountId) (new : EntryMap) → ((x : AccountId) → t ≡ Some x → HasAccount old x)
-      → map_after_moving_signer_between ctx id place (signer_sponsor a place) t old ≡ Ok new → IsEven new
+      → map_after_moving_signer_between ctx id index (signer_sponsor a index) t old ≡ Ok new → IsEven new
   signer_moved ctx t new payer done =
-      let s = signer_sponsor a place in
-      let after = with_account (map_after_exchange 1 s t old) id (with_moved_signer place s t) in
+      let s = signer_sponsor a index in
+      let after = with_account (map_after_exchange 1 s t old) id (with_moved_signer index s t) in
       elim (shifted_payers no_shift no_shift 1 old old h.own (unshifted old h.own) id s t enough_of) [
         | inl none ↦ subst IsEven (none_done ctx s t new none.0 none.1 done) h
         | inr some ↦
@@ -147,21 +134,21 @@ module _ (old : EntryMap) (h : IsEven old) (id : AccountId) (a : AccountEntry) (
       ]
 
 module _ (old : EntryMap) (h : IsEven old) (id : AccountId) (key : SignerKey) (ctx : Ctx) (payer : Option AccountId)
-    (new : EntryMap) (payer_stands : PayerStands payer old) where
-  moved_at : (a : AccountEntry) (o : Option ℕ) → account_at old id ≡ Some a → place_of key a.signers ≡ o
+    (new : EntryMap) (payer_exists : PayerExists payer old) where
+  moved_at : (a : AccountEntry) (o : Option ℕ) → account_at old id ≡ Some a → index_of key a.signers ≡ o
       → map_after_moving_found ctx id payer old (found_at a o) ≡ Ok new → IsEven new
-  moved_at a None stands found done = subst IsEven (cc) h
-  moved_at a (Some place) stands found done =
+  moved_at a None exists found done = subst IsEven (cc) h
+  moved_at a (Some index) exists found done =
       let t = payer_other_than id payer in
-      let within = place_within_signers key a.signers place found in
-      signer_moved old h id a (held_by old id a stands) place within ctx t new
-      (λ x is. payer_stands x (other_is id payer x is)) done
+      let within = index_within_signers key a.signers index found in
+      signer_moved old h id a (held_by old id a exists) index within ctx t new
+      (λ x is. payer_exists x (other_is id payer x is)) done
 
   moved_from : (o : Option AccountEntry) → account_at old id ≡ o
       → map_after_moving_found ctx id payer old (found_signer key o) ≡ Ok new → IsEven new
-  moved_from None stands done = subst IsEven (cc) h
-  moved_from (Some a) stands done = moved_at a (place_of key a.signers) stands refl done
+  moved_from None exists done = subst IsEven (cc) h
+  moved_from (Some a) exists done = moved_at a (index_of key a.signers) exists refl done
 
 pub moving_signer_keeps : MovingSignerKeeps
-moving_signer_keeps ctx id key payer old new kept payer_stands done =
-    kept_of new (moved_from old (even old kept) id key ctx payer new payer_stands (account_at old id) refl done)
+moving_signer_keeps ctx id key payer old new kept payer_exists done =
+    kept_of new (moved_from old (even old kept) id key ctx payer new payer_exists (account_at old id) refl done)

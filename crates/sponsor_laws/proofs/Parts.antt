@@ -1,39 +1,24 @@
 -- What each kind of entry counts.
-use Rattle.std.proofs.Common.{◌≡◌, ◌≢◌, refl, ap, ◌∙◌, ℕ, ◌≤◌, false, List, [], ◌∷◌, length, Option, Some, None, arith}
-use Rattle.std.specs.Prelude.{if◌then◌else◌}
-use Rattle.std.specs.List.{count_by}
-use Rattle.std.specs.FinMap.{get}
-use Rattle.sponsor_rules.specs.ledger_types.declared.ids.AccountId.{AccountId}
-use Rattle.sponsor_rules.specs.ledger_types.declared.account.AccountEntry.{AccountEntry}
+use Rattle.sponsor_laws.proofs.Prelude.{◌≡◌, ◌≢◌, refl, ap, ◌∙◌, ℕ, ◌≤◌, false, [], length, Option, Some, None, arith}
+use Rattle.sponsor_laws.proofs.Prelude.{if◌then◌else◌, count_by, get, AccountId, AccountEntry, ClaimableBalanceEntry}
+use Rattle.sponsor_laws.proofs.Prelude.{LiquidityPoolEntry, LedgerEntry, LedgerEntryBody, LedgerKey, key_of_body}
+use Rattle.sponsor_laws.proofs.Prelude.{EntryMap, Count, SubEntries, Sponsoring, Sponsored, account_in, sponsor_of}
+use Rattle.sponsor_laws.proofs.Prelude.{line_multiplicity, multiplicity, owner_of, is_same_account, is_this, is_there}
+use Rattle.sponsor_laws.proofs.Prelude.{signer_sponsors, subentries_for, total, counted_for, is_itself}
 use Rattle.sponsor_rules.specs.ledger_types.declared.asset.TrustLineAsset.{TrustLineAsset}
 use Rattle.sponsor_rules.specs.ledger_types.declared.asset.TrustLineAsset.TheVariants as asset
-use Rattle.sponsor_rules.specs.ledger_types.declared.claimable_balance.ClaimableBalanceEntry.{ClaimableBalanceEntry}
-use Rattle.sponsor_rules.specs.ledger_types.declared.liquidity_pool.LiquidityPoolEntry.{LiquidityPoolEntry}
 use Rattle.sponsor_rules.specs.ledger_types.declared.trust_line.TrustLineEntry.{TrustLineEntry}
 use Rattle.sponsor_rules.specs.ledger_types.declared.offer.OfferEntry.{OfferEntry}
 use Rattle.sponsor_rules.specs.ledger_types.declared.data_entry.DataEntry.{DataEntry}
-use Rattle.sponsor_rules.specs.ledger_types.declared.entry.LedgerEntry.{LedgerEntry}
-use Rattle.sponsor_rules.specs.ledger_types.declared.entry.LedgerEntryBody.{LedgerEntryBody}
 use Rattle.sponsor_rules.specs.ledger_types.declared.entry.LedgerEntryBody.TheVariants as body
-use Rattle.sponsor_rules.specs.ledger_types.declared.key.LedgerKey.{LedgerKey}
 use Rattle.sponsor_rules.specs.ledger_types.declared.key.LedgerKey.TheVariants as key
-use Rattle.sponsor_rules.specs.ledger_types.Keys.{key_of_body}
-use Rattle.sponsor_rules.specs.entry_map.EntryMap.{EntryMap}
-use Rattle.sponsor_rules.specs.declared.count.Count.{Count}
-use Rattle.sponsor_rules.specs.declared.count.Count.TheVariants.{SubEntries, Sponsoring, Sponsored}
-use Rattle.sponsor_rules.specs.entry_slots.Accounts.{account_in}
-use Rattle.sponsor_rules.specs.entry_slots.EntrySponsor.{sponsor_of}
-use Rattle.sponsor_rules.specs.Charge.{line_multiplicity, multiplicity, owner_of}
-use Rattle.sponsor_rules.specs.Payers.{is_same_account}
-use Rattle.sponsor_laws.specs.Sums.{is_this, is_there, signer_sponsors, subentries_for, total, counted_for}
-use Rattle.sponsor_rules.proofs.Ids.{is_itself}
 use Rattle.sponsor_laws.proofs.Accounts.{share, own_part, counted_split}
 use Rattle.sponsor_laws.proofs.Even.{IsEven, sums_of, nothing_if}
 use Rattle.sponsor_laws.proofs.Shifts.{Shift, at_one, no_shift}
 use Rattle.sponsor_laws.proofs.Paying.{HasEnough}
 use Rattle.sponsor_laws.proofs.Settling.{erase_total}
 
--- ---- what stands is in the counts
+-- ---- what exists is in the counts
 
 this_itself : (id : AccountId) (o : Option AccountId) (k : ℕ) → o ≡ Some id → (if is_this id o then k else 0) ≡ k
 this_itself id o k is = ap (λ x. if is_this id x then k else 0) is ∙ ap (λ t. if t then k else 0) (is_itself id)
@@ -59,7 +44,7 @@ in_total m k e count id there = let sum = erase_total m k e count id there in om
 pub enough : (q : Shift) (count : Count) (n : ℕ) (id : AccountId) (m : EntryMap) (k : LedgerKey) (e : LedgerEntry)
     → IsEven m → get m k ≡ Some e → n ≤ counted_for count id e → q count id ≡ 0
     → HasEnough no_shift q count n id m
-enough q count n id m k e h there le none was stands = let sum = sums_of m h id was count stands in
+enough q count n id m k e h there le none was exists = let sum = sums_of m h id was count exists in
     let part = in_total m k e count id there in omega arith
 
 -- ---- lines, offers and data
@@ -152,10 +137,6 @@ pub bare_part : (count : Count) (id : AccountId) (account : AccountEntry) → si
 bare_part SubEntries id account none apart = ap (λ t. if t then length account.signers else 0) apart
 bare_part Sponsoring id account none apart = ap (count_by (is_this id)) none
 bare_part Sponsored id account none apart = ap (λ t. if t then count_by is_there (signer_sponsors account) else 0) apart
-
-pub no_items : {X : Type 0} (xs : List X) → length xs ≡ 0 → xs ≡ []
-no_items [] h = refl
-no_items (x ∷ xs) h = absurd (omega arith)
 
 pub counts_once : (a : TrustLineAsset) → 1 ≤ line_multiplicity a
 counts_once (asset.PoolShare pool) = omega arith

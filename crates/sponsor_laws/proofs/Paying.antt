@@ -1,16 +1,8 @@
 -- What sponsors pay, as counts that move.
-use Rattle.std.proofs.Common.{◌≡◌, ◌⊎◌, inl, inr, refl, subst, ℕ, ◌+◌, ◌≤◌, Option, Some, None, arith}
-use Rattle.sponsor_rules.specs.ledger_types.declared.ids.AccountId.{AccountId}
-use Rattle.sponsor_rules.specs.ledger_types.declared.account.AccountEntry.{AccountEntry}
-use Rattle.sponsor_rules.specs.entry_map.EntryMap.{EntryMap}
-use Rattle.sponsor_rules.specs.declared.count.Count.{Count}
-use Rattle.sponsor_rules.specs.declared.count.Count.TheVariants.{SubEntries, Sponsoring, Sponsored}
-use Rattle.sponsor_rules.specs.entry_slots.Accounts.{account_at}
-use Rattle.sponsor_rules.specs.Counting.{count_in, with_more, with_less}
-use Rattle.sponsor_rules.specs.Paying.{map_after_releasing}
-use Rattle.sponsor_rules.specs.Adding.{map_after_counting}
-use Rattle.sponsor_rules.specs.Removing.{map_after_discounting}
-use Rattle.sponsor_rules.specs.Moving.{map_with_other_payer}
+use Rattle.sponsor_laws.proofs.Prelude.{◌≡◌, ◌⊎◌, inl, inr, refl, subst, ℕ, ◌+◌, ◌≤◌, Option, Some, None, arith}
+use Rattle.sponsor_laws.proofs.Prelude.{AccountId, AccountEntry, EntryMap, Count, SubEntries, Sponsoring, Sponsored}
+use Rattle.sponsor_laws.proofs.Prelude.{account_at, count_in, with_more, with_less, map_after_releasing}
+use Rattle.sponsor_laws.proofs.Prelude.{map_after_counting, map_after_discounting, map_with_other_payer}
 use Rattle.sponsor_laws.proofs.Accounts.{share}
 use Rattle.sponsor_laws.proofs.Even.{AreOwn}
 use Rattle.sponsor_laws.proofs.Shifts.{Shift, at_one, plus, IsShifted, shifted_as}
@@ -43,7 +35,7 @@ shared_payer Sponsored id sponsor k = refl
 abbrev pub AreNone : (s t : Option AccountId) → Type 0
 AreNone s t = (s ≡ None) × (t ≡ None)
 
--- the account's count, if it stands, can be lowered by k
+-- the account's count, if it exists, can be lowered by k
 abbrev pub HasEnough : (p q : Shift) → Count → ℕ → AccountId → EntryMap → Type 0
 HasEnough p q count k id old = (was : AccountEntry) → account_at old id ≡ Some was
     → q count id + k ≤ count_in count was + p count id
@@ -97,11 +89,11 @@ module _ (p q : Shift) (k : ℕ) (old m : EntryMap) (own : AreOwn old) (h : IsSh
       let first = shifted_lower p q Sponsoring k s old m own h (enough s refl).1 in
       let q1 : Shift = plus q (at_one Sponsoring k s) in
       let m1 = map_with_less Sponsoring k s m in
-      let second = shifted_lower p q1 SubEntries k owner old m1 own first (λ was stands. let le = subs was stands in
+      let second = shifted_lower p q1 SubEntries k owner old m1 own first (λ was exists. let le = subs was exists in
       omega arith) in
       let q2 : Shift = plus q1 (at_one SubEntries k owner) in
       let third = shifted_lower p q2 Sponsored k owner old (map_with_less SubEntries k owner m1) own second
-      (λ was stands. let le = (enough s refl).0 was stands in omega arith) in
+      (λ was exists. let le = (enough s refl).0 was exists in omega arith) in
       let once = twice m1 owner (with_less SubEntries k) (with_less Sponsored k) first.own (less_keeps SubEntries k)
       (less_keeps Sponsored k) in
       shifted_as p (plus q2 (at_one Sponsored k owner)) p (plus (plus q (at_one SubEntries k owner))
@@ -132,7 +124,7 @@ module _ (p q : Shift) (k : ℕ) (old m : EntryMap) (own : AreOwn old) (h : IsSh
       let first = shifted_lower p q Sponsoring k s old m own h pays in
       let q1 : Shift = plus q (at_one Sponsoring k s) in
       let second = shifted_lower p q1 Sponsored k owner old (map_with_less Sponsoring k s m) own first
-      (λ was stands. let le = paid was stands in omega arith) in
+      (λ was exists. let le = paid was exists in omega arith) in
       shifted_as p (plus q1 (at_one Sponsored k owner)) (plus p (shared k (Some owner) None))
       (plus q (shared k (Some owner) (Some s))) old (map_with_other_payer owner k (Some s) None m)
       (λ x e account there is count.
@@ -151,7 +143,7 @@ module _ (p q : Shift) (k : ℕ) (old m : EntryMap) (own : AreOwn old) (h : IsSh
       let second = shifted_raise p q1 Sponsoring k t old m1 own first in
       let p1 : Shift = plus p (at_one Sponsoring k t) in
       let m2 = map_with_more Sponsoring k t m1 in
-      let third = shifted_lower p1 q1 Sponsored k owner old m2 own second (λ was stands. let le = paid was stands in
+      let third = shifted_lower p1 q1 Sponsored k owner old m2 own second (λ was exists. let le = paid was exists in
       omega arith) in
       let q2 : Shift = plus q1 (at_one Sponsored k owner) in
       let fourth = shifted_raise p1 q2 Sponsored k owner old (map_with_less Sponsored k owner m2) own third in

@@ -1,51 +1,35 @@
 -- Removing an entry keeps counts equal to their sums.
-use Rattle.std.proofs.Common.{◌≡◌, ◌≢◌, inl, inr, refl, sym, ap, subst, ◌∙◌, ℕ, ◌≤◌, false, [], length, Some, None}
-use Rattle.std.proofs.Common.{arith}
-use Rattle.std.specs.Prelude.{if◌then◌else◌}
-use Rattle.std.specs.FinMap.{get}
-use Rattle.sponsor_rules.specs.ledger_types.declared.ids.AccountId.{AccountId}
-use Rattle.sponsor_rules.specs.ledger_types.declared.account.AccountEntry.{AccountEntry}
-use Rattle.sponsor_rules.specs.ledger_types.declared.claimable_balance.ClaimableBalanceEntry.{ClaimableBalanceEntry}
-use Rattle.sponsor_rules.specs.ledger_types.declared.liquidity_pool.LiquidityPoolEntry.{LiquidityPoolEntry}
-use Rattle.sponsor_rules.specs.ledger_types.declared.entry.LedgerEntry.{LedgerEntry}
-use Rattle.sponsor_rules.specs.ledger_types.declared.entry.LedgerEntryBody.{LedgerEntryBody}
+use Rattle.sponsor_laws.proofs.Prelude as prelude
+use prelude.{◌≡◌, ◌≢◌, inl, inr, refl, sym, ap, subst, ◌∙◌, ℕ, ◌≤◌, false, [], length, Some, None, arith, if◌then◌else◌}
+use prelude.{get, AccountId, AccountEntry, ClaimableBalanceEntry, LiquidityPoolEntry, LedgerEntry, LedgerEntryBody}
+use prelude.{LedgerKey, key_of, key_of_body, EntryMap, erase, SubEntries, Sponsoring, Sponsored, account_in, HasAccount}
+use prelude.{sponsor_of, charge_of, line_multiplicity, multiplicity, owner_of, map_after_releasing, is_same_account}
+use prelude.{map_after_discounting, map_without_charge, map_after_removing_entry, signer_sponsors, subentries_for}
+use prelude.{total, counted_for, AreKept, IsRemovable, IsBare, RemovingKeeps, is_itself, erase_there, nil_from_length}
 use Rattle.sponsor_rules.specs.ledger_types.declared.entry.LedgerEntryBody.TheVariants as body
-use Rattle.sponsor_rules.specs.ledger_types.declared.key.LedgerKey.{LedgerKey}
 use Rattle.sponsor_rules.specs.ledger_types.declared.key.LedgerKey.TheVariants as key
-use Rattle.sponsor_rules.specs.ledger_types.Keys.{key_of, key_of_body}
-use Rattle.sponsor_rules.specs.entry_map.EntryMap.{EntryMap, erase}
-use Rattle.sponsor_rules.specs.declared.count.Count.TheVariants.{SubEntries, Sponsoring, Sponsored}
-use Rattle.sponsor_rules.specs.entry_slots.Accounts.{account_in, HasAccount}
-use Rattle.sponsor_rules.specs.entry_slots.EntrySponsor.{sponsor_of}
-use Rattle.sponsor_rules.specs.Charge.{charge_of, line_multiplicity, multiplicity, owner_of}
-use Rattle.sponsor_rules.specs.Paying.{map_after_releasing}
-use Rattle.sponsor_rules.specs.Payers.{is_same_account}
-use Rattle.sponsor_rules.specs.Removing.{map_after_discounting, map_without_charge, map_after_removing_entry}
-use Rattle.sponsor_laws.specs.Sums.{signer_sponsors, subentries_for, total, counted_for}
-use Rattle.sponsor_laws.specs.Laws.{AreKept, IsRemovable, IsBare, RemovingKeeps}
-use Rattle.sponsor_rules.proofs.Ids.{is_itself}
 use Rattle.sponsor_laws.proofs.Accounts.{share, own_part, counted_split, as_many}
 use Rattle.sponsor_laws.proofs.Even.{IsEven, Names, even, kept_of, account_of_entry, account_body, account_key}
 use Rattle.sponsor_laws.proofs.Even.{account_entry}
 use Rattle.sponsor_laws.proofs.Shifts.{Shift, at_one, plus, no_shift, IsShifted, unshifted, apart_ids}
 use Rattle.sponsor_laws.proofs.Paying.{shared, shifted_discounting, shifted_payer}
-use Rattle.sponsor_laws.proofs.Settling.{erased, none_left, stands_after, stands_erased}
+use Rattle.sponsor_laws.proofs.Settling.{erased, exists_after, exists_erased}
 use Rattle.sponsor_laws.proofs.Parts.{pays_for, is_paid_for, in_total, enough, IsSubentry, line_is, offer_is, data_is}
 use Rattle.sponsor_laws.proofs.Parts.{no_account_key, balance_part, pool_part, share_nothing, share_of_others}
-use Rattle.sponsor_laws.proofs.Parts.{bare_part, no_items, owned_counts, account_or_not}
+use Rattle.sponsor_laws.proofs.Parts.{bare_part, owned_counts, account_or_not}
 
-stands_beside : (m : EntryMap) (k : LedgerKey) (e : LedgerEntry) (id : AccountId) → key_of e ≡ k
+exists_beside : (m : EntryMap) (k : LedgerKey) (e : LedgerEntry) (id : AccountId) → key_of e ≡ k
     → account_in e.body ≡ None → HasAccount m id → HasAccount (erase m k) id
-stands_beside m k e id own none stands = stands_erased m k id (λ same. no_account_key e.body id none (own
-    ∙ sym same)) stands
+exists_beside m k e id own none exists = exists_erased m k id (λ same. no_account_key e.body id none (own
+    ∙ sym same)) exists
 
 module _ (old : EntryMap) (h : IsEven old) (k : LedgerKey) (e : LedgerEntry) (there : get old k ≡ Some e) where
-  -- what stands for others stays, where no account is taken away
-  rest_stands : (q : Shift) (m : EntryMap) → IsShifted no_shift q old m → account_in e.body ≡ None
+  -- what other entries name still exists, where no account is taken away
+  rest_exists : (q : Shift) (m : EntryMap) → IsShifted no_shift q old m → account_in e.body ≡ None
       → (x : LedgerKey) (y : LedgerEntry) (id : AccountId) → x ≢ k → get old x ≡ Some y → Names y id
       → HasAccount (erase m k) id
-  rest_stands q m s none x y id apart at names = stands_beside m k e id (h.own k e there) none
-      (stands_after no_shift q old m id s (h.names x y id at names))
+  rest_exists q m s none x y id apart at names = exists_beside m k e id (h.own k e there) none
+      (exists_after no_shift q old m id s (h.names x y id at names))
 
   removed_subentry : (owner : AccountId) (n : ℕ) → IsSubentry e.body owner n
       → IsEven (erase (map_after_discounting owner n (sponsor_of e) old) k)
@@ -63,14 +47,14 @@ module _ (old : EntryMap) (h : IsEven old) (k : LedgerKey) (e : LedgerEntry) (th
       )) in
       erased (plus q (shared n (Some owner) (sponsor_of e))) old
       (map_after_discounting owner n (sponsor_of e) old) k e h second there
-      (λ count id stands.
+      (λ count id exists.
       let split = counted_split count id e in
       let part = is.parts count id in
       let pays : share count id (multiplicity e.body) (owner_of e.body) (sponsor_of e)
       ≡ share count id n (Some owner) (sponsor_of e) =
       λ i. share count id (is.times i) (is.owns i) (sponsor_of e) in
       omega arith)
-      (rest_stands (plus q (shared n (Some owner) (sponsor_of e)))
+      (rest_exists (plus q (shared n (Some owner) (sponsor_of e)))
       (map_after_discounting owner n (sponsor_of e) old) second is.no_account)
 
   -- ---- claimable balances and pools
@@ -85,24 +69,24 @@ module _ (old : EntryMap) (h : IsEven old) (k : LedgerKey) (e : LedgerEntry) (th
       (λ x pays. enough no_shift Sponsoring n x old k e h there
       (subst (λ m. m ≤ counted_for Sponsoring x e) times (pays_for e x pays)) refl) in
       erased (plus no_shift (shared n None s)) old (map_after_releasing n s old) k e h first there
-      (λ count id stands.
+      (λ count id exists.
       let split = counted_split count id e in
       let part : own_part count id e.body ≡ 0 = ap (own_part count id) is ∙ balance_part count id balance in
       let pays : share count id (multiplicity e.body) (owner_of e.body) s ≡ share count id n None s =
       ap (λ b. share count id (multiplicity b) (owner_of b) s) is in
       omega arith)
-      (rest_stands (plus no_shift (shared n None s)) (map_after_releasing n s old) first (ap account_in is))
+      (rest_exists (plus no_shift (shared n None s)) (map_after_releasing n s old) first (ap account_in is))
 
   removed_pool : (pool : LiquidityPoolEntry) → e.body ≡ body.LiquidityPool pool → IsEven (erase old k)
   removed_pool pool is = erased no_shift old old k e h (unshifted old h.own) there
-      (λ count id stands.
+      (λ count id exists.
       let split = counted_split count id e in
       let part : own_part count id e.body ≡ 0 = ap (own_part count id) is ∙ pool_part count id pool in
       let pays : share count id (multiplicity e.body) (owner_of e.body) (sponsor_of e) ≡ 0 =
       ap (λ b. share count id (multiplicity b) (owner_of b) (sponsor_of e)) is
       ∙ share_nothing count id None (sponsor_of e) in
       omega arith)
-      (rest_stands no_shift old (unshifted old h.own) (ap account_in is))
+      (rest_exists no_shift old (unshifted old h.own) (ap account_in is))
 
   -- ---- accounts
 
@@ -121,7 +105,7 @@ module _ (old : EntryMap) (h : IsEven old) (k : LedgerKey) (e : LedgerEntry) (th
         ∙ ap (λ t. if t then length account.signers else 0) (is_itself account.account_id) in
         let le = in_total old k e SubEntries account.account_id there in
         let none = no_subentries in
-        no_items (signer_sponsors account) (omega arith)
+        nil_from_length (signer_sponsors account) (omega arith)
 
     -- nothing else names the account
     unnamed : (x : LedgerKey) (y : LedgerEntry) → x ≢ k → get old x ≡ Some y → Names y account.account_id → ⊥
@@ -136,13 +120,13 @@ module _ (old : EntryMap) (h : IsEven old) (k : LedgerKey) (e : LedgerEntry) (th
     unnamed x y apart at (inr (inr n)) = bare.sponsors.signers n.account.account_id n.account
         (account_of_entry old x y n.account h.own at n.is) n.sponsor
 
-    -- an account that still stands is another one
+    -- an account that still exists is another one
     another : (m : EntryMap) (id : AccountId) → HasAccount (erase m k) id
         → is_same_account account.account_id id ≡ false
-    another m id stands = apart_ids account.account_id id (λ same.
-        let entry = account_entry (erase m k) id stands.0 stands.1 in
+    another m id exists = apart_ids account.account_id id (λ same.
+        let entry = account_entry (erase m k) id exists.0 exists.1 in
         let gone : get (erase m k) (key.Account id) ≡ None = ap (get (erase m k)) (ap key.Account (sym same)
-        ∙ sym its_key) ∙ none_left m k in
+        ∙ sym its_key) ∙ erase_there m k in
         let found = entry.1.0 in
         cc)
 
@@ -155,8 +139,8 @@ module _ (old : EntryMap) (h : IsEven old) (k : LedgerKey) (e : LedgerEntry) (th
         (λ x pays. enough no_shift Sponsoring 2 x old k e h there
         (subst (λ n. n ≤ counted_for Sponsoring x e) times (pays_for e x pays)) refl) in
         erased (plus no_shift (shared 2 None s)) old m k e h first there
-        (λ count id stands.
-        let apart = another m id stands in
+        (λ count id exists.
+        let apart = another m id exists in
         let split = counted_split count id e in
         let part : own_part count id e.body ≡ 0 = ap (own_part count id) is
         ∙ bare_part count id account no_sponsors apart in
@@ -164,10 +148,10 @@ module _ (old : EntryMap) (h : IsEven old) (k : LedgerKey) (e : LedgerEntry) (th
         ap (λ b. share count id (multiplicity b) (owner_of b) s) is
         ∙ share_of_others count id account.account_id 2 s apart in
         omega arith)
-        (λ x y id apart at names. stands_erased m k id
+        (λ x y id apart at names. exists_erased m k id
         (λ same. let its : id ≡ account.account_id = (let keys : key.Account id ≡ key.Account account.account_id = same
         ∙ its_key in cc) in unnamed x y apart at (subst (Names y) its names))
-        (stands_after no_shift (plus no_shift (shared 2 None s)) old m id first (h.names x y id at names)))
+        (exists_after no_shift (plus no_shift (shared 2 None s)) old m id first (h.names x y id at names)))
 
 -- ---- all kinds
 

@@ -1,32 +1,19 @@
 -- A map whose counts moved, after one entry is put or taken away so that each count is its sum again.
-use Rattle.std.proofs.Common.{◌≡◌, ◌≢◌, ◌⊎◌, inl, inr, refl, sym, ap, subst, ◌∙◌, ◌+◌, ◌≤◌, true, false, cond, length}
-use Rattle.std.proofs.Common.{Option, Some, None, Contains, arith}
-use Rattle.std.specs.Ordering.{eq_by_cmp}
-use Rattle.std.specs.FinMap.{get, get-remove}
-use Rattle.sponsor_rules.specs.ledger_types.declared.ids.AccountId.{AccountId}
-use Rattle.sponsor_rules.specs.ledger_types.declared.account.AccountEntry.{AccountEntry}
-use Rattle.sponsor_rules.specs.ledger_types.declared.entry.LedgerEntry.{LedgerEntry}
-use Rattle.sponsor_rules.specs.ledger_types.declared.entry.LedgerEntryBody.{LedgerEntryBody}
+use Rattle.sponsor_laws.proofs.Prelude.{◌≡◌, ◌≢◌, ◌⊎◌, inl, inr, refl, sym, ap, subst, ◌∙◌, ◌+◌, ◌≤◌, true, false, cond}
+use Rattle.sponsor_laws.proofs.Prelude.{length, Option, Some, None, Contains, arith, eq_by_cmp, get, AccountId}
+use Rattle.sponsor_laws.proofs.Prelude.{AccountEntry, LedgerEntry, LedgerEntryBody, LedgerKey, key_of, key_of_body}
+use Rattle.sponsor_laws.proofs.Prelude.{key_cmp, keys_total, keys_exact, EntryMap, put, erase, same_itself, Count}
+use Rattle.sponsor_laws.proofs.Prelude.{SubEntries, Sponsoring, account_in, HasAccount, count_in, HasItems, total}
+use Rattle.sponsor_laws.proofs.Prelude.{counted_for, erase_get, put_get, put_there, same_keys}
 use Rattle.sponsor_rules.specs.ledger_types.declared.entry.LedgerEntryBody.TheVariants as body
-use Rattle.sponsor_rules.specs.ledger_types.declared.key.LedgerKey.{LedgerKey}
 use Rattle.sponsor_rules.specs.ledger_types.declared.key.LedgerKey.TheVariants as key
-use Rattle.sponsor_rules.specs.ledger_types.Keys.{key_of, key_of_body}
-use Rattle.sponsor_rules.specs.ledger_types.KeyOrder.{key_cmp}
-use Rattle.sponsor_rules.proofs.ledger_types_proofs.KeyOrdering.{keys_total, keys_exact}
-use Rattle.sponsor_rules.specs.entry_map.EntryMap.{EntryMap, put, erase}
-use Rattle.sponsor_rules.proofs.entry_map_proofs.KeyMaps.{same_keys, same_itself}
-use Rattle.sponsor_rules.specs.declared.count.Count.{Count}
-use Rattle.sponsor_rules.specs.declared.count.Count.TheVariants.{SubEntries, Sponsoring}
-use Rattle.sponsor_rules.specs.entry_slots.Accounts.{account_in, HasAccount}
-use Rattle.sponsor_rules.specs.Counting.{count_in}
-use Rattle.sponsor_laws.specs.Sums.{HasItems, total, counted_for}
 use Rattle.sponsor_laws.proofs.Totals.{part_of, sum_in-remove}
 use Rattle.sponsor_laws.proofs.Accounts.{as_many, has_items}
-use Rattle.sponsor_laws.proofs.Even.{AreOwn, IsEven, Names, account_of_entry, account_key, account_entry, stands_in}
+use Rattle.sponsor_laws.proofs.Even.{AreOwn, IsEven, Names, account_of_entry, account_key, account_entry, exists_in}
 use Rattle.sponsor_laws.proofs.Even.{all_few, all_fit}
 use Rattle.sponsor_laws.proofs.Shifts.{Shift, no_shift, Alike, AlikeEntries, IsShifted, same_owner, same_counted}
 use Rattle.sponsor_laws.proofs.Shifts.{account_before, account_after, entry_before, entry_after}
-use Rattle.sponsor_laws.proofs.Changes.{put_get, put_total}
+use Rattle.sponsor_laws.proofs.Changes.{put_total}
 
 pub names_before : (p q : Shift) (x y : LedgerEntry) (id : AccountId) → AlikeEntries p q x y → Names y id → Names x id
 names_before p q x y id h (inl owns) = inl (sym (same_owner p q x.body y.body h.bodies) ∙ owns)
@@ -46,13 +33,13 @@ part_alike p q count id None (Some y) h = absurd h
 part_alike p q count id (Some x) None h = absurd h
 part_alike p q count id (Some x) (Some y) h = same_counted p q count id x y h
 
-pub stands_after : (p q : Shift) (old m : EntryMap) (id : AccountId) → IsShifted p q old m → HasAccount old id
+pub exists_after : (p q : Shift) (old m : EntryMap) (id : AccountId) → IsShifted p q old m → HasAccount old id
     → HasAccount m id
-stands_after p q old m id h stands =
-    let entry = account_entry old id stands.0 stands.1 in
+exists_after p q old m id h exists =
+    let entry = account_entry old id exists.0 exists.1 in
     let now = entry_after p q old m (key.Account id) entry.0 h entry.1.0 in
-    let account = account_after p q entry.0.body now.0.body stands.0 now.2.bodies entry.1.1 in
-    (account.0, stands_in m id now.0 account.0 now.1 account.1)
+    let account = account_after p q entry.0.body now.0.body exists.0 now.2.bodies entry.1.1 in
+    (account.0, exists_in m id now.0 account.0 now.1 account.1)
 
 -- what a new entry must meet
 pub record IsSettledEntry (p q : Shift) (old new : EntryMap) (k : LedgerKey) (e : LedgerEntry) : Type 0 where
@@ -82,9 +69,9 @@ module _ (p q : Shift) (old m new : EntryMap) (k : LedgerKey) (after : Option Le
     (h : IsShifted p q old m) (s : Settles p q old m new k after) where
   total_new : (count : Count) (id : AccountId) → HasAccount new id
       → total count id new + q count id ≡ total count id old + p count id
-  total_new count id stands =
+  total_new count id exists =
       let summed = s.summed count id in
-      let balanced = s.balanced count id stands in
+      let balanced = s.balanced count id exists in
       let before = part_alike p q count id (get old k) (get m k) (h.entries k) in
       let same = h.totals count id in
       omega arith
@@ -149,47 +136,28 @@ module _ (p q : Shift) (old m new : EntryMap) (k : LedgerKey) (after : Option Le
     sums = sums_new;
     items = items_new;
     names = names_new;
-    few = λ id stands. let sum = total_new SubEntries id stands in let le = s.few id stands in omega arith;
-    fits = λ id stands. let subs = total_new SubEntries id stands in let pays = total_new Sponsoring id stands in
-        let le = s.fits id stands in omega arith;
+    few = λ id exists. let sum = total_new SubEntries id exists in let le = s.few id exists in omega arith;
+    fits = λ id exists. let subs = total_new SubEntries id exists in let pays = total_new Sponsoring id exists in
+        let le = s.fits id exists in omega arith;
   }
 
 -- ---- taken away
-
-erase_get : (m : EntryMap) (k x : LedgerKey) → get (erase m k) x ≡ cond (eq_by_cmp key_cmp x k) None (get m x)
-erase_get m k x = get-remove keys_total m k x
 
 pub erase_total : (m : EntryMap) (k : LedgerKey) (e : LedgerEntry) (count : Count) (id : AccountId) → get m k ≡ Some e
     → total count id (erase m k) + counted_for count id e ≡ total count id m
 erase_total m k e count id there = sum_in-remove keys_total (counted_for count id) keys_exact m k e there
 
-pub none_left : (m : EntryMap) (k : LedgerKey) → get (erase m k) k ≡ None
-none_left m k = erase_get m k k ∙ ap (λ b. cond b None (get m k)) (same_itself k)
-
--- what is left stood before, under another key
-pub left_over : (m : EntryMap) (k x : LedgerKey) (e : LedgerEntry) → get (erase m k) x ≡ Some e
-    → (x ≢ k) × (get m x ≡ Some e)
-left_over m k x e there = elim (eq_by_cmp key_cmp x k) as (λ b. eq_by_cmp key_cmp x k ≡ b
-    → cond b None (get m x) ≡ Some e → (x ≢ k) × (get m x ≡ Some e)) [
-      | true ↦ λ tied is. absurd (cc)
-      | false ↦ λ apart is. (
-        λ same. let none : get (erase m k) x ≡ None = ap (get (erase m k)) same ∙ none_left m k in
-            absurd (cc),
-        is,
-      )
-    ] refl (sym (erase_get m k x) ∙ there)
-
-pub stands_erased : (m : EntryMap) (k : LedgerKey) (id : AccountId) → key.Account id ≢ k → HasAccount m id
+pub exists_erased : (m : EntryMap) (k : LedgerKey) (id : AccountId) → key.Account id ≢ k → HasAccount m id
     → HasAccount (erase m k) id
-stands_erased m k id apart stands =
-    let entry = account_entry m id stands.0 stands.1 in
+exists_erased m k id apart exists =
+    let entry = account_entry m id exists.0 exists.1 in
     let left : get (erase m k) (key.Account id) ≡ get m (key.Account id) = erase_get m k (key.Account id)
     ∙ elim (eq_by_cmp key_cmp (key.Account id) k) as (λ b. eq_by_cmp key_cmp (key.Account id) k ≡ b
     → cond b None (get m (key.Account id)) ≡ get m (key.Account id)) [
       | true ↦ λ tied. absurd (apart (same_keys _ k tied))
       | false ↦ λ h. refl
     ] refl in
-    (stands.0, stands_in (erase m k) id entry.0 stands.0 (left ∙ entry.1.0) entry.1.1)
+    (exists.0, exists_in (erase m k) id entry.0 exists.0 (left ∙ entry.1.0) entry.1.1)
 
 -- an entry is taken away, for which counts went down
 pub erased : (q : Shift) (old m : EntryMap) (k : LedgerKey) (e : LedgerEntry) → IsEven old → IsShifted no_shift q old m
@@ -205,12 +173,12 @@ erased q old m k e even h there balanced rest = settled no_shift q old m (erase 
       ap (part_of (counted_for count id)) now.1 in
       let sum = erase_total m k now.0 count id now.1 in
       omega arith;
-  balanced = λ count id stands. let part : part_of (counted_for count id) (get old k) ≡ counted_for count id e =
-      ap (part_of (counted_for count id)) there in let is = balanced count id stands in omega arith;
+  balanced = λ count id exists. let part : part_of (counted_for count id) (get old k) ≡ counted_for count id e =
+      ap (part_of (counted_for count id)) there in let is = balanced count id exists in omega arith;
   entry = λ x is. absurd (cc);
   rest = rest;
-  few = λ id stands. let le = all_few old id even in omega arith;
-  fits = λ id stands. let le = all_fit old id even in omega arith;
+  few = λ id exists. let le = all_few old id even in omega arith;
+  fits = λ id exists. let le = all_fit old id even in omega arith;
 })
 
 -- ---- put
@@ -220,29 +188,26 @@ account_body_of : (b : LedgerEntryBody) (id : AccountId) → key_of_body b ≡ k
 account_body_of (body.Account account) id is = (account, refl)
 account_body_of other id is = absurd (cc)
 
-put_there : (m : EntryMap) (e : LedgerEntry) → get (put m e) (key_of e) ≡ Some e
-put_there m e = put_get m e (key_of e) ∙ ap (λ b. cond b (Some e) (get m (key_of e))) (same_itself (key_of e))
-
-pub stands_put : (m : EntryMap) (e : LedgerEntry) (id : AccountId) → HasAccount m id → HasAccount (put m e) id
-stands_put m e id stands =
-    let entry = account_entry m id stands.0 stands.1 in
+pub exists_put : (m : EntryMap) (e : LedgerEntry) (id : AccountId) → HasAccount m id → HasAccount (put m e) id
+exists_put m e id exists =
+    let entry = account_entry m id exists.0 exists.1 in
     elim (eq_by_cmp key_cmp (key.Account id) (key_of e)) as (λ b. eq_by_cmp key_cmp (key.Account id) (key_of e) ≡ b
     → get (put m e) (key.Account id) ≡ cond b (Some e) (get m (key.Account id)) → HasAccount (put m e) id) [
       | true ↦ λ tied is. let new = account_body_of e.body id (sym (same_keys _ (key_of e) tied)) in
-          (new.0, stands_in (put m e) id e new.0 is new.1)
-      | false ↦ λ apart is. (stands.0, stands_in (put m e) id entry.0 stands.0 (is ∙ entry.1.0) entry.1.1)
+          (new.0, exists_in (put m e) id e new.0 is new.1)
+      | false ↦ λ apart is. (exists.0, exists_in (put m e) id entry.0 exists.0 (is ∙ entry.1.0) entry.1.1)
     ] refl (put_get m e (key.Account id))
 
-pub stands_placed : (m : EntryMap) (e : LedgerEntry) (account : AccountEntry) → account_in e.body ≡ Some account
+pub exists_inserted : (m : EntryMap) (e : LedgerEntry) (account : AccountEntry) → account_in e.body ≡ Some account
     → HasAccount (put m e) account.account_id
-stands_placed m e account is = (
+exists_inserted m e account is = (
   account,
-  stands_in (put m e) account.account_id e account
+  exists_in (put m e) account.account_id e account
       (ap (get (put m e)) (sym (account_key e.body account is)) ∙ put_there m e) is,
 )
 
 -- what an entry that is put must meet, for which counts went up by p and down by q
-pub record IsPlaced (p q : Shift) (old m : EntryMap) (e : LedgerEntry) : Type 0 where
+pub record IsLocated (p q : Shift) (old m : EntryMap) (e : LedgerEntry) : Type 0 where
   pub balanced : (count : Count) (id : AccountId) → p count id + part_of (counted_for count id) (get old (key_of e))
       ≡ q count id + counted_for count id e
   pub sums : (account : AccountEntry) (count : Count) → account_in e.body ≡ Some account
@@ -254,15 +219,15 @@ pub record IsPlaced (p q : Shift) (old m : EntryMap) (e : LedgerEntry) : Type 0 
   pub fits : (id : AccountId) → total SubEntries id old + total Sponsoring id old +
       (p SubEntries id + p Sponsoring id) ≤ 4294967295 + (q SubEntries id + q Sponsoring id)
 
-pub placed : (p q : Shift) (old m : EntryMap) (e : LedgerEntry) → IsEven old → IsShifted p q old m
-    → IsPlaced p q old m e → IsEven (put m e)
-placed p q old m e even h s = settled p q old m (put m e) (key_of e) (Some e) even h (record {
+pub inserted : (p q : Shift) (old m : EntryMap) (e : LedgerEntry) → IsEven old → IsShifted p q old m
+    → IsLocated p q old m e → IsEven (put m e)
+inserted p q old m e even h s = settled p q old m (put m e) (key_of e) (Some e) even h (record {
   got = put_get m e;
   summed = put_total m e;
-  balanced = λ count id stands. s.balanced count id;
+  balanced = λ count id exists. s.balanced count id;
   entry = λ x is. let same : e ≡ x = cc in subst (IsSettledEntry p q old (put m e) (key_of e)) same
       (record { own = refl; sums = s.sums; items = s.items; names = s.names });
-  rest = λ x y id apart at names. stands_put m e id (stands_after p q old m id h (even.names x y id at names));
-  few = λ id stands. s.few id;
-  fits = λ id stands. s.fits id;
+  rest = λ x y id apart at names. exists_put m e id (exists_after p q old m id h (even.names x y id at names));
+  few = λ id exists. s.few id;
+  fits = λ id exists. s.fits id;
 })

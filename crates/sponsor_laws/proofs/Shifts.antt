@@ -1,24 +1,10 @@
 -- Maps that are alike but for counts of accounts, which moved by known numbers.
-use Rattle.std.proofs.Common.{◌≡◌, refl, sym, ap, subst, ◌∙◌, ℕ, ◌+◌, true, false, Option, Some, None}
-use Rattle.std.specs.Prelude.{if◌then◌else◌}
-use Rattle.std.specs.FinMap.{get}
-use Rattle.sponsor_rules.specs.ledger_types.declared.ids.AccountId.{AccountId}
-use Rattle.sponsor_rules.specs.ledger_types.declared.account.AccountEntry.{AccountEntry}
-use Rattle.sponsor_rules.specs.ledger_types.declared.entry.LedgerEntry.{LedgerEntry}
-use Rattle.sponsor_rules.specs.ledger_types.declared.entry.LedgerEntryBody.{LedgerEntryBody}
+use Rattle.sponsor_laws.proofs.Prelude.{◌≡◌, refl, sym, ap, subst, ◌∙◌, ℕ, ◌+◌, true, false, Option, Some, None}
+use Rattle.sponsor_laws.proofs.Prelude.{if◌then◌else◌, get, AccountId, AccountEntry, LedgerEntry, LedgerEntryBody}
+use Rattle.sponsor_laws.proofs.Prelude.{LedgerKey, key_of_body, EntryMap, Count, account_in, sponsor_of, multiplicity}
+use Rattle.sponsor_laws.proofs.Prelude.{owner_of, count_in, is_same_account, total, counted_for, same_account}
 use Rattle.sponsor_rules.specs.ledger_types.declared.entry.LedgerEntryBody.TheVariants as body
-use Rattle.sponsor_rules.specs.ledger_types.declared.key.LedgerKey.{LedgerKey}
 use Rattle.sponsor_rules.specs.ledger_types.declared.key.LedgerKey.TheVariants as key
-use Rattle.sponsor_rules.specs.ledger_types.Keys.{key_of_body}
-use Rattle.sponsor_rules.specs.entry_map.EntryMap.{EntryMap}
-use Rattle.sponsor_rules.specs.declared.count.Count.{Count}
-use Rattle.sponsor_rules.specs.entry_slots.Accounts.{account_in}
-use Rattle.sponsor_rules.specs.entry_slots.EntrySponsor.{sponsor_of}
-use Rattle.sponsor_rules.specs.Charge.{multiplicity, owner_of}
-use Rattle.sponsor_rules.specs.Counting.{count_in}
-use Rattle.sponsor_rules.specs.Payers.{is_same_account}
-use Rattle.sponsor_laws.specs.Sums.{total, counted_for}
-use Rattle.sponsor_rules.proofs.Ids.{same_account}
 use Rattle.sponsor_laws.proofs.Accounts.{KeepsParts, keeps_all, instead, share, own_part, own_part-keeps, counted_split}
 use Rattle.sponsor_laws.proofs.Even.{AreOwn}
 
@@ -95,7 +81,7 @@ module _ (p q : Shift) where
       (h.sponsor i) + same_own_part count id x.body y.body h.bodies i)
       ∙ sym (counted_split count id x)
 
-  -- the account behind the one in an alike body
+  -- the account before the one in an alike body
   pub account_before : (a b : LedgerEntryBody) (account : AccountEntry) → AlikeBodies p q a b
       → account_in b ≡ Some account → (was : AccountEntry) × (account_in a ≡ Some was)
       × IsShiftedAccount p q was account
@@ -128,7 +114,7 @@ entries_before p q x None e h is = absurd (cc)
 entries_before p q None (Some y) e h is = absurd h
 entries_before p q (Some x) (Some y) e h is = let same : y ≡ e = cc in (x, refl, subst (AlikeEntries p q x) same h)
 
--- the entry that stands now where one stood, and the other way round
+-- the entry that is now where one was, and the other way round
 pub entry_after : (p q : Shift) (old new : EntryMap) (k : LedgerKey) (e : LedgerEntry) → IsShifted p q old new
     → get old k ≡ Some e → (now : LedgerEntry) × (get new k ≡ Some now) × AlikeEntries p q e now
 entry_after p q old new k e h there = entries_of p q (get old k) (get new k) e (h.entries k) there

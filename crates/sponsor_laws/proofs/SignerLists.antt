@@ -1,21 +1,12 @@
 -- The sponsors of an account's signers, after a signer is added, taken away or given another sponsor.
-use Rattle.std.proofs.Common.{◌≡◌, ◌≢◌, refl, sym, ap, ◌∙◌, ℕ, zero, suc, ◌≤◌, List, [], ◌∷◌, ◌++◌, map, take, drop}
-use Rattle.std.proofs.Common.{get_or, Option, Some, None, slice_set, arith}
-use Rattle.std.specs.List.{insert, remove, slice_get, take-map, drop-map}
+use Rattle.sponsor_laws.proofs.Prelude.{◌≡◌, ◌≢◌, refl, sym, ap, ◌∙◌, ℕ, zero, suc, ◌≤◌, List, [], ◌∷◌, ◌++◌, map, take}
+use Rattle.sponsor_laws.proofs.Prelude.{drop, get_or, Option, Some, None, slice_set, arith, insert, remove, slice_get}
+use Rattle.sponsor_laws.proofs.Prelude.{take-map, drop-map, map-append, AccountId, Signer, AccountEntry}
+use Rattle.sponsor_laws.proofs.Prelude.{AccountEntryExtensionV2, second_in, sponsored_in, sponsorship_in}
+use Rattle.sponsor_laws.proofs.Prelude.{signer_sponsor, count_in, with_sponsors, with_sponsors_in, with_signer_at}
+use Rattle.sponsor_laws.proofs.Prelude.{without_signer, with_signer_sponsor, Sponsored, second_edited, signer_sponsors}
 use Rattle.std.specs.Option.{option_and_then}
-use Rattle.std.proofs.lemmas.List.{map-append}
-use Rattle.sponsor_rules.specs.ledger_types.declared.ids.AccountId.{AccountId}
-use Rattle.sponsor_rules.specs.ledger_types.declared.signer.Signer.{Signer}
-use Rattle.sponsor_rules.specs.ledger_types.declared.account.AccountEntry.{AccountEntry}
 use Rattle.sponsor_rules.specs.ledger_types.declared.account.AccountEntryExtensionV1.{AccountEntryExtensionV1}
-use Rattle.sponsor_rules.specs.ledger_types.declared.account.AccountEntryExtensionV2.{AccountEntryExtensionV2}
-use Rattle.sponsor_rules.specs.entry_slots.AccountExtensions.{second_in, sponsored_in, sponsorship_in, signer_sponsor}
-use Rattle.sponsor_rules.specs.Counting.{count_in}
-use Rattle.sponsor_rules.specs.SignerPlace.{with_sponsors, with_sponsors_in, with_signer_at, without_signer}
-use Rattle.sponsor_rules.specs.SignerPlace.{with_signer_sponsor}
-use Rattle.sponsor_rules.specs.declared.count.Count.TheVariants.{Sponsored}
-use Rattle.sponsor_rules.proofs.Keeping.{second_edited}
-use Rattle.sponsor_laws.specs.Sums.{signer_sponsors}
 
 -- ---- lists without sponsors
 
@@ -25,19 +16,19 @@ none_for signer = None
 abbrev none_each : List Signer → List (Option AccountId)
 none_each signers = map (λ signer. None) signers
 
-none_inserted : (signers : List Signer) (place : ℕ) (signer : Signer)
-    → none_each (insert signers place signer) ≡ insert (none_each signers) place None
-none_inserted signers place signer = map-append none_for (take place signers) (signer ∷ drop place signers)
-    ∙ (λ i. sym (take-map none_for place signers) i ++ None ∷ sym (drop-map none_for place signers) i)
+none_inserted : (signers : List Signer) (index : ℕ) (signer : Signer)
+    → none_each (insert signers index signer) ≡ insert (none_each signers) index None
+none_inserted signers index signer = map-append none_for (take index signers) (signer ∷ drop index signers)
+    ∙ (λ i. sym (take-map none_for index signers) i ++ None ∷ sym (drop-map none_for index signers) i)
 
-none_removed : (signers : List Signer) (place : ℕ) → none_each (remove signers place) ≡ remove (none_each signers) place
-none_removed signers place = map-append none_for (take place signers) (drop (suc place) signers)
-    ∙ (λ i. sym (take-map none_for place signers) i ++ sym (drop-map none_for (suc place) signers) i)
+none_removed : (signers : List Signer) (index : ℕ) → none_each (remove signers index) ≡ remove (none_each signers) index
+none_removed signers index = map-append none_for (take index signers) (drop (suc index) signers)
+    ∙ (λ i. sym (take-map none_for index signers) i ++ sym (drop-map none_for (suc index) signers) i)
 
-none_set : (signers : List Signer) (place : ℕ) → none_each signers ≡ slice_set (none_each signers) place None
-none_set [] place = refl
+none_set : (signers : List Signer) (index : ℕ) → none_each signers ≡ slice_set (none_each signers) index None
+none_set [] index = refl
 none_set (x ∷ xs) zero = refl
-none_set (x ∷ xs) (suc place) = ap (λ ys. None ∷ ys) (none_set xs place)
+none_set (x ∷ xs) (suc index) = ap (λ ys. None ∷ ys) (none_set xs index)
 
 -- ---- edited accounts
 
@@ -60,44 +51,44 @@ module _ (change : List (Option AccountId) → List (Option AccountId)) where
 extended : (a : AccountEntry) → 1 ≤ count_in Sponsored a → second_in a.ext ≢ None
 extended a le none = let nothing : count_in Sponsored a ≡ 0 = ap sponsored_in none in absurd (omega arith)
 
-pub sponsors_inserted : (place : ℕ) (signer : Signer) (s : Option AccountId) (a : AccountEntry)
-    → (s ≢ None → 1 ≤ count_in Sponsored a) → signer_sponsors (with_signer_at place signer s a)
-    ≡ insert (signer_sponsors a) place s
-sponsors_inserted place signer None a paid = sponsors_edited (λ sponsors. insert sponsors place None) a.signers
-    (insert a.signers place signer) a.ext (λ none. none_inserted a.signers place signer)
-sponsors_inserted place signer (Some s) a paid = sponsors_edited (λ sponsors. insert sponsors place (Some s)) a.signers
-    (insert a.signers place signer) a.ext (λ none. absurd (extended a (paid (λ is. cc)) none))
+pub sponsors_inserted : (index : ℕ) (signer : Signer) (s : Option AccountId) (a : AccountEntry)
+    → (s ≢ None → 1 ≤ count_in Sponsored a) → signer_sponsors (with_signer_at index signer s a)
+    ≡ insert (signer_sponsors a) index s
+sponsors_inserted index signer None a paid = sponsors_edited (λ sponsors. insert sponsors index None) a.signers
+    (insert a.signers index signer) a.ext (λ none. none_inserted a.signers index signer)
+sponsors_inserted index signer (Some s) a paid = sponsors_edited (λ sponsors. insert sponsors index (Some s)) a.signers
+    (insert a.signers index signer) a.ext (λ none. absurd (extended a (paid (λ is. cc)) none))
 
-pub sponsors_removed : (place : ℕ) (a : AccountEntry)
-    → signer_sponsors (without_signer place a) ≡ remove (signer_sponsors a) place
-sponsors_removed place a = sponsors_edited (λ sponsors. remove sponsors place) a.signers (remove a.signers place) a.ext
-    (λ none. none_removed a.signers place)
+pub sponsors_removed : (index : ℕ) (a : AccountEntry)
+    → signer_sponsors (without_signer index a) ≡ remove (signer_sponsors a) index
+sponsors_removed index a = sponsors_edited (λ sponsors. remove sponsors index) a.signers (remove a.signers index) a.ext
+    (λ none. none_removed a.signers index)
 
-pub sponsors_set : (place : ℕ) (s : Option AccountId) (a : AccountEntry) → (s ≢ None → 1 ≤ count_in Sponsored a)
-    → signer_sponsors (with_signer_sponsor place s a) ≡ slice_set (signer_sponsors a) place s
-sponsors_set place None a paid = sponsors_edited (λ sponsors. slice_set sponsors place None) a.signers a.signers a.ext
-    (λ none. none_set a.signers place)
-sponsors_set place (Some s) a paid = sponsors_edited (λ sponsors. slice_set sponsors place
+pub sponsors_set : (index : ℕ) (s : Option AccountId) (a : AccountEntry) → (s ≢ None → 1 ≤ count_in Sponsored a)
+    → signer_sponsors (with_signer_sponsor index s a) ≡ slice_set (signer_sponsors a) index s
+sponsors_set index None a paid = sponsors_edited (λ sponsors. slice_set sponsors index None) a.signers a.signers a.ext
+    (λ none. none_set a.signers index)
+sponsors_set index (Some s) a paid = sponsors_edited (λ sponsors. slice_set sponsors index
     (Some s)) a.signers a.signers a.ext (λ none. absurd (extended a (paid (λ is. cc)) none))
 
--- ---- the sponsor at a place
+-- ---- the sponsor at an index
 
-at_place : (xs : List (Option AccountId)) (place : ℕ)
-    → option_and_then (λ sponsor. sponsor) (slice_get xs place) ≡ get_or xs place None
-at_place [] place = refl
-at_place (x ∷ xs) zero = refl
-at_place (x ∷ xs) (suc place) = at_place xs place
+at_index : (xs : List (Option AccountId)) (index : ℕ)
+    → option_and_then (λ sponsor. sponsor) (slice_get xs index) ≡ get_or xs index None
+at_index [] index = refl
+at_index (x ∷ xs) zero = refl
+at_index (x ∷ xs) (suc index) = at_index xs index
 
-none_at_place : (signers : List Signer) (place : ℕ) → None ≡ get_or (none_each signers) place None
-none_at_place [] place = refl
-none_at_place (x ∷ xs) zero = refl
-none_at_place (x ∷ xs) (suc place) = none_at_place xs place
+none_at_location : (signers : List Signer) (index : ℕ) → None ≡ get_or (none_each signers) index None
+none_at_location [] index = refl
+none_at_location (x ∷ xs) zero = refl
+none_at_location (x ∷ xs) (suc index) = none_at_location xs index
 
-sponsor_in_place : (signers : List Signer) (o : Option AccountEntryExtensionV2) (place : ℕ)
-    → option_and_then (λ ext. option_and_then (λ sponsor. sponsor) (slice_get ext.signer_sponsoring_ids place)) o
-    ≡ get_or (sponsorship_in signers o).signer_sponsoring_ids place None
-sponsor_in_place signers None place = none_at_place signers place
-sponsor_in_place signers (Some ext) place = at_place ext.signer_sponsoring_ids place
+sponsor_in_place : (signers : List Signer) (o : Option AccountEntryExtensionV2) (index : ℕ)
+    → option_and_then (λ ext. option_and_then (λ sponsor. sponsor) (slice_get ext.signer_sponsoring_ids index)) o
+    ≡ get_or (sponsorship_in signers o).signer_sponsoring_ids index None
+sponsor_in_place signers None index = none_at_location signers index
+sponsor_in_place signers (Some ext) index = at_index ext.signer_sponsoring_ids index
 
-pub sponsor_at_place : (a : AccountEntry) (place : ℕ) → signer_sponsor a place ≡ get_or (signer_sponsors a) place None
-sponsor_at_place a place = sponsor_in_place a.signers (second_in a.ext) place
+pub sponsor_at_index : (a : AccountEntry) (index : ℕ) → signer_sponsor a index ≡ get_or (signer_sponsors a) index None
+sponsor_at_index a index = sponsor_in_place a.signers (second_in a.ext) index

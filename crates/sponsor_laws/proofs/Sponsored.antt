@@ -1,29 +1,17 @@
 -- An account's reserves that others pay are at most its own two and one for each of its subentries.
-use Rattle.std.proofs.Common.{◌≡◌, ◌≢◌, refl, sym, ap, subst, ◌∙◌, ℕ, ◌+◌, ◌≤◌, Bool, true, false, length, Some, arith}
-use Rattle.std.specs.Prelude.{if◌then◌else◌}
-use Rattle.std.specs.List.{count_by}
-use Rattle.std.proofs.lemmas.List.Sums.{count_by-le-length}
-use Rattle.sponsor_rules.specs.ledger_types.declared.ids.AccountId.{AccountId}
-use Rattle.sponsor_rules.specs.ledger_types.declared.account.AccountEntry.{AccountEntry}
-use Rattle.sponsor_rules.specs.ledger_types.declared.entry.LedgerEntry.{LedgerEntry}
-use Rattle.sponsor_rules.specs.ledger_types.declared.entry.LedgerEntryBody.{LedgerEntryBody}
+use Rattle.sponsor_laws.proofs.Prelude.{◌≡◌, ◌≢◌, refl, sym, ap, subst, ◌∙◌, ℕ, ◌+◌, ◌≤◌, Bool, true, false, length}
+use Rattle.sponsor_laws.proofs.Prelude.{Some, arith, if◌then◌else◌, count_by, count_by-le-length, AccountId}
+use Rattle.sponsor_laws.proofs.Prelude.{AccountEntry, LedgerEntry, LedgerEntryBody, keys_total, EntryMap, erase}
+use Rattle.sponsor_laws.proofs.Prelude.{SubEntries, Sponsored, account_in, sponsor_of, multiplicity, owner_of}
+use Rattle.sponsor_laws.proofs.Prelude.{is_same_account, HasItems, is_this, is_there, signer_sponsors, subentries_for}
+use Rattle.sponsor_laws.proofs.Prelude.{sponsored_signers, counted_for, total, SponsoredAtMost, left_over}
 use Rattle.sponsor_rules.specs.ledger_types.declared.entry.LedgerEntryBody.TheVariants as body
 use Rattle.sponsor_rules.specs.ledger_types.declared.key.LedgerKey.TheVariants as key
-use Rattle.sponsor_rules.proofs.ledger_types_proofs.KeyOrdering.{keys_total}
-use Rattle.sponsor_rules.specs.entry_map.EntryMap.{EntryMap, erase}
-use Rattle.sponsor_rules.specs.declared.count.Count.TheVariants.{SubEntries, Sponsored}
-use Rattle.sponsor_rules.specs.entry_slots.Accounts.{account_in}
-use Rattle.sponsor_rules.specs.entry_slots.EntrySponsor.{sponsor_of}
-use Rattle.sponsor_rules.specs.Charge.{multiplicity, owner_of}
-use Rattle.sponsor_rules.specs.Payers.{is_same_account}
-use Rattle.sponsor_laws.specs.Sums.{HasItems, is_this, is_there, signer_sponsors, subentries_for, sponsored_signers}
-use Rattle.sponsor_laws.specs.Sums.{counted_for, total}
-use Rattle.sponsor_laws.specs.Laws.{SponsoredAtMost}
 use Rattle.sponsor_laws.proofs.Totals.{sum_in-at_most}
 use Rattle.sponsor_laws.proofs.Accounts.{as_many}
 use Rattle.sponsor_laws.proofs.Even.{IsEven, even, sums_of, account_entry, account_key, account_body, sponsored_none}
 use Rattle.sponsor_laws.proofs.Shifts.{apart_ids}
-use Rattle.sponsor_laws.proofs.Settling.{erase_total, left_over}
+use Rattle.sponsor_laws.proofs.Settling.{erase_total}
 
 -- ---- one entry
 

@@ -1,19 +1,10 @@
 -- An account that pays no reserve for others is nobody's sponsor.
-use Rattle.std.proofs.Common.{◌≡◌, ◌≢◌, refl, sym, ap, ◌∙◌, ◌≤◌, List, [], ◌∷◌, length, Some, arith}
-use Rattle.std.specs.List.{count_by}
-use Rattle.std.specs.FinMap.{get}
-use Rattle.sponsor_rules.specs.ledger_types.declared.ids.AccountId.{AccountId}
-use Rattle.sponsor_rules.specs.ledger_types.declared.entry.LedgerEntry.{LedgerEntry}
-use Rattle.sponsor_rules.specs.ledger_types.declared.entry.LedgerEntryBody.{LedgerEntryBody}
+use Rattle.sponsor_laws.proofs.Prelude.{◌≡◌, ◌≢◌, refl, sym, ap, ◌∙◌, ◌≤◌, List, [], ◌∷◌, length, Some, arith, count_by}
+use Rattle.sponsor_laws.proofs.Prelude.{get, AccountId, LedgerEntry, LedgerEntryBody, LedgerKey, EntryMap, Sponsoring}
+use Rattle.sponsor_laws.proofs.Prelude.{sponsor_of, multiplicity, is_this, signer_sponsors, total}
+use Rattle.sponsor_laws.proofs.Prelude.{SponsoredEntriesCount, ZeroSponsorsNothing}
 use Rattle.sponsor_rules.specs.ledger_types.declared.entry.LedgerEntryBody.TheVariants as body
-use Rattle.sponsor_rules.specs.ledger_types.declared.key.LedgerKey.{LedgerKey}
 use Rattle.sponsor_rules.specs.ledger_types.declared.key.LedgerKey.TheVariants as key
-use Rattle.sponsor_rules.specs.entry_map.EntryMap.{EntryMap}
-use Rattle.sponsor_rules.specs.declared.count.Count.TheVariants.{Sponsoring}
-use Rattle.sponsor_rules.specs.entry_slots.EntrySponsor.{sponsor_of}
-use Rattle.sponsor_rules.specs.Charge.{multiplicity}
-use Rattle.sponsor_laws.specs.Sums.{is_this, signer_sponsors, total}
-use Rattle.sponsor_laws.specs.Laws.{SponsoredEntriesCount, ZeroSponsorsNothing}
 use Rattle.sponsor_laws.proofs.Accounts.{own_part, counted_split}
 use Rattle.sponsor_laws.proofs.Even.{even, sums_of, account_entry, account_body}
 use Rattle.sponsor_laws.proofs.Parts.{pays_for, in_total, counts_once}
@@ -23,7 +14,7 @@ not_empty : {X : Type 0} (xs : List X) → xs ≢ [] → 1 ≤ length xs
 not_empty [] some = absurd (some refl)
 not_empty (x ∷ xs) some = omega arith
 
-module _ (m : EntryMap) (whole : SponsoredEntriesCount m) (k : LedgerKey) (e : LedgerEntry) (there : get m k ≡ Some e)
+module _ (m : EntryMap) (entire : SponsoredEntriesCount m) (k : LedgerKey) (e : LedgerEntry) (there : get m k ≡ Some e)
     (id : AccountId) (pays : sponsor_of e ≡ Some id) where
   sponsored_counts : (b : LedgerEntryBody) → e.body ≡ b → 1 ≤ multiplicity b
   sponsored_counts (body.Account account) is = omega arith
@@ -31,16 +22,16 @@ module _ (m : EntryMap) (whole : SponsoredEntriesCount m) (k : LedgerKey) (e : L
   sponsored_counts (body.Offer offer) is = omega arith
   sponsored_counts (body.Data data_entry) is = omega arith
   sponsored_counts (body.ClaimableBalance balance) is =
-      not_empty balance.claimants (whole.claimants k e balance there is)
-  sponsored_counts (body.LiquidityPool pool) is = absurd (let none = whole.pools k e pool there is in cc)
+      not_empty balance.claimants (entire.claimants k e balance there is)
+  sponsored_counts (body.LiquidityPool pool) is = absurd (let none = entire.pools k e pool there is in cc)
 
 pub zero_sponsors : ZeroSponsorsNothing
-zero_sponsors id account m kept whole stands zero =
+zero_sponsors id account m kept entire exists zero =
     let h = even m kept in
-    let none : total Sponsoring id m ≡ 0 = sym (sums_of m h id account Sponsoring stands) ∙ zero in
+    let none : total Sponsoring id m ≡ 0 = sym (sums_of m h id account Sponsoring exists) ∙ zero in
     record {
       entries = λ k e there pays.
-          let once = sponsored_counts m whole k e there id pays e.body refl in
+          let once = sponsored_counts m entire k e there id pays e.body refl in
           let paid = pays_for e id pays in
           let le = in_total m k e Sponsoring id there in
           absurd (omega arith);

@@ -1,47 +1,27 @@
 -- Sums over the entries of a map, after an entry is put or taken away, and beside another sum.
-use Rattle.std.proofs.Common.{◌≡◌, refl, sym, ap, subst, ◌∙◌, ℕ, ◌+◌, ◌≤◌, Bool, true, false, cond, ◌&&◌, T, List, []}
-use Rattle.std.proofs.Common.{◌∷◌, Option, Some, None, arith}
-use Rattle.std.specs.declared.cmp.Ordering.{Ordering}
-use Rattle.std.specs.declared.cmp.Ordering.TheVariants.{Less, Equal, Greater}
-use Rattle.std.specs.Ordering.{eq_by_cmp, is_eq, is_lt}
-use Rattle.std.specs.Cmp.{IsTotalOrder, tied_itself, Equal-is, eq_by_cmp_equiv}
-use Rattle.std.specs.List.{sum_by}
-use Rattle.std.specs.FinMap.{FinMap, get, insert, remove, entries, entries_sorted, entries-insert, get-entries}
-use Rattle.std.specs.FinMap.{get-insert, get-remove, same_map, IsAntisymmetric}
-use Rattle.std.specs.FinMap.Entries.{find, put, is_sorted, below_all, by_order}
-use Rattle.std.proofs.lemmas.List.Sums.{sum_by-cons}
+use Rattle.sponsor_laws.proofs.Prelude.{◌≡◌, refl, sym, ap, subst, ◌∙◌, ℕ, ◌+◌, ◌≤◌, Bool, true, false, cond, ◌&&◌, T}
+use Rattle.sponsor_laws.proofs.Prelude.{List, [], ◌∷◌, Option, Some, None, arith, Ordering, Less, Equal, Greater}
+use Rattle.sponsor_laws.proofs.Prelude.{eq_by_cmp, is_eq, is_lt, IsTotalOrder, tied_itself, Equal-is, eq_by_cmp_equiv}
+use Rattle.sponsor_laws.proofs.Prelude.{sum_by, FinMap, get, entries, entries_sorted, entries-insert, get-entries}
+use Rattle.sponsor_laws.proofs.Prelude.{get-insert, get-remove, same_map, IsAntisymmetric, is_sorted, sum_by-cons}
+use Rattle.std.specs.FinMap.{insert, remove}
+use Rattle.std.specs.FinMap.Entries.{find, put, below_all, by_order}
+use Rattle.sponsor_rules.proofs.ledger_types_proofs.Booleans.{both_true, first_true, is_lt_Less, second_true}
 
 -- ---- a list in the order of keys
-
-first_of_both : (a b : Bool) → T (a && b) → T a
-first_of_both true b p = tt
-first_of_both false b p = p
-
-second_of_both : (a b : Bool) → T (a && b) → T b
-second_of_both true b p = p
-second_of_both false b p = absurd p
-
-both_true : (a b : Bool) → T a → T b → T (a && b)
-both_true true b p q = q
-both_true false b p q = p
-
-is_less : (o : Ordering) → T (is_lt o) → o ≡ Less
-is_less Less p = refl
-is_less Equal p = absurd p
-is_less Greater p = absurd p
 
 put_later : (new old first after before part v : ℕ) → new ≡ first + after → old ≡ first + before
     → after + part ≡ before + v → new + part ≡ old + v
 put_later new old first after before part v now was rest = omega arith
 
-no_more : (all first rest : ℕ) → all ≡ first + rest → first ≡ 0 → rest ≡ 0 → all ≡ 0
-no_more all first rest is none nothing = omega arith
+zero_from_zero_parts : (all first rest : ℕ) → all ≡ first + rest → first ≡ 0 → rest ≡ 0 → all ≡ 0
+zero_from_zero_parts all first rest is none nothing = omega arith
 
 no_higher : (low low_first low_rest high high_first high_rest : ℕ) → low ≡ low_first + low_rest
     → high ≡ high_first + high_rest → low_first ≤ high_first → low_rest ≤ high_rest → low ≤ high
 no_higher low low_first low_rest high high_first high_rest low_is high_is first rest = omega arith
 
--- what stands at a key, or 0
+-- what is at a key, or 0
 abbrev pub part_of : {X : Type 0} → (X → ℕ) → Option X → ℕ
 part_of f None = 0
 part_of f (Some x) = f x
@@ -52,13 +32,13 @@ module _ {K X : Type 0} {R : K → K → Ordering} (o : IsTotalOrder R) (f : X �
 
   not_below : (q : K) (es : List (K × X)) → T (below_all R q es) → find R q es ≡ None
   not_below q [] h = refl
-  not_below q (e ∷ es) h = ap (λ r. cond (is_eq r) (Some e.1) (find R q es)) (is_less _ (first_of_both _ _ h))
-      ∙ not_below q es (second_of_both _ _ h)
+  not_below q (e ∷ es) h = ap (λ r. cond (is_eq r) (Some e.1) (find R q es)) (is_lt_Less _ (first_true _ _ h))
+      ∙ not_below q es (second_true _ _ h)
 
   below_less : (x y : K) (es : List (K × X)) → R x y ≡ Less → T (below_all R y es) → T (below_all R x es)
   below_less x y [] p h = tt
   below_less x y (e ∷ es) p h = subst (λ r. T (is_lt r && below_all R x es))
-      (sym (o.trans x y e.0 p (is_less _ (first_of_both _ _ h)))) (below_less x y es p (second_of_both _ _ h))
+      (sym (o.trans x y e.0 p (is_lt_Less _ (first_true _ _ h)))) (below_less x y es p (second_true _ _ h))
 
   sum_of-put : (k : K) (v : X) (es : List (K × X)) → T (is_sorted R es)
       → sum_of (put R k v es) + part_of f (find R k es) ≡ sum_of es + f v
@@ -69,18 +49,18 @@ module _ {K X : Type 0} {R : K → K → Ordering} (o : IsTotalOrder R) (f : X �
       (e ∷ put R k v es)) + part_of f (cond (is_eq r) (Some e.1) (find R k es)) ≡ sum_of (e ∷ es) + f v) [
         | Less ↦ λ p.
             let none : part_of f (find R k es) ≡ 0 = ap (part_of f)
-            (not_below k es (below_less k e.0 es p (first_of_both _ _ h))) in
+            (not_below k es (below_less k e.0 es p (first_true _ _ h))) in
             let all = sum_by-cons (λ (x : K × X). f x.1) (k, v) (e ∷ es) in
             omega arith
         | Equal ↦ λ p. let here = sum_by-cons (λ (x : K × X). f x.1) (e.0, v) es in omega arith
         | Greater ↦ λ p. put_later _ _ _ _ _ _ _ (sum_by-cons (λ (x : K × X). f x.1) e (put R k v es)) cons
-            (sum_of-put k v es (second_of_both _ _ h))
+            (sum_of-put k v es (second_true _ _ h))
       ] refl
 
   below_tied : (x y : K) (es : List (K × X)) → R x y ≡ Equal → T (below_all R y es) → T (below_all R x es)
   below_tied x y [] p h = tt
   below_tied x y (e ∷ es) p h = subst (λ r. T (is_lt r && below_all R x es)) (sym (o.congr x y e.0 p))
-      (both_true _ _ (first_of_both _ _ h) (below_tied x y es p (second_of_both _ _ h)))
+      (both_true _ _ (first_true _ _ h) (below_tied x y es p (second_true _ _ h)))
 
   found_first : (e : K × X) (es : List (K × X)) → find R e.0 (e ∷ es) ≡ Some e.1
   found_first e es = ap (λ r. cond (is_eq r) (Some e.1) (find R e.0 es)) (tied_itself o e.0)
@@ -97,9 +77,9 @@ module _ {K X : Type 0} {R : K → K → Ordering} (o : IsTotalOrder R) (f : X �
   sum_of-none : (es : List (K × X)) → T (is_sorted R es) → ((k : K) (x : X) → find R k es ≡ Some x → f x ≡ 0)
       → sum_of es ≡ 0
   sum_of-none [] h none = refl
-  sum_of-none (e ∷ es) h none = no_more _ _ _ (sum_by-cons (λ (x : K × X). f x.1) e es)
+  sum_of-none (e ∷ es) h none = zero_from_zero_parts _ _ _ (sum_by-cons (λ (x : K × X). f x.1) e es)
       (none e.0 e.1 (found_first e es))
-      (sum_of-none es (second_of_both _ _ h) (λ k x there. none k x (found_later e es k x (first_of_both _ _ h) there)))
+      (sum_of-none es (second_true _ _ h) (λ k x there. none k x (found_later e es k x (first_true _ _ h) there)))
 
   sum_of-at_most : (g : X → ℕ) (es : List (K × X)) → T (is_sorted R es)
       → ((k : K) (x : X) → find R k es ≡ Some x → f x ≤ g x) → sum_of es ≤ sum_by (λ e. g e.1) es
@@ -107,8 +87,8 @@ module _ {K X : Type 0} {R : K → K → Ordering} (o : IsTotalOrder R) (f : X �
   sum_of-at_most g (e ∷ es) h le = no_higher _ _ _ _ _ _ (sum_by-cons (λ (x : K × X). f x.1) e es)
       (sum_by-cons (λ (x : K × X). g x.1) e es)
       (le e.0 e.1 (found_first e es))
-      (sum_of-at_most g es (second_of_both _ _ h) (λ k x there. le k x
-      (found_later e es k x (first_of_both _ _ h) there)))
+      (sum_of-at_most g es (second_true _ _ h) (λ k x there. le k x
+      (found_later e es k x (first_true _ _ h) there)))
 
 -- ---- maps
 

@@ -1,4 +1,4 @@
--- That adding, removing and moving keep the counts of accounts equal to their sums, and owners and sponsors standing;
+-- That adding, removing and moving keep the counts of accounts equal to their sums, and owners and sponsors existing;
 -- and what these sums say of the counts.
 use Rattle.std.specs.Prelude.{◌≡◌, ◌≢◌, ◌+◌, ◌≤◌, [], Option, Some, None, Ok}
 use Rattle.std.specs.FinMap.{get}
@@ -28,7 +28,7 @@ use Rattle.sponsor_rules.specs.Moving.{map_after_moving}
 use Rattle.sponsor_rules.specs.Signers.{map_after_adding_signer, map_after_removing_signer, map_after_moving_signer}
 use Rattle.sponsor_laws.specs.Sums.{AreCounted, HasItems, AllHaveItems, SponsorsNothing}
 
--- counts equal their sums, owners and sponsors stand, and each signer has an item for its sponsor
+-- counts equal their sums, owners and sponsors exist, and each signer has an item for its sponsor
 pub record AreKept (m : EntryMap) : Type 0 where
   pub counted : AreCounted m
   pub items : AllHaveItems m
@@ -45,24 +45,24 @@ pub record IsNewAccount (account : AccountEntry) : Type 0 where
   pub signers : account.signers ≡ []
   pub items : HasItems account
 
--- Who has to stand before a thing is added: the owner of a line, an offer or data, and the payer, unless that is the
+-- Who has to exist before a thing is added: the owner of a line, an offer or data, and the payer, unless that is the
 -- account that is added. For a pool nobody has to.
-abbrev pub HaveToStand : Ctx → AccountId → LedgerEntryBody → EntryMap → Type 0
-HaveToStand ctx owner (body.Account account) m = (sponsor : AccountId) → open_sponsor ctx owner ≡ Some sponsor
+abbrev pub HaveToExist : Ctx → AccountId → LedgerEntryBody → EntryMap → Type 0
+HaveToExist ctx owner (body.Account account) m = (sponsor : AccountId) → open_sponsor ctx owner ≡ Some sponsor
     → HasAccount m sponsor
-HaveToStand ctx owner (body.LiquidityPool pool) m = Unit {0}
-HaveToStand ctx owner (body.ClaimableBalance balance) m = HasAccount m (payer_of ctx owner)
-HaveToStand ctx owner (body.TrustLine line) m = HasAccount m owner × HasAccount m (payer_of ctx owner)
-HaveToStand ctx owner (body.Offer offer) m = HasAccount m owner × HasAccount m (payer_of ctx owner)
-HaveToStand ctx owner (body.Data data_entry) m = HasAccount m owner × HasAccount m (payer_of ctx owner)
+HaveToExist ctx owner (body.LiquidityPool pool) m = Unit {0}
+HaveToExist ctx owner (body.ClaimableBalance balance) m = HasAccount m (payer_of ctx owner)
+HaveToExist ctx owner (body.TrustLine line) m = HasAccount m owner × HasAccount m (payer_of ctx owner)
+HaveToExist ctx owner (body.Offer offer) m = HasAccount m owner × HasAccount m (payer_of ctx owner)
+HaveToExist ctx owner (body.Data data_entry) m = HasAccount m owner × HasAccount m (payer_of ctx owner)
 
--- an entry that may be added: nothing stands under its key, it is the owner's, and it has no sponsor yet
+-- an entry that may be added: nothing is under its key, it is the owner's, and it has no sponsor yet
 pub record IsAddable (ctx : Ctx) (owner : AccountId) (entry : LedgerEntry) (m : EntryMap) : Type 0 where
   pub free : get m (key_of entry) ≡ None
   pub owned : (id : AccountId) → owner_of entry.body ≡ Some id → id ≡ owner
   pub unsponsored : sponsor_of entry ≡ None
   pub new_account : (account : AccountEntry) → account_in entry.body ≡ Some account → IsNewAccount account
-  pub standing : HaveToStand ctx owner entry.body m
+  pub existing : HaveToExist ctx owner entry.body m
   pub apart : IsApart ctx owner
 
 abbrev pub AddingKeeps : Type 0
@@ -86,12 +86,12 @@ RemovingKeeps = (key : LedgerKey) (old : EntryMap) → AreKept old → IsRemovab
 
 -- ---- moving
 
-abbrev pub PayerStands : Option AccountId → EntryMap → Type 0
-PayerStands payer m = (id : AccountId) → payer ≡ Some id → HasAccount m id
+abbrev pub PayerExists : Option AccountId → EntryMap → Type 0
+PayerExists payer m = (id : AccountId) → payer ≡ Some id → HasAccount m id
 
 abbrev pub MovingKeeps : Type 0
 MovingKeeps = (ctx : Ctx) (key : LedgerKey) (payer : Option AccountId) (old new : EntryMap) → AreKept old
-    → PayerStands payer old → map_after_moving ctx key payer old ≡ Ok new → AreKept new
+    → PayerExists payer old → map_after_moving ctx key payer old ≡ Ok new → AreKept new
 
 -- ---- signers
 
@@ -108,7 +108,7 @@ RemovingSignerKeeps = (id : AccountId) (key : SignerKey) (old : EntryMap) → Ar
 abbrev pub MovingSignerKeeps : Type 0
 MovingSignerKeeps =
     (ctx : Ctx) (id : AccountId) (key : SignerKey) (payer : Option AccountId) (old new : EntryMap) → AreKept old
-    → PayerStands payer old
+    → PayerExists payer old
     → map_after_moving_signer ctx id key payer old ≡ Ok new → AreKept new
 
 -- ---- sponsoring nothing

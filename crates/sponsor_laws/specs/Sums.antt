@@ -76,8 +76,8 @@ total count id m = sum_by (λ pair. counted_for count id pair.1) (entries m)
 
 -- ---- what holds of a ledger's entries
 
--- Each entry stands under its key; each count of an account is the sum over all entries; an account has at most 1000
--- subentries, and these and the reserves that it pays as a sponsor fit 32 bits together; owners and sponsors stand.
+-- Each entry is under its key; each count of an account is the sum over all entries; an account has at most 1000
+-- subentries, and these and the reserves that it pays as a sponsor fit 32 bits together; owners and sponsors exist.
 pub record AreCounted (m : EntryMap) : Type 0 where
   pub keyed : IsKeyed m
   pub sums : (id : AccountId) (account : AccountEntry) (count : Count) → account_at m id ≡ Some account

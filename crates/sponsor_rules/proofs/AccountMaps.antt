@@ -1,33 +1,20 @@
--- A map in which an account's entry is put in place of the one that stood.
-use Rattle.std.proofs.Common.{◌≡◌, ◌≢◌, ◌⊎◌, inl, inr, refl, sym, ap, subst, ◌∙◌, ◌≤◌, Bool, true, false, cond}
-use Rattle.std.proofs.Common.{Option, Some, None, arith}
-use Rattle.std.specs.FinMap.{get, get-insert, get-remove}
-use Rattle.std.specs.Ordering.{eq_by_cmp}
-use Rattle.ledger_types.specs.declared.ids.AccountId.{AccountId}
-use Rattle.ledger_types.specs.declared.account.AccountEntry.{AccountEntry}
+-- A map in which an account's entry is put in place of the one that was there.
+use Rattle.sponsor_rules.proofs.Prelude as prelude
+use prelude.{◌≡◌, ◌≢◌, ◌⊎◌, inl, inr, refl, sym, ap, subst, ◌∙◌, ◌≤◌, Bool, true, false, cond, Option, Some, None}
+use prelude.{arith, get, get-insert, get-remove, eq_by_cmp, AccountId, AccountEntry, key_cmp, key_of, keys_total}
+use prelude.{EntryMap, put, erase, account_of, account_at, account_slot_by, account_slot_of, account_slot_at}
+use prelude.{account_of_slot, account_in, entry_of_account, with_account, with_account_in, with_account_of, Count}
+use prelude.{count_if, count_at, KeepsCore, KeepsOtherCounts, RaisesNoCount, IsChanged, IsChangeOf, KeepsOthers}
+use prelude.{RaisesNone, ChangesAtMost, IsLoaded, HasCore, LeavesCore, LeavesOtherCores, same_keys}
 use Rattle.ledger_types.specs.declared.entry.LedgerEntry.{LedgerEntry}
 use Rattle.ledger_types.specs.declared.entry.LedgerEntryBody.{LedgerEntryBody}
 use Rattle.ledger_types.specs.declared.entry.LedgerEntryBody.TheVariants as body
 use Rattle.ledger_types.specs.declared.key.LedgerKey.{LedgerKey}
 use Rattle.ledger_types.specs.declared.key.LedgerKey.TheVariants as key
-use Rattle.ledger_types.specs.KeyOrder.{key_cmp}
-use Rattle.ledger_types.specs.Keys.{key_of}
-use Rattle.ledger_types.proofs.KeyOrdering.{keys_total}
-use Rattle.reserve_rules.specs.entry_map.EntryMap.{EntryMap, put, erase}
-use Rattle.reserve_rules.proofs.entry_map_proofs.KeyMaps.{same_keys, same_itself}
+use Rattle.reserve_rules.proofs.entry_map_proofs.KeyMaps.{same_itself}
 use Rattle.reserve_rules.specs.entry_slots.declared.accounts.AccountSlot.{AccountSlot}
-use Rattle.reserve_rules.specs.entry_slots.Accounts.{account_of, account_at, account_slot_by, account_slot_of}
-use Rattle.reserve_rules.specs.entry_slots.Accounts.{account_slot_at}
-use Rattle.reserve_rules.specs.entry_slots.Accounts.{account_of_slot, account_in, entry_of_account, with_account}
-use Rattle.reserve_rules.specs.entry_slots.Accounts.{with_account_in}
-use Rattle.reserve_rules.specs.entry_slots.Accounts.{with_account_of}
 use Rattle.reserve_rules.specs.entry_slots.EntrySponsor.{with_sponsor}
-use Rattle.sponsor_rules.specs.declared.count.Count.{Count}
-use Rattle.sponsor_rules.specs.Counting.{count_if, count_at}
-use Rattle.sponsor_rules.specs.Keeping.{KeepsMeans, KeepsOtherCounts, RaisesNoCount, IsChanged, IsChangeOf, KeepsOthers}
-use Rattle.sponsor_rules.specs.Keeping.{RaisesNone, ChangesAtMost, IsLoaded, HasMeans, LeavesMeans}
-use Rattle.sponsor_rules.specs.Keeping.{LeavesOtherMeans}
-use Rattle.sponsor_rules.proofs.Keeping.{means_kept, means_kept_twice}
+use Rattle.sponsor_rules.proofs.Keeping.{core_kept, core_kept_twice}
 
 -- ---- slots and accounts
 
@@ -58,12 +45,12 @@ pub named_of : (m : EntryMap) (id : AccountId) (slot : AccountSlot) → IsLoaded
 named_of m id slot loaded = loaded.named slot refl
 
 pub change_of : (m : EntryMap) (id : AccountId) (slot : AccountSlot) (account : AccountEntry)
-    → IsLoaded m id (Some slot) → KeepsMeans slot.account account → IsChangeOf m id account
-change_of m id slot account loaded means = record { was = slot.account; stands = loaded.account_is; means = means }
+    → IsLoaded m id (Some slot) → KeepsCore slot.account account → IsChangeOf m id account
+change_of m id slot account loaded core = record { was = slot.account; exists = loaded.account_is; core = core }
 
 pub changed_as : (R : AccountEntry → AccountEntry → Type 0) (m : EntryMap) (id : AccountId) (slot : AccountSlot)
     (account : AccountEntry) → IsLoaded m id (Some slot) → R slot.account account → IsChanged R m id account
-changed_as R m id slot account loaded changed was stands =
+changed_as R m id slot account loaded changed was exists =
     let there = loaded.account_is in
     let same : slot.account ≡ was = cc in
     subst (λ a. R a account) same changed
@@ -171,21 +158,21 @@ stored_others m id slot named = record {
 }
 
 pub stored_balances : (m : EntryMap) (id : AccountId) (slot : AccountSlot) → slot.account.account_id ≡ id
-    → IsChangeOf m id slot.account → LeavesMeans m (put m (entry_of_account slot))
+    → IsChangeOf m id slot.account → LeavesCore m (put m (entry_of_account slot))
 stored_balances m id slot named change = record {
-  kept = λ other was stands. elim (after m id slot other named) [
+  kept = λ other was exists. elim (after m id slot other named) [
     | inl here ↦
-        let at = sym (ap (account_at m) here.0) ∙ change.stands in
+        let at = sym (ap (account_at m) here.0) ∙ change.exists in
         let same : change.was ≡ was = cc in
         record {
           account = slot.account;
-          stands = here.1;
-          means = subst (λ a. KeepsMeans a slot.account) same change.means;
+          exists = here.1;
+          core = subst (λ a. KeepsCore a slot.account) same change.core;
         }
     | inr beside ↦ record {
       account = was;
-      stands = account_after m slot other beside.1 ∙ stands;
-      means = means_kept was;
+      exists = account_after m slot other beside.1 ∙ exists;
+      core = core_kept was;
     }
   ];
 }
@@ -196,8 +183,8 @@ pub stored_kept : (m : EntryMap) (id : AccountId) (slot : AccountSlot) (count : 
 stored_kept m id slot count named change keeps = record {
   kept = λ other counted differ. elim (after m id slot other named) [
     | inl here ↦
-        ap (count_if counted) here.1 ∙ keeps change.was change.stands counted differ
-        ∙ sym (ap (count_if counted) (sym (ap (account_at m) here.0) ∙ change.stands))
+        ap (count_if counted) here.1 ∙ keeps change.was change.exists counted differ
+        ∙ sym (ap (count_if counted) (sym (ap (account_at m) here.0) ∙ change.exists))
     | inr beside ↦ ap (count_if counted) (account_after m slot other beside.1)
   ];
 }
@@ -209,8 +196,8 @@ stored_low m id slot named change low = record {
   low = λ other counted. elim (after m id slot other named) [
     | inl here ↦
         let new = ap (count_if counted) here.1 in
-        let old = ap (count_if counted) (sym (ap (account_at m) here.0) ∙ change.stands) in
-        let le = low change.was change.stands counted in
+        let old = ap (count_if counted) (sym (ap (account_at m) here.0) ∙ change.exists) in
+        let le = low change.was change.exists counted in
         omega arith
     | inr beside ↦ let same = ap (count_if counted) (account_after m slot other beside.1) in omega arith
   ];
@@ -218,25 +205,25 @@ stored_low m id slot named change low = record {
 
 -- ---- after another change
 
-pub put_balances : (m : EntryMap) (e : LedgerEntry) → LeavesOtherMeans (key_of e) m (put m e)
+pub put_balances : (m : EntryMap) (e : LedgerEntry) → LeavesOtherCores (key_of e) m (put m e)
 unfolding account_at
 put_balances m e = record {
-  kept = λ id was apart stands.
+  kept = λ id was apart exists.
       elim (eq_by_cmp key_cmp (key.Account id) (key_of e)) as (λ b. eq_by_cmp key_cmp (key.Account id) (key_of e) ≡ b
-      → get (put m e) (key.Account id) ≡ cond b (Some e) (get m (key.Account id)) → HasMeans (put m e) id was) [
+      → get (put m e) (key.Account id) ≡ cond b (Some e) (get m (key.Account id)) → HasCore (put m e) id was) [
         | true ↦ λ tied is. absurd (apart (same_keys _ _ tied))
-        | false ↦ λ differ is. record { account = was; stands = ap account_of is ∙ stands; means = means_kept was }
+        | false ↦ λ differ is. record { account = was; exists = ap account_of is ∙ exists; core = core_kept was }
       ] refl (get-insert keys_total m (key_of e) e (key.Account id));
 }
 
-pub erased_balances : (m : EntryMap) (k : LedgerKey) → LeavesOtherMeans k m (erase m k)
+pub erased_balances : (m : EntryMap) (k : LedgerKey) → LeavesOtherCores k m (erase m k)
 unfolding account_at
 erased_balances m k = record {
-  kept = λ id was apart stands.
+  kept = λ id was apart exists.
       elim (eq_by_cmp key_cmp (key.Account id) k) as (λ b. eq_by_cmp key_cmp (key.Account id) k ≡ b
-      → get (erase m k) (key.Account id) ≡ cond b None (get m (key.Account id)) → HasMeans (erase m k) id was) [
+      → get (erase m k) (key.Account id) ≡ cond b None (get m (key.Account id)) → HasCore (erase m k) id was) [
         | true ↦ λ tied is. absurd (apart (same_keys _ _ tied))
-        | false ↦ λ differ is. record { account = was; stands = ap account_of is ∙ stands; means = means_kept was }
+        | false ↦ λ differ is. record { account = was; exists = ap account_of is ∙ exists; core = core_kept was }
       ] refl (get-remove keys_total m k (key.Account id));
 }
 
@@ -253,24 +240,24 @@ erased_low m k = record {
       ] (get-remove keys_total m k (key.Account id));
 }
 
--- an entry that stands gets another sponsor
+-- an entry that exists gets another sponsor
 pub recorded_balances : (m : EntryMap) (k : LedgerKey) (e : LedgerEntry) (sponsor : Option AccountId) → get m k ≡ Some e
-    → key_of e ≡ k → LeavesMeans m (put m (with_sponsor sponsor e))
+    → key_of e ≡ k → LeavesCore m (put m (with_sponsor sponsor e))
 unfolding account_at
 recorded_balances m k e sponsor there named = record {
-  kept = λ id was stands.
+  kept = λ id was exists.
       elim (eq_by_cmp key_cmp (key.Account id) (key_of e)) as
       (λ b. eq_by_cmp key_cmp (key.Account id) (key_of e) ≡ b → get (put m (with_sponsor sponsor e)) (key.Account id)
       ≡ cond b (Some (with_sponsor sponsor e)) (get m (key.Account id))
-      → HasMeans (put m (with_sponsor sponsor e)) id was) [
+      → HasCore (put m (with_sponsor sponsor e)) id was) [
         | true ↦ λ tied is.
             let at : get m (key.Account id) ≡ Some e = ap (get m) (same_keys _ _ tied ∙ named) ∙ there in
             record {
               account = was;
-              stands = ap account_of is ∙ sym (ap account_of at) ∙ stands;
-              means = means_kept was;
+              exists = ap account_of is ∙ sym (ap account_of at) ∙ exists;
+              core = core_kept was;
             }
-        | false ↦ λ differ is. record { account = was; stands = ap account_of is ∙ stands; means = means_kept was }
+        | false ↦ λ differ is. record { account = was; exists = ap account_of is ∙ exists; core = core_kept was }
       ] refl (get-insert keys_total m (key_of e) (with_sponsor sponsor e) (key.Account id));
 }
 
@@ -288,31 +275,31 @@ raises_none_both a b c first second = record {
 pub changes_nothing : (changed : Option AccountId) (m : EntryMap) → ChangesAtMost changed m m
 changes_nothing changed m = record { others = λ other apart. refl }
 
-pub leaves_itself : (m : EntryMap) → LeavesMeans m m
-leaves_itself m = record { kept = λ id was stands. record { account = was; stands = stands; means = means_kept was } }
+pub leaves_itself : (m : EntryMap) → LeavesCore m m
+leaves_itself m = record { kept = λ id was exists. record { account = was; exists = exists; core = core_kept was } }
 
-has_means_on : (a b : EntryMap) (id : AccountId) (was : AccountEntry) → HasMeans a id was
-    → ((account : AccountEntry) → account_at a id ≡ Some account → HasMeans b id account) → HasMeans b id was
-has_means_on a b id was first then =
-    let second = then first.account first.stands in
+has_core_on : (a b : EntryMap) (id : AccountId) (was : AccountEntry) → HasCore a id was
+    → ((account : AccountEntry) → account_at a id ≡ Some account → HasCore b id account) → HasCore b id was
+has_core_on a b id was first then =
+    let second = then first.account first.exists in
     record {
       account = second.account;
-      stands = second.stands;
-      means = means_kept_twice was first.account second.account first.means second.means;
+      exists = second.exists;
+      core = core_kept_twice was first.account second.account first.core second.core;
     }
 
-pub leaves_both : (a b c : EntryMap) → LeavesMeans a b → LeavesMeans b c → LeavesMeans a c
+pub leaves_both : (a b c : EntryMap) → LeavesCore a b → LeavesCore b c → LeavesCore a c
 leaves_both a b c first second = record {
-  kept = λ id was stands. has_means_on b c id was (first.kept id was stands)
+  kept = λ id was exists. has_core_on b c id was (first.kept id was exists)
       (second.kept id);
 }
 
-pub leaves_then_others : (k q : LedgerKey) (a b c : EntryMap) → q ≡ k → LeavesMeans a b → LeavesOtherMeans q b c
-    → LeavesOtherMeans k a c
+pub leaves_then_others : (k q : LedgerKey) (a b c : EntryMap) → q ≡ k → LeavesCore a b → LeavesOtherCores q b c
+    → LeavesOtherCores k a c
 leaves_then_others k q a b c same first second = record {
-  kept = λ id was apart stands. has_means_on b c id was (first.kept id was stands)
+  kept = λ id was apart exists. has_core_on b c id was (first.kept id was exists)
       (λ account. second.kept id account (λ is. apart (is ∙ same)));
 }
 
-pub leaves_others : (k : LedgerKey) (a b : EntryMap) → LeavesMeans a b → LeavesOtherMeans k a b
+pub leaves_others : (k : LedgerKey) (a b : EntryMap) → LeavesCore a b → LeavesOtherCores k a b
 leaves_others k a b leaves = record { kept = λ id was apart. leaves.kept id was }

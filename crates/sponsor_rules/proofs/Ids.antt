@@ -1,7 +1,6 @@
 -- Ids are equal where their bytes are.
-use Rattle.std.proofs.Common.{◌≡◌, ◌≢◌, refl, ap, ℕ, true, false, List}
+use Rattle.sponsor_rules.proofs.Prelude.{◌≡◌, ◌≢◌, refl, ap, ℕ, true, false, List, AccountId}
 use Rattle.std.proofs.lemmas.Slice.Eq.{bytes_eq-Decides}
-use Rattle.ledger_types.specs.declared.ids.AccountId.{AccountId}
 use Rattle.sponsor_rules.specs.Payers.{is_same_account}
 
 pub same_account : (a b : AccountId) → is_same_account a b ≡ true → a ≡ b

@@ -1,19 +1,15 @@
 -- What a change of a count or of a signer leaves of an account.
-use Rattle.std.proofs.Common.{◌≡◌, ◌≢◌, ℕ, ◌≤◌, refl, sym, ap, subst, ◌∙◌, arith, Bool, true, false, cond, Option, Some}
-use Rattle.std.proofs.Common.{None, List, nat_eq}
+use Rattle.sponsor_rules.proofs.Prelude.{◌≡◌, ◌≢◌, ℕ, ◌≤◌, refl, sym, ap, subst, ◌∙◌, arith, Bool, true, false, cond}
+use Rattle.sponsor_rules.proofs.Prelude.{Option, Some, None, List, nat_eq, AccountId, AccountEntry, Count, SubEntries}
+use Rattle.sponsor_rules.proofs.Prelude.{Sponsoring, Sponsored, count_in, with_new_count, with_count, with_less}
+use Rattle.sponsor_rules.proofs.Prelude.{KeepsCore, RaisesNoCount}
 use Rattle.std.proofs.lemmas.Bool.{eqb-true}
-use Rattle.ledger_types.specs.declared.ids.AccountId.{AccountId}
-use Rattle.ledger_types.specs.declared.account.AccountEntry.{AccountEntry}
 use Rattle.ledger_types.specs.declared.signer.Signer.{Signer}
 use Rattle.ledger_types.specs.declared.account.AccountEntryExtensionV1.{AccountEntryExtensionV1}
 use Rattle.ledger_types.specs.declared.account.AccountEntryExtensionV2.{AccountEntryExtensionV2}
-use Rattle.sponsor_rules.specs.declared.count.Count.{Count}
-use Rattle.sponsor_rules.specs.declared.count.Count.TheVariants.{SubEntries, Sponsoring, Sponsored}
 use Rattle.reserve_rules.specs.entry_slots.AccountExtensions.{liabilities_in, second_in, sponsored_in, sponsoring_in}
 use Rattle.reserve_rules.specs.entry_slots.AccountExtensions.{sponsorship_in}
-use Rattle.sponsor_rules.specs.Counting.{count_in, with_new_count, with_count, with_less}
-use Rattle.sponsor_rules.specs.Keeping.{KeepsMeans, RaisesNoCount}
-use Rattle.sponsor_rules.specs.SignerPlace.{with_sponsors, with_sponsors_in}
+use Rattle.sponsor_rules.specs.SignerIndex.{with_sponsors, with_sponsors_in}
 
 -- ---- counts of an account of which one is changed
 
@@ -32,12 +28,12 @@ pub with_count_is : (c : Count) (n : ℕ) (a : AccountEntry) → count_in c (wit
 unfolding with_count
 with_count_is c n a = chosen_is (nat_eq n (count_in c a)) c n a refl
 
-same_sponsored : (signers : List Signer) (ext : Option AccountEntryExtensionV2)
+pub same_sponsored : (signers : List Signer) (ext : Option AccountEntryExtensionV2)
     → (sponsorship_in signers ext).num_sponsored ≡ sponsored_in ext
 same_sponsored signers None = refl
 same_sponsored signers (Some ext) = refl
 
-same_sponsoring : (signers : List Signer) (ext : Option AccountEntryExtensionV2)
+pub same_sponsoring : (signers : List Signer) (ext : Option AccountEntryExtensionV2)
     → (sponsorship_in signers ext).num_sponsoring ≡ sponsoring_in ext
 same_sponsoring signers None = refl
 same_sponsoring signers (Some ext) = refl
@@ -65,7 +61,7 @@ pub with_count_keeps : (c other : Count) (n : ℕ) (a : AccountEntry) → other 
 unfolding with_count
 with_count_keeps c other n a differ = chosen_keeps (nat_eq n (count_in c a)) c other n a differ
 
-with_new_count_named : (c : Count) (n : ℕ) (a : AccountEntry) → (with_new_count c n a).account_id ≡ a.account_id
+pub with_new_count_named : (c : Count) (n : ℕ) (a : AccountEntry) → (with_new_count c n a).account_id ≡ a.account_id
 with_new_count_named SubEntries n a = refl
 with_new_count_named Sponsoring n a = refl
 with_new_count_named Sponsored n a = refl
@@ -99,13 +95,13 @@ at_most Sponsoring Sponsored k a = others_at_most Sponsoring Sponsored k a (λ e
 at_most Sponsored SubEntries k a = others_at_most Sponsored SubEntries k a (λ e. absurd (cc e))
 at_most Sponsored Sponsoring k a = others_at_most Sponsored Sponsoring k a (λ e. absurd (cc e))
 
--- ---- means
+-- ---- core fields
 
-pub means_kept : (a : AccountEntry) → KeepsMeans a a
-means_kept a = record { id = refl; balance = refl; liabilities = refl; seq_num = refl; thresholds = refl; flags = refl }
+pub core_kept : (a : AccountEntry) → KeepsCore a a
+core_kept a = record { id = refl; balance = refl; liabilities = refl; seq_num = refl; thresholds = refl; flags = refl }
 
-pub means_kept_twice : (a b c : AccountEntry) → KeepsMeans a b → KeepsMeans b c → KeepsMeans a c
-means_kept_twice a b c g h = record {
+pub core_kept_twice : (a b c : AccountEntry) → KeepsCore a b → KeepsCore b c → KeepsCore a c
+core_kept_twice a b c g h = record {
   id = h.id ∙ g.id;
   balance = h.balance ∙ g.balance;
   liabilities = h.liabilities ∙ g.liabilities;
@@ -114,8 +110,8 @@ means_kept_twice a b c g h = record {
   flags = h.flags ∙ g.flags;
 }
 
-with_new_count_means : (c : Count) (n : ℕ) (a : AccountEntry) → KeepsMeans a (with_new_count c n a)
-with_new_count_means SubEntries n a = record {
+with_new_count_core : (c : Count) (n : ℕ) (a : AccountEntry) → KeepsCore a (with_new_count c n a)
+with_new_count_core SubEntries n a = record {
   id = refl;
   balance = refl;
   liabilities = refl;
@@ -123,7 +119,7 @@ with_new_count_means SubEntries n a = record {
   thresholds = refl;
   flags = refl;
 }
-with_new_count_means Sponsoring n a = record {
+with_new_count_core Sponsoring n a = record {
   id = refl;
   balance = refl;
   liabilities = refl;
@@ -131,7 +127,7 @@ with_new_count_means Sponsoring n a = record {
   thresholds = refl;
   flags = refl;
 }
-with_new_count_means Sponsored n a = record {
+with_new_count_core Sponsored n a = record {
   id = refl;
   balance = refl;
   liabilities = refl;
@@ -140,13 +136,13 @@ with_new_count_means Sponsored n a = record {
   flags = refl;
 }
 
-chosen_means : (b : Bool) (c : Count) (n : ℕ) (a : AccountEntry) → KeepsMeans a (cond b a (with_new_count c n a))
-chosen_means true c n a = means_kept a
-chosen_means false c n a = with_new_count_means c n a
+chosen_core : (b : Bool) (c : Count) (n : ℕ) (a : AccountEntry) → KeepsCore a (cond b a (with_new_count c n a))
+chosen_core true c n a = core_kept a
+chosen_core false c n a = with_new_count_core c n a
 
-pub with_count_means : (c : Count) (n : ℕ) (a : AccountEntry) → KeepsMeans a (with_count c n a)
+pub with_count_core : (c : Count) (n : ℕ) (a : AccountEntry) → KeepsCore a (with_count c n a)
 unfolding with_count
-with_count_means c n a = chosen_means (nat_eq n (count_in c a)) c n a
+with_count_core c n a = chosen_core (nat_eq n (count_in c a)) c n a
 
 -- ---- what sponsors pay of an account
 
@@ -164,9 +160,9 @@ module _ (change : List (Option AccountId) → List (Option AccountId)) where
   same_liabilities None = refl
   same_liabilities (Some ext) = refl
 
-  pub with_sponsors_means : (a : AccountEntry) (signers : List Signer)
-      → KeepsMeans a (record a { signers = signers; ext = with_sponsors change a.ext })
-  with_sponsors_means a signers = record {
+  pub with_sponsors_core : (a : AccountEntry) (signers : List Signer)
+      → KeepsCore a (record a { signers = signers; ext = with_sponsors change a.ext })
+  with_sponsors_core a signers = record {
     id = refl;
     balance = refl;
     liabilities = same_liabilities a.ext;

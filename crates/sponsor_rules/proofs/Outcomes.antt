@@ -1,7 +1,5 @@
 -- What a call leaves, by the tests that were made first.
-use Rattle.std.proofs.Common.{◌≡◌, ap, None, Ok}
-use Rattle.reserve_rules.specs.entry_map.EntryMap.{EntryMap}
-use Rattle.reserve_rules.specs.entry_map.Undo.{Undo}
+use Rattle.sponsor_rules.proofs.Prelude.{◌≡◌, ap, None, Ok, EntryMap, Undo}
 use Rattle.reserve_rules.specs.entry_slots.Tests.{Tests, first_fault, unless_fault, unless_first}
 use Rattle.sponsor_rules.specs.declared.fault.AddFault.{AddFault}
 use Rattle.sponsor_rules.specs.declared.fault.AddFault.TheVariants.{TooManySubentries, TooManySponsoring}
@@ -16,6 +14,6 @@ refused TooManySubentries old new tests after found = (ap (λ o. unless_fault o 
 refused TooManySponsoring old new tests after found = (ap (λ o. unless_fault o after) found.0, found.1)
 refused LowReserve old new tests after found = (ap (λ o. unless_fault o after) found.0, found.1)
 
-pub passed : (tests : Tests AddFault) (after : EntryMap) → first_fault tests ≡ None
+pub unless_first_passed : (tests : Tests AddFault) (after : EntryMap) → first_fault tests ≡ None
     → unless_first tests after ≡ Ok after
-passed tests after none = ap (λ o. unless_fault o after) none
+unless_first_passed tests after none = ap (λ o. unless_fault o after) none

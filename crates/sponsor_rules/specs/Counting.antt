@@ -15,7 +15,7 @@ count_in SubEntries account = account.num_sub_entries
 count_in Sponsoring account = num_sponsoring account
 count_in Sponsored account = num_sponsored account
 
--- a sponsorship with another count; the count of subentries stands elsewhere
+-- a sponsorship with another count; the count of subentries is elsewhere
 abbrev pub with_count_in : Count → ℕ → AccountEntryExtensionV2 → AccountEntryExtensionV2
 with_count_in SubEntries n sponsorship = sponsorship
 with_count_in Sponsoring n sponsorship = record sponsorship { num_sponsoring = n }
@@ -43,6 +43,6 @@ abbrev pub count_if : Count → Option AccountEntry → ℕ
 count_if count None = 0
 count_if count (Some account) = count_in count account
 
--- the count of an account, 0 where it doesn't stand
+-- the count of an account, 0 where it doesn't exist
 abbrev pub count_at : EntryMap → AccountId → Count → ℕ
 count_at m id count = count_if count (account_at m id)

@@ -16,7 +16,7 @@ use Rattle.sponsor_rules.specs.Counting.{count_in, count_if, count_at}
 -- ---- an account
 
 -- an account that is changed: id, balance, liabilities, sequence number, thresholds and flags are as they were
-pub record KeepsMeans (was account : AccountEntry) : Type 0 where
+pub record KeepsCore (was account : AccountEntry) : Type 0 where
   pub id : account.account_id ≡ was.account_id
   pub balance : account.balance ≡ was.balance
   pub liabilities : account_liabilities account ≡ account_liabilities was
@@ -39,15 +39,15 @@ pub record FitsSubentry (k : ℕ) (owner : Option AccountEntry) : Type 0 where
 
 -- ---- a map
 
--- what stands under an account's id has changed as R says, if it stands
+-- what is under an account's id has changed as R says, if it exists
 abbrev pub IsChanged : (AccountEntry → AccountEntry → Type 0) → EntryMap → AccountId → AccountEntry → Type 0
 IsChanged R m id account = (was : AccountEntry) → account_at m id ≡ Some was → R was account
 
--- an account with the means of the one that stands under the id, to be stored in its place
+-- an account with the core fields of the one that is under the id, to be stored in its place
 pub record IsChangeOf (m : EntryMap) (id : AccountId) (account : AccountEntry) : Type 0 where
   pub was : AccountEntry
-  pub stands : account_at m id ≡ Some was
-  pub means : KeepsMeans was account
+  pub exists : account_at m id ≡ Some was
+  pub core : KeepsCore was account
 
 -- the other counts of each account are as they were
 pub record KeepsOthers (count : Count) (old new : EntryMap) : Type 0 where
@@ -57,27 +57,28 @@ pub record KeepsOthers (count : Count) (old new : EntryMap) : Type 0 where
 pub record RaisesNone (old new : EntryMap) : Type 0 where
   pub low : (id : AccountId) (count : Count) → count_at new id count ≤ count_at old id count
 
--- all accounts but this one, if it is one, stand as they did
+-- all accounts but this one, if it is one, are as they were
 pub record ChangesAtMost (changed : Option AccountId) (old new : EntryMap) : Type 0 where
   pub others : (other : AccountId) → changed ≢ Some other → account_slot_at new other ≡ account_slot_at old other
 
--- a slot is what stands under an account's id
+-- a slot is what is under an account's id
 pub record IsLoaded (m : EntryMap) (id : AccountId) (slot : Option AccountSlot) : Type 0 where
   pub slot_is : slot ≡ account_slot_at m id
   pub account_is : account_at m id ≡ account_of_slot slot
   pub named : ForSome slot (λ s. s.account.account_id ≡ id)
 
--- an account that stood stands, with its means
-pub record HasMeans (m : EntryMap) (id : AccountId) (was : AccountEntry) : Type 0 where
+-- an account that existed still exists, with its core fields
+pub record HasCore (m : EntryMap) (id : AccountId) (was : AccountEntry) : Type 0 where
   pub account : AccountEntry
-  pub stands : account_at m id ≡ Some account
-  pub means : KeepsMeans was account
+  pub exists : account_at m id ≡ Some account
+  pub core : KeepsCore was account
 
--- Each account that stood stands, and its balance, liabilities, sequence number, thresholds and flags are as they were.
-pub record LeavesMeans (old new : EntryMap) : Type 0 where
-  pub kept : (id : AccountId) (was : AccountEntry) → account_at old id ≡ Some was → HasMeans new id was
+-- Each account that existed still exists, and its balance, liabilities, sequence number, thresholds and flags are as
+-- they were.
+pub record LeavesCore (old new : EntryMap) : Type 0 where
+  pub kept : (id : AccountId) (was : AccountEntry) → account_at old id ≡ Some was → HasCore new id was
 
 -- the same of each account but the one under a key
-pub record LeavesOtherMeans (k : LedgerKey) (old new : EntryMap) : Type 0 where
+pub record LeavesOtherCores (k : LedgerKey) (old new : EntryMap) : Type 0 where
   pub kept : (id : AccountId) (was : AccountEntry) → key.Account id ≢ k → account_at old id ≡ Some was
-      → HasMeans new id was
+      → HasCore new id was

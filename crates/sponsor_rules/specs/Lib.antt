@@ -7,7 +7,7 @@ pub mod Outcome
 pub mod Adding
 pub mod Removing
 pub mod Moving
-pub mod SignerPlace
+pub mod SignerIndex
 pub mod Signers
 pub use Rattle.reserve_rules.specs.entry_map
 pub use Rattle.reserve_rules.specs.entry_slots

@@ -9,8 +9,8 @@ abbrev pub IsRefused : AddFault → Undo → Undo → Result EntryMap AddFault �
 IsRefused NoMemory old new outcome = Unit {0}
 IsRefused fault old new outcome = (outcome ≡ Err fault) × (new ≡ old)
 
--- The outcome is what the definition gives: the new map, or the fault, and then the map is as before. Of want of memory
--- nothing is said.
+-- The outcome is what the definition gives: the new map, or the fault, and then the map is as before. Of an allocation
+-- failure nothing is said.
 abbrev pub IsOutcome : Result (Unit {0}) AddFault → Undo → Undo → Result EntryMap AddFault → Type 0
 IsOutcome (Ok done) old new outcome = (outcome ≡ Ok new.current) × (new ≡ with_current old new.current)
 IsOutcome (Err fault) old new outcome = IsRefused fault old new outcome

@@ -92,6 +92,6 @@ move_tests_at ctx m owner (Some payer) k = payer_tests_at ctx m payer k
 pub record IsReadyAccount (account : AccountEntry) : Type 0 where
   pub sponsored : num_sponsored account ≤ 4294967293
 
--- the account with this id is ready, if it stands
+-- the account with this id is ready, if it exists
 abbrev pub IsReady : EntryMap → AccountId → Type 0
 IsReady m id = (account : AccountEntry) → account_at m id ≡ Some account → IsReadyAccount account

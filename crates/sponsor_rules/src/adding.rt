@@ -38,8 +38,8 @@ pub fn add_entry<B: Base>(
     requires { spec.AreReady owner.now entry.body entries.old.current }
     ensures outcome { IsOutcome result entries.old entries.new (
         spec.map_after_adding ctx.now owner.now entry entries.old.current) }
-    ensures means { OnOk result (
-        keeping.LeavesOtherMeans (key_of entry) entries.old.current entries.new.current) }
+    ensures core { OnOk result (
+        keeping.LeavesOtherCores (key_of entry) entries.old.current entries.new.current) }
 {
     match charge_of(&entry.body) {
         Charge::Itself { owner: _ } => match account_slot_in(entry) {
@@ -71,8 +71,8 @@ fn sponsored_entry(sponsor: Option<AccountId>, entry: LedgerEntry) -> LedgerEntr
 /// Adds a pool.
 fn add_pool<B: Base>(entries: &mut Entries<'_, B>, entry: LedgerEntry) -> Result<(), AddFault>
     ensures outcome { IsOutcome result entries.old entries.new (Ok (put entries.old.current entry)) }
-    ensures means { OnOk result (
-        keeping.LeavesOtherMeans (key_of entry) entries.old.current entries.new.current) }
+    ensures core { OnOk result (
+        keeping.LeavesOtherCores (key_of entry) entries.old.current entries.new.current) }
 {
     Ok(put_entry(entries, entry)?)
 }
@@ -89,8 +89,8 @@ fn add_subentry<B: Base>(
     requires owner { payers.IsReady entries.old.current owner.now }
     ensures outcome { IsOutcome result entries.old entries.new (
         spec.map_after_adding_subentry ctx.now entry owner.now multiplicity entries.old.current) }
-    ensures means { OnOk result (
-        keeping.LeavesOtherMeans (key_of entry) entries.old.current entries.new.current) }
+    ensures core { OnOk result (
+        keeping.LeavesOtherCores (key_of entry) entries.old.current entries.new.current) }
 {
     count_subentry(entries, ctx, owner, multiplicity)?;
     put_entry(entries, sponsored_entry(open_sponsor(ctx, owner), entry))?;
@@ -98,7 +98,7 @@ fn add_subentry<B: Base>(
 }
 
 /// Counts a line, an offer or data more for its owner, and for that account's open sponsor if it has one. So a reserve
-/// is paid before it is known what stands for it: an offer may still be filled as it comes. `multiplicity` is the
+/// is paid before it is known what will exist for it: an offer may still be filled as it comes. `multiplicity` is the
 /// number of reserves, at most 2. Where it answers a fault other than `NoMemory`, nothing has changed.
 pub fn count_subentry<B: Base>(
     entries: &mut Entries<'_, B>,
@@ -110,7 +110,7 @@ pub fn count_subentry<B: Base>(
     requires owner { payers.IsReady entries.old.current owner.now }
     ensures outcome { IsOutcome result entries.old entries.new (
         spec.map_after_counting_subentry ctx.now owner.now multiplicity entries.old.current) }
-    ensures means { OnOk result (keeping.LeavesMeans entries.old.current entries.new.current) }
+    ensures core { OnOk result (keeping.LeavesCore entries.old.current entries.new.current) }
 {
     let sponsor = open_sponsor(ctx, owner);
     let slot = pay_for_subentry(entries, ctx, owner, &sponsor, multiplicity)?;
@@ -118,7 +118,7 @@ pub fn count_subentry<B: Base>(
     Ok(())
 }
 
-/// Counts a subentry more for its owner. `slot` is what stands under the owner's id.
+/// Counts a subentry more for its owner. `slot` is what is under the owner's id.
 fn count_for_owner<B: Base>(
     entries: &mut Entries<'_, B>,
     multiplicity: u64,
@@ -132,7 +132,7 @@ fn count_for_owner<B: Base>(
         entries.new ≡
         with_current entries.old (
         with_account entries.old.current owner.now (paying.with_subentry multiplicity sponsor.now))) }
-    ensures means { OnOk result (keeping.LeavesMeans entries.old.current entries.new.current) }
+    ensures core { OnOk result (keeping.LeavesCore entries.old.current entries.new.current) }
 {
     let Some(mut slot) = slot else {
         return Ok(());
@@ -152,8 +152,8 @@ fn add_balance<B: Base>(
     ensures outcome { IsOutcome result entries.old entries.new (
         spec.map_after_adding_balance ctx.now entry (payers.payer_of ctx.now owner.now) multiplicity
         entries.old.current) }
-    ensures means { OnOk result (
-        keeping.LeavesOtherMeans (key_of entry) entries.old.current entries.new.current) }
+    ensures core { OnOk result (
+        keeping.LeavesOtherCores (key_of entry) entries.old.current entries.new.current) }
 {
     let payer = payer_by(owner, open_sponsor(ctx, owner));
     let slot = load(entries, &payer)?;
@@ -177,8 +177,8 @@ fn add_account<B: Base>(
     ensures outcome { IsOutcome result entries.old entries.new (
         spec.map_after_adding_account ctx.now (entry_of_account slot) slot.account (
         payers.open_sponsor ctx.now owner.now) entries.old.current) }
-    ensures means { OnOk result (
-        keeping.LeavesOtherMeans (key_of (entry_of_account slot)) entries.old.current entries.new.current) }
+    ensures core { OnOk result (
+        keeping.LeavesOtherCores (key_of (entry_of_account slot)) entries.old.current entries.new.current) }
 {
     match open_sponsor(ctx, owner) {
         Some(sponsor) => add_sponsored_account(entries, ctx, &sponsor, slot),
@@ -200,8 +200,8 @@ fn add_sponsored_account<B: Base>(
     ensures outcome { IsOutcome result entries.old entries.new (
         spec.map_after_adding_account ctx.now (entry_of_account slot) slot.account (Some sponsor.now)
         entries.old.current) }
-    ensures means { OnOk result (
-        keeping.LeavesOtherMeans (key_of (entry_of_account slot)) entries.old.current entries.new.current) }
+    ensures core { OnOk result (
+        keeping.LeavesOtherCores (key_of (entry_of_account slot)) entries.old.current entries.new.current) }
 {
     let payer = load(entries, sponsor)?;
     if let Some(fault) = payer_fault(ctx.base_reserve, &payer, 2) {
@@ -217,8 +217,8 @@ fn add_sponsored_account<B: Base>(
 fn put_account<B: Base>(entries: &mut Entries<'_, B>, slot: AccountSlot) -> Result<(), AllocError>
     ensures put { OnOk result (
         entries.new ≡ with_current entries.old (put entries.old.current (entry_of_account slot))) }
-    ensures means { OnOk result (
-        keeping.LeavesOtherMeans (key_of (entry_of_account slot)) entries.old.current entries.new.current) }
+    ensures core { OnOk result (
+        keeping.LeavesOtherCores (key_of (entry_of_account slot)) entries.old.current entries.new.current) }
 {
     store_account(entries, slot)
 }

@@ -28,7 +28,7 @@ pub struct Ctx {
     pub tx_source: AccountId,
     /// The transaction's sequence number.
     pub tx_seq: i64,
-    /// The place of the operation in its transaction, from 0.
+    /// The index of the operation in its transaction, from 0.
     pub op_index: u32,
     pub op_source: AccountId,
     /// The greatest offer id so far.

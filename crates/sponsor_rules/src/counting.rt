@@ -3,7 +3,7 @@
 ghost use Rattle.std.specs.Prelude.{◌≡◌, ◌+◌, ◌<◌, ◌^◌, OnOk};
 ghost use Rattle.reserve_rules.specs.entry_slots.AccountExtensions.{sponsorship_of, with_sponsorship};
 ghost use Rattle.sponsor_rules.specs.Counting as spec;
-ghost use Rattle.sponsor_rules.specs.Keeping.{KeepsMeans, KeepsOtherCounts, RaisesNoCount};
+ghost use Rattle.sponsor_rules.specs.Keeping.{KeepsCore, KeepsOtherCounts, RaisesNoCount};
 
 use crate::count::Count;
 use ledger_types::{AccountEntry, AccountEntryExtensionV1, AccountEntryExtensionV2};
@@ -21,7 +21,7 @@ pub fn count_in(account: &AccountEntry, count: Count) -> u32
     }
 }
 
-/// Gives a sponsorship another count. The count of subentries stands elsewhere.
+/// Gives a sponsorship another count. The count of subentries is elsewhere.
 fn set_in_sponsorship(sponsorship: &mut AccountEntryExtensionV2, count: Count, value: u32)
     ensures { sponsorship.new ≡ spec.with_count_in count value sponsorship.old }
 {
@@ -72,7 +72,7 @@ pub fn raise(account: &mut AccountEntry, count: Count, by: u64) -> Result<(), Al
     requires { spec.count_in count account.old + by < 2 ^ 32 }
     ensures raised { OnOk result (account.new ≡ spec.with_more count by account.old) }
     ensures kept { OnOk result (KeepsOtherCounts count account.old account.new) }
-    ensures means { OnOk result (KeepsMeans account.old account.new) }
+    ensures core { OnOk result (KeepsCore account.old account.new) }
 {
     let value = count_in(account, count) + by as u32;
     set_count(account, count, value)?;
@@ -83,7 +83,7 @@ pub fn raise(account: &mut AccountEntry, count: Count, by: u64) -> Result<(), Al
 pub fn lower(account: &mut AccountEntry, count: Count, by: u64) -> Result<(), AllocError>
     ensures lowered { OnOk result (account.new ≡ spec.with_less count by account.old) }
     ensures low { OnOk result (RaisesNoCount account.old account.new) }
-    ensures means { OnOk result (KeepsMeans account.old account.new) }
+    ensures core { OnOk result (KeepsCore account.old account.new) }
 {
     let value = u64::from(count_in(account, count)).saturating_sub(by) as u32;
     set_count(account, count, value)?;

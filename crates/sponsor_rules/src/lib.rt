@@ -13,7 +13,7 @@ mod payers;
 mod paying;
 mod removing;
 mod signer_edits;
-mod signer_place;
+mod signer_index;
 mod signers;
 mod stored;
 
@@ -26,5 +26,5 @@ pub use fault::AddFault;
 pub use moving::move_entry;
 pub use payers::open_sponsor;
 pub use removing::{discount_subentry, remove_entry};
-pub use signer_place::{FoundSigner, found_signer};
+pub use signer_index::{FoundSigner, found_signer};
 pub use signers::{add_signer, move_signer, remove_preauth, remove_signer};

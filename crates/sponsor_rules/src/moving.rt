@@ -41,7 +41,7 @@ pub fn move_entry<B: Base>(
         (owner : AnId) → owner_of entry.body ≡ Some owner → payers.IsReady entries.old.current owner }
     ensures outcome { IsOutcome result entries.old entries.new (
         spec.map_after_moving ctx.now key.now payer entries.old.current) }
-    ensures means { OnOk result (keeping.LeavesMeans entries.old.current entries.new.current) }
+    ensures core { OnOk result (keeping.LeavesCore entries.old.current entries.new.current) }
 {
     let Some(entry) = entries.get(key)? else {
         return Ok(());
@@ -85,7 +85,7 @@ fn move_between<B: Base>(
     requires owner { payers.IsReady entries.old.current owner.now }
     ensures outcome { IsOutcome result entries.old entries.new (
         spec.map_after_moving_between ctx.now key.now owner.now multiplicity old.now new.now entries.old.current) }
-    ensures means { OnOk result (keeping.LeavesMeans entries.old.current entries.new.current) }
+    ensures core { OnOk result (keeping.LeavesCore entries.old.current entries.new.current) }
 {
     if old.is_none() && new.is_none() {
         return Ok(());
@@ -96,7 +96,7 @@ fn move_between<B: Base>(
     Ok(())
 }
 
-/// Another sponsor, or none, pays for something of an owner. `slot` is what stands under the owner's id.
+/// Another sponsor, or none, pays for something of an owner. `slot` is what is under the owner's id.
 fn change_owner_payer<B: Base>(
     entries: &mut Entries<'_, B>,
     multiplicity: u64,
@@ -111,7 +111,7 @@ fn change_owner_payer<B: Base>(
         entries.new ≡
         with_current entries.old (
         with_account entries.old.current owner.now (paying.with_other_payer multiplicity old.now new.now))) }
-    ensures means { OnOk result (keeping.LeavesMeans entries.old.current entries.new.current) }
+    ensures core { OnOk result (keeping.LeavesCore entries.old.current entries.new.current) }
 {
     let Some(mut slot) = slot else {
         return Ok(());
@@ -131,7 +131,7 @@ fn move_balance<B: Base>(
 ) -> Result<(), AddFault>
     ensures outcome { IsOutcome result entries.old entries.new (
         spec.map_after_moving_balance ctx.now key.now multiplicity old.now payer entries.old.current) }
-    ensures means { OnOk result (keeping.LeavesMeans entries.old.current entries.new.current) }
+    ensures core { OnOk result (keeping.LeavesCore entries.old.current entries.new.current) }
 {
     let Some(payer) = payer else {
         return Ok(());
@@ -150,7 +150,7 @@ fn record_sponsor<B: Base>(
 ) -> Result<(), AllocError>
     ensures recorded { OnOk result (
         entries.new ≡ with_current entries.old (spec.map_with_sponsor key.now sponsor entries.old.current)) }
-    ensures means { OnOk result (keeping.LeavesMeans entries.old.current entries.new.current) }
+    ensures core { OnOk result (keeping.LeavesCore entries.old.current entries.new.current) }
 {
     let Some(mut entry) = entries.get(key)? else {
         return Ok(());

@@ -4,7 +4,7 @@ ghost use Rattle.std.specs.Prelude.{◌≡◌, ◌+◌, ◌<◌, ◌^◌, Some, 
 ghost use Rattle.sponsor_rules.specs.declared.count.Count.TheVariants.{Sponsored};
 ghost use Rattle.sponsor_rules.specs.Counting as counting;
 ghost use Rattle.sponsor_rules.specs.Paying as spec;
-ghost use Rattle.sponsor_rules.specs.Keeping.{FitsSubentry, KeepsMeans, RaisesNoCount};
+ghost use Rattle.sponsor_rules.specs.Keeping.{FitsSubentry, KeepsCore, RaisesNoCount};
 
 use crate::count::Count;
 use crate::counting::{lower, raise};
@@ -19,7 +19,7 @@ fn pay_more(
 ) -> Result<(), AllocError>
     requires { counting.count_in Sponsored account.old + multiplicity < 2 ^ 32 }
     ensures paid { OnOk result (account.new ≡ spec.with_more_paid multiplicity sponsor.now account.old) }
-    ensures means { OnOk result (KeepsMeans account.old account.new) }
+    ensures core { OnOk result (KeepsCore account.old account.new) }
 {
     match sponsor {
         None => Ok(()),
@@ -35,7 +35,7 @@ fn pay_less(
 ) -> Result<(), AllocError>
     ensures paid { OnOk result (account.new ≡ spec.with_less_paid multiplicity sponsor.now account.old) }
     ensures low { OnOk result (RaisesNoCount account.old account.new) }
-    ensures means { OnOk result (KeepsMeans account.old account.new) }
+    ensures core { OnOk result (KeepsCore account.old account.new) }
 {
     match sponsor {
         None => Ok(()),
@@ -51,7 +51,7 @@ pub fn gain_subentry(
 ) -> Result<(), AllocError>
     requires { FitsSubentry multiplicity (Some account.old) }
     ensures gained { OnOk result (account.new ≡ spec.with_subentry multiplicity sponsor.now account.old) }
-    ensures means { OnOk result (KeepsMeans account.old account.new) }
+    ensures core { OnOk result (KeepsCore account.old account.new) }
 {
     raise(account, Count::SubEntries, multiplicity)?;
     pay_more(account, multiplicity, sponsor)
@@ -65,7 +65,7 @@ pub fn lose_subentry(
 ) -> Result<(), AllocError>
     ensures lost { OnOk result (account.new ≡ spec.without_subentry multiplicity sponsor.now account.old) }
     ensures low { OnOk result (RaisesNoCount account.old account.new) }
-    ensures means { OnOk result (KeepsMeans account.old account.new) }
+    ensures core { OnOk result (KeepsCore account.old account.new) }
 {
     lower(account, Count::SubEntries, multiplicity)?;
     pay_less(account, multiplicity, sponsor)
@@ -80,7 +80,7 @@ pub fn change_payer(
 ) -> Result<(), AllocError>
     requires { counting.count_in Sponsored account.old + multiplicity < 2 ^ 32 }
     ensures changed { OnOk result (account.new ≡ spec.with_other_payer multiplicity old.now new.now account.old) }
-    ensures means { OnOk result (KeepsMeans account.old account.new) }
+    ensures core { OnOk result (KeepsCore account.old account.new) }
 {
     pay_less(account, multiplicity, old)?;
     pay_more(account, multiplicity, new)

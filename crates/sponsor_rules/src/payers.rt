@@ -56,7 +56,7 @@ pub fn payer_other_than(owner: &AccountId, payer: Option<AccountId>) -> Option<A
     }
 }
 
-/// The subentries of an account, and the reserves that it pays as a sponsor: 0 where it doesn't stand.
+/// The subentries of an account, and the reserves that it pays as a sponsor: 0 where it doesn't exist.
 fn own_counts(slot: &Option<AccountSlot>) -> (u32, u32)
     ensures { result ≡
         (count_if SubEntries (account_of_slot slot.now), count_if Sponsoring (account_of_slot slot.now)) }

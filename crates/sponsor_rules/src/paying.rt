@@ -23,7 +23,7 @@ use reserve_rules::entry_map::{Base, Entries};
 use reserve_rules::entry_slots::AccountSlot;
 use std::alloc::AllocError;
 
-/// A sponsor pays `multiplicity` reserves more. `slot` is what stands under its id.
+/// A sponsor pays `multiplicity` reserves more. `slot` is what is under its id.
 pub fn raise_sponsoring<B: Base>(
     entries: &mut Entries<'_, B>,
     multiplicity: u64,
@@ -37,7 +37,7 @@ pub fn raise_sponsoring<B: Base>(
         with_current entries.old (spec.map_after_charging multiplicity (Some sponsor.now) entries.old.current)) }
     ensures kept { OnOk result (keeping.KeepsOthers Sponsoring entries.old.current entries.new.current) }
     ensures others { OnOk result (keeping.ChangesAtMost (Some sponsor.now) entries.old.current entries.new.current) }
-    ensures means { OnOk result (keeping.LeavesMeans entries.old.current entries.new.current) }
+    ensures core { OnOk result (keeping.LeavesCore entries.old.current entries.new.current) }
 {
     let Some(mut slot) = slot else {
         return Ok(());
@@ -57,7 +57,7 @@ pub fn lower_sponsoring<B: Base>(
         with_current entries.old (spec.map_after_releasing multiplicity sponsor.now entries.old.current)) }
     ensures low { OnOk result (keeping.RaisesNone entries.old.current entries.new.current) }
     ensures others { OnOk result (keeping.ChangesAtMost sponsor.now entries.old.current entries.new.current) }
-    ensures means { OnOk result (keeping.LeavesMeans entries.old.current entries.new.current) }
+    ensures core { OnOk result (keeping.LeavesCore entries.old.current entries.new.current) }
 {
     match sponsor {
         None => Ok(()),
@@ -76,7 +76,7 @@ fn lower_sponsoring_of<B: Base>(
         with_current entries.old (spec.map_after_releasing multiplicity (Some sponsor.now) entries.old.current)) }
     ensures low { OnOk result (keeping.RaisesNone entries.old.current entries.new.current) }
     ensures others { OnOk result (keeping.ChangesAtMost (Some sponsor.now) entries.old.current entries.new.current) }
-    ensures means { OnOk result (keeping.LeavesMeans entries.old.current entries.new.current) }
+    ensures core { OnOk result (keeping.LeavesCore entries.old.current entries.new.current) }
 {
     let Some(mut slot) = load(entries, sponsor)? else {
         return Ok(());
@@ -85,8 +85,8 @@ fn lower_sponsoring_of<B: Base>(
     store_changed(entries, sponsor, slot)
 }
 
-/// Tests whether an account can have a subentry more, and charges the sponsor, if there is one. It gives what then
-/// stands under the owner's id.
+/// Tests whether an account can have a subentry more, and charges the sponsor, if there is one. It gives what then is
+/// under the owner's id.
 pub fn pay_for_subentry<B: Base>(
     entries: &mut Entries<'_, B>,
     ctx: &Ctx,
@@ -107,7 +107,7 @@ pub fn pay_for_subentry<B: Base>(
         with_current entries.old (spec.map_after_charging multiplicity sponsor.now entries.old.current)) }
     ensures loaded { IfOk result (keeping.IsLoaded entries.new.current owner.now) }
     ensures fits { IfOk result (λ slot. keeping.FitsSubentry multiplicity (account_of_slot slot)) }
-    ensures means { OnOk result (keeping.LeavesMeans entries.old.current entries.new.current) }
+    ensures core { OnOk result (keeping.LeavesCore entries.old.current entries.new.current) }
 {
     let slot = load(entries, owner)?;
     match sponsor {
@@ -142,7 +142,7 @@ fn pay_by_sponsor<B: Base>(
         with_current entries.old (spec.map_after_charging multiplicity (Some sponsor.now) entries.old.current)) }
     ensures loaded { IfOk result (keeping.IsLoaded entries.new.current owner.now) }
     ensures fits { IfOk result (λ slot. keeping.FitsSubentry multiplicity (account_of_slot slot)) }
-    ensures means { OnOk result (keeping.LeavesMeans entries.old.current entries.new.current) }
+    ensures core { OnOk result (keeping.LeavesCore entries.old.current entries.new.current) }
 {
     let payer = load(entries, sponsor)?;
     if let Some(fault) = subentry_fault(ctx.base_reserve, &slot, &payer, multiplicity) {
@@ -153,7 +153,7 @@ fn pay_by_sponsor<B: Base>(
 }
 
 /// Tests whether another sponsor, or the owner, can pay for something, releases the old sponsor, and charges the new
-/// one. It gives what then stands under the owner's id.
+/// one. It gives what then is under the owner's id.
 pub fn exchange_payers<B: Base>(
     entries: &mut Entries<'_, B>,
     ctx: &Ctx,
@@ -174,7 +174,7 @@ pub fn exchange_payers<B: Base>(
         with_current entries.old (spec.map_after_exchange multiplicity old.now new.now entries.old.current)) }
     ensures loaded { IfOk result (keeping.IsLoaded entries.new.current owner.now) }
     ensures fits { IfOk result (λ slot. count_if Sponsored (account_of_slot slot) + multiplicity < 2 ^ 32) }
-    ensures means { OnOk result (keeping.LeavesMeans entries.old.current entries.new.current) }
+    ensures core { OnOk result (keeping.LeavesCore entries.old.current entries.new.current) }
 {
     match new {
         None => release_to_owner(entries, ctx, owner, multiplicity, old),
@@ -205,7 +205,7 @@ fn release_to_owner<B: Base>(
         with_current entries.old (spec.map_after_releasing multiplicity old.now entries.old.current)) }
     ensures loaded { IfOk result (keeping.IsLoaded entries.new.current owner.now) }
     ensures fits { IfOk result (λ slot. count_if Sponsored (account_of_slot slot) + multiplicity < 2 ^ 32) }
-    ensures means { OnOk result (keeping.LeavesMeans entries.old.current entries.new.current) }
+    ensures core { OnOk result (keeping.LeavesCore entries.old.current entries.new.current) }
 {
     let slot = load(entries, owner)?;
     if is_short(ctx.base_reserve, &slot, multiplicity) {
@@ -234,7 +234,7 @@ pub fn exchange_sponsors<B: Base>(
         with_current entries.old (spec.map_after_exchange multiplicity old.now (Some new.now) entries.old.current)) }
     ensures kept { OnOk result (
         (id : AnId) → count_at entries.new.current id Sponsored ≤ count_at entries.old.current id Sponsored) }
-    ensures means { OnOk result (keeping.LeavesMeans entries.old.current entries.new.current) }
+    ensures core { OnOk result (keeping.LeavesCore entries.old.current entries.new.current) }
 {
     let payer = load(entries, new)?;
     if let Some(fault) = payer_fault(ctx.base_reserve, &payer, multiplicity) {

@@ -27,7 +27,7 @@ pub fn remove_entry<B: Base>(
     ensures removed { OnOk result (
         entries.new ≡ with_current entries.old (spec.map_after_removing key.now entries.old.current)) }
     ensures low { OnOk result (keeping.RaisesNone entries.old.current entries.new.current) }
-    ensures means { OnOk result (keeping.LeavesOtherMeans key.now entries.old.current entries.new.current) }
+    ensures core { OnOk result (keeping.LeavesOtherCores key.now entries.old.current entries.new.current) }
 {
     let Some(entry) = entries.get(key)? else {
         return Ok(());
@@ -46,7 +46,7 @@ fn remove_charge<B: Base>(
     ensures released { OnOk result (
         entries.new ≡ with_current entries.old (spec.map_without_charge charge sponsor.now entries.old.current)) }
     ensures low { OnOk result (keeping.RaisesNone entries.old.current entries.new.current) }
-    ensures means { OnOk result (keeping.LeavesMeans entries.old.current entries.new.current) }
+    ensures core { OnOk result (keeping.LeavesCore entries.old.current entries.new.current) }
 {
     match charge {
         Charge::Itself { owner: _ } => lower_sponsoring(entries, 2, sponsor),
@@ -71,7 +71,7 @@ pub fn discount_subentry<B: Base>(
         entries.new ≡
         with_current entries.old (spec.map_after_discounting owner.now multiplicity sponsor.now entries.old.current)) }
     ensures low { OnOk result (keeping.RaisesNone entries.old.current entries.new.current) }
-    ensures means { OnOk result (keeping.LeavesMeans entries.old.current entries.new.current) }
+    ensures core { OnOk result (keeping.LeavesCore entries.old.current entries.new.current) }
 {
     lower_sponsoring(entries, multiplicity, sponsor)?;
     discount_for_owner(entries, multiplicity, owner, sponsor)
@@ -89,7 +89,7 @@ fn discount_for_owner<B: Base>(
         with_current entries.old (
         with_account entries.old.current owner.now (paying.without_subentry multiplicity sponsor.now))) }
     ensures low { OnOk result (keeping.RaisesNone entries.old.current entries.new.current) }
-    ensures means { OnOk result (keeping.LeavesMeans entries.old.current entries.new.current) }
+    ensures core { OnOk result (keeping.LeavesCore entries.old.current entries.new.current) }
 {
     let Some(mut slot) = load(entries, owner)? else {
         return Ok(());

@@ -16,15 +16,15 @@ use crate::owner::{change_payer, gain_subentry, lose_subentry};
 use crate::payers::{open_sponsor, payer_other_than};
 use crate::paying::{exchange_payers, lower_sponsoring, pay_for_subentry};
 use crate::signer_edits::{insert_signer, remove_signer_at, set_signer_sponsor};
-use crate::signer_place::{FoundSigner, find_signer};
+use crate::signer_index::{FoundSigner, find_signer};
 use crate::stored::{load, store_changed};
 use ledger_types::{AccountId, Hash, Signer, SignerKey};
 use reserve_rules::entry_map::{Base, Entries};
 use reserve_rules::entry_slots::AccountSlot;
 use std::alloc::AllocError;
 
-/// Adds a signer to an account, for which the account or its open sponsor pays: the counts change, the signer stands
-/// behind the signers at the front that have lower keys, and a sponsor is recorded at its place. Where it answers a
+/// Adds a signer to an account, for which the account or its open sponsor pays: the counts change, the signer comes
+/// after the signers at the start that have lower keys, and a sponsor is recorded at its index. Where it answers a
 /// fault other than `NoMemory`, nothing has changed.
 pub fn add_signer<B: Base>(
     entries: &mut Entries<'_, B>,
@@ -35,7 +35,7 @@ pub fn add_signer<B: Base>(
     requires { payers.IsReady entries.old.current account.now }
     ensures outcome { IsOutcome result entries.old entries.new (
         spec.map_after_adding_signer ctx.now account.now signer entries.old.current) }
-    ensures means { OnOk result (keeping.LeavesMeans entries.old.current entries.new.current) }
+    ensures core { OnOk result (keeping.LeavesCore entries.old.current entries.new.current) }
 {
     let sponsor = open_sponsor(ctx, account);
     let slot = pay_for_subentry(entries, ctx, account, &sponsor, 1)?;
@@ -43,7 +43,7 @@ pub fn add_signer<B: Base>(
     Ok(())
 }
 
-/// Counts a signer for its account, and puts it among its signers. `slot` is what stands under the account's id.
+/// Counts a signer for its account, and puts it among its signers. `slot` is what is under the account's id.
 fn put_signer<B: Base>(
     entries: &mut Entries<'_, B>,
     account: &AccountId,
@@ -57,7 +57,7 @@ fn put_signer<B: Base>(
         entries.new ≡
         with_current entries.old (
         with_account entries.old.current account.now (spec.with_counted_signer signer sponsor))) }
-    ensures means { OnOk result (keeping.LeavesMeans entries.old.current entries.new.current) }
+    ensures core { OnOk result (keeping.LeavesCore entries.old.current entries.new.current) }
 {
     let Some(mut slot) = slot else {
         return Ok(());
@@ -79,7 +79,7 @@ pub fn remove_signer<B: Base>(
         entries.new ≡
         with_current entries.old (spec.map_after_removing_signer account.now key.now entries.old.current)) }
     ensures low { OnOk result (keeping.RaisesNone entries.old.current entries.new.current) }
-    ensures means { OnOk result (keeping.LeavesMeans entries.old.current entries.new.current) }
+    ensures core { OnOk result (keeping.LeavesCore entries.old.current entries.new.current) }
 {
     let Some(found) = find_signer(entries, account, key)? else {
         return Ok(());
@@ -89,7 +89,7 @@ pub fn remove_signer<B: Base>(
     take_signer(entries, account, slot, found)
 }
 
-/// Takes a signer out of those of its account. `slot` is what stands under the account's id.
+/// Takes a signer out of those of its account. `slot` is what is under the account's id.
 fn take_signer<B: Base>(
     entries: &mut Entries<'_, B>,
     account: &AccountId,
@@ -102,13 +102,13 @@ fn take_signer<B: Base>(
         with_current entries.old (
         with_account entries.old.current account.now (spec.without_counted_signer found))) }
     ensures low { OnOk result (keeping.RaisesNone entries.old.current entries.new.current) }
-    ensures means { OnOk result (keeping.LeavesMeans entries.old.current entries.new.current) }
+    ensures core { OnOk result (keeping.LeavesCore entries.old.current entries.new.current) }
 {
     let Some(mut slot) = slot else {
         return Ok(());
     };
     lose_subentry(&mut slot.account, 1, &found.sponsor)?;
-    remove_signer_at(&mut slot.account, found.place);
+    remove_signer_at(&mut slot.account, found.index);
     store_changed(entries, account, slot)
 }
 
@@ -124,13 +124,13 @@ pub fn remove_preauth<B: Base>(
         entries.new ≡
         with_current entries.old (spec.map_after_removing_preauth account.now hash.now entries.old.current)) }
     ensures low { OnOk result (keeping.RaisesNone entries.old.current entries.new.current) }
-    ensures means { OnOk result (keeping.LeavesMeans entries.old.current entries.new.current) }
+    ensures core { OnOk result (keeping.LeavesCore entries.old.current entries.new.current) }
 {
     remove_signer(entries, ctx, account, &SignerKey::PreAuthTx(*hash))
 }
 
 /// Moves the signer with a key to another payer, or to the account itself where none is given: the counts of those that
-/// pay for it change, and the new sponsor is recorded at its place. Nothing changes where there is no such signer, nor
+/// pay for it change, and the new sponsor is recorded at its index. Nothing changes where there is no such signer, nor
 /// where it had no sponsor and gets none. Where it answers a fault other than `NoMemory`, nothing has changed.
 pub fn move_signer<B: Base>(
     entries: &mut Entries<'_, B>,
@@ -142,43 +142,43 @@ pub fn move_signer<B: Base>(
     requires { payers.IsReady entries.old.current account.now }
     ensures outcome { IsOutcome result entries.old entries.new (
         spec.map_after_moving_signer ctx.now account.now key.now payer entries.old.current) }
-    ensures means { OnOk result (keeping.LeavesMeans entries.old.current entries.new.current) }
+    ensures core { OnOk result (keeping.LeavesCore entries.old.current entries.new.current) }
 {
     let Some(found) = find_signer(entries, account, key)? else {
         return Ok(());
     };
     let new = payer_other_than(account, payer);
-    move_signer_between(entries, ctx, account, found.place, &found.sponsor, &new)
+    move_signer_between(entries, ctx, account, found.index, &found.sponsor, &new)
 }
 
-/// Moves the signer at a place from one sponsor to another. What had no sponsor and gets none stays as it is.
+/// Moves the signer at an index from one sponsor to another. What had no sponsor and gets none stays as it is.
 fn move_signer_between<B: Base>(
     entries: &mut Entries<'_, B>,
     ctx: &Ctx,
     account: &AccountId,
-    place: usize,
+    index: usize,
     old: &Option<AccountId>,
     new: &Option<AccountId>,
 ) -> Result<(), AddFault>
     requires { payers.IsReady entries.old.current account.now }
     ensures outcome { IsOutcome result entries.old entries.new (
-        spec.map_after_moving_signer_between ctx.now account.now place old.now new.now entries.old.current) }
-    ensures means { OnOk result (keeping.LeavesMeans entries.old.current entries.new.current) }
+        spec.map_after_moving_signer_between ctx.now account.now index old.now new.now entries.old.current) }
+    ensures core { OnOk result (keeping.LeavesCore entries.old.current entries.new.current) }
 {
     if old.is_none() && new.is_none() {
         return Ok(());
     }
     let slot = exchange_payers(entries, ctx, account, 1, old, new)?;
-    record_signer_sponsor(entries, account, slot, place, old, new)?;
+    record_signer_sponsor(entries, account, slot, index, old, new)?;
     Ok(())
 }
 
-/// Another sponsor, or none, pays for the signer at a place. `slot` is what stands under the account's id.
+/// Another sponsor, or none, pays for the signer at an index. `slot` is what is under the account's id.
 fn record_signer_sponsor<B: Base>(
     entries: &mut Entries<'_, B>,
     account: &AccountId,
     slot: Option<AccountSlot>,
-    place: usize,
+    index: usize,
     old: &Option<AccountId>,
     new: &Option<AccountId>,
 ) -> Result<(), AllocError>
@@ -187,13 +187,13 @@ fn record_signer_sponsor<B: Base>(
     ensures recorded { OnOk result (
         entries.new ≡
         with_current entries.old (
-        with_account entries.old.current account.now (spec.with_moved_signer place old.now new.now))) }
-    ensures means { OnOk result (keeping.LeavesMeans entries.old.current entries.new.current) }
+        with_account entries.old.current account.now (spec.with_moved_signer index old.now new.now))) }
+    ensures core { OnOk result (keeping.LeavesCore entries.old.current entries.new.current) }
 {
     let Some(mut slot) = slot else {
         return Ok(());
     };
     change_payer(&mut slot.account, 1, old, new)?;
-    set_signer_sponsor(&mut slot.account, place, *new);
+    set_signer_sponsor(&mut slot.account, index, *new);
     store_changed(entries, account, slot)
 }

@@ -14,7 +14,7 @@ use reserve_rules::entry_map::{Base, Entries};
 use reserve_rules::entry_slots::{AccountSlot, load_account, store_account};
 use std::alloc::AllocError;
 
-/// What stands under an account's id.
+/// What is under an account's id.
 pub fn load<B: Base>(
     entries: &Entries<'_, B>,
     id: &AccountId,
@@ -24,8 +24,8 @@ pub fn load<B: Base>(
     load_account(entries, id)
 }
 
-/// What stands under an account's id. `slot` was loaded there before the account `changed` was stored: unless that is
-/// the same account, it is still right.
+/// What is under an account's id. `slot` was loaded there before the account `changed` was stored: unless that is the
+/// same account, it is still right.
 pub fn still_loaded<B: Base>(
     entries: &Entries<'_, B>,
     id: &AccountId,
@@ -44,7 +44,7 @@ pub fn still_loaded<B: Base>(
     Ok(slot)
 }
 
-/// Stores an account whose counts or signers have changed in place of the one that stands.
+/// Stores an account whose counts or signers have changed in place of the one that is there.
 pub fn store_changed<B: Base>(
     entries: &mut Entries<'_, B>,
     id: &AccountId,
@@ -54,7 +54,7 @@ pub fn store_changed<B: Base>(
     requires change { spec.IsChangeOf entries.old.current id.now slot.account }
     ensures stored { OnOk result (
         entries.new ≡ with_current entries.old (put entries.old.current (entry_of_account slot))) }
-    ensures means { OnOk result (spec.LeavesMeans entries.old.current entries.new.current) }
+    ensures core { OnOk result (spec.LeavesCore entries.old.current entries.new.current) }
     ensures others { OnOk result (spec.ChangesAtMost (Some id.now) entries.old.current entries.new.current) }
     ensures kept { (count : ACount) →
         spec.IsChanged (spec.KeepsOtherCounts count) entries.old.current id.now slot.account →
@@ -71,16 +71,16 @@ pub fn put_entry<B: Base>(
     entry: LedgerEntry,
 ) -> Result<(), AllocError>
     ensures put { OnOk result (entries.new ≡ with_current entries.old (put entries.old.current entry)) }
-    ensures means { OnOk result (spec.LeavesOtherMeans (key_of entry) entries.old.current entries.new.current) }
+    ensures core { OnOk result (spec.LeavesOtherCores (key_of entry) entries.old.current entries.new.current) }
 {
     entries.put(entry)
 }
 
-/// Removes what stands under a key. No account but one under that key changes.
+/// Removes what is under a key. No account but one under that key changes.
 pub fn erase_entry<B: Base>(entries: &mut Entries<'_, B>, key: &LedgerKey) -> Result<(), AllocError>
     ensures erased { OnOk result (entries.new ≡ with_current entries.old (erase entries.old.current key.now)) }
     ensures low { OnOk result (spec.RaisesNone entries.old.current entries.new.current) }
-    ensures means { OnOk result (spec.LeavesOtherMeans key.now entries.old.current entries.new.current) }
+    ensures core { OnOk result (spec.LeavesOtherCores key.now entries.old.current entries.new.current) }
 {
     entries.erase(key)
 }

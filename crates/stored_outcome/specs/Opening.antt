@@ -1,4 +1,4 @@
--- What a volume's content opens to: the state behind its image and all records of its journal.
+-- What a volume's content opens to: the state after its image and all records of its journal.
 use Rattle.std.specs.Prelude.{◌≡◌, ℕ, ◌+◌, ◌%◌, List, ◌∷◌, ◌++◌, length, Ok, Err, ◌⊎◌}
 use Rattle.sample_ledger.specs.ledger_types.declared.ids.Hash.{Hash}
 use Rattle.run_outcome.specs.close_rules.declared.close_fault.CloseFault.{CloseFault}
@@ -14,50 +14,50 @@ use Rattle.image_store.specs.Opening.{Kept, Holds, HoldsNoStore}
 
 -- ---- a content that opens
 
--- the image is a ledger's, and each record closes a ledger behind the one before
-pub record ComesTo (k : Kept) (s : ClosingState) : Type 0 where
+-- the image is a ledger's, and each record closes a ledger after the one before
+pub record Yields (k : Kept) (s : ClosingState) : Type 0 where
   pub start : ClosingState
   pub judged : IsJudged k.network k.image (Ok start)
   pub lines : List ℕ
   pub closed : AreClosed start k.records lines s
 
 abbrev pub OpensTo : Image → ClosingState → Type 0
-OpensTo c s = (k : Kept) × Holds c k × ComesTo k s
+OpensTo c s = (k : Kept) × Holds c k × Yields k s
 
 -- ---- a content that doesn't
 
 -- the image breaks a rule
-pub record BreaksRule (k : Kept) (file place : ℕ) : Type 0 where
+pub record BreaksRule (k : Kept) (file offset : ℕ) : Type 0 where
   pub wrong : ImageFault
   pub judged : IsJudged k.network k.image (Err wrong)
   pub in_file : file ≡ k.epoch % 2
-  pub at : place ≡ head_len
+  pub at : offset ≡ head_len
 
--- a record is refused behind those before it; the place is its gate's
-pub record RefusesRecord (k : Kept) (file place : ℕ) : Type 0 where
+-- a record is refused after those before it; the offset is its gate's
+pub record RefusesRecord (k : Kept) (file offset : ℕ) : Type 0 where
   pub start : ClosingState
   pub judged : IsJudged k.network k.image (Ok start)
-  pub front : List (List ℕ)
+  pub prefix : List (List ℕ)
   pub bytes : List ℕ
   pub others : List (List ℕ)
-  pub records : k.records ≡ front ++ bytes ∷ others
+  pub records : k.records ≡ prefix ++ bytes ∷ others
   pub lines : List ℕ
   pub state : ClosingState
-  pub closed : AreClosed start front lines state
+  pub closed : AreClosed start prefix lines state
   pub wrong : CloseFault
   pub refused : IsClose state bytes (Err wrong)
   pub in_file : file ≡ 2 + k.epoch % 2
-  pub at : place ≡ length (blocks front)
+  pub at : offset ≡ length (blocks prefix)
 
 -- what a store's faults are, those of its form first
-abbrev pub IsBadStore : Image → (file place : ℕ) → Type 0
-IsBadStore c file place =
-    HoldsNoStore c file place
-    ⊎ ((k : Kept) × Holds c k × (BreaksRule k file place ⊎ RefusesRecord k file place))
+abbrev pub IsBadStore : Image → (file offset : ℕ) → Type 0
+IsBadStore c file offset =
+    HoldsNoStore c file offset
+    ⊎ ((k : Kept) × Holds c k × (BreaksRule k file offset ⊎ RefusesRecord k file offset))
 
 -- ---- volumes
 
--- a volume that was opened again behind a crash: it reads what that left, and nothing is pending
+-- a volume that was opened again after a crash: it reads what that left, and nothing is pending
 pub record IsReopened (c : Image) (disk : Disk) : Type 0 where
   pub reads : disk.reads ≡ c
   pub safe : IsSafe disk

@@ -4,16 +4,16 @@ use Rattle.run_outcome.specs.run_streams.Seen.{Seen, IsUntouched}
 use Rattle.run_outcome.specs.run_streams.SeenVolume.{SeenVolume}
 use Rattle.run_outcome.specs.declared.status.Status.{Status}
 use Rattle.run_outcome.specs.declared.status.Status.TheVariants as status
-use Rattle.run_outcome.specs.Run.{IsTold, DidCatchUp}
-use Rattle.command_words.specs.Words.{Command, CatchUp, Init, Run, Show, Sample, Spells, SpellsNone}
+use Rattle.run_outcome.specs.Run.{IsReported, DidCatchUp}
+use Rattle.command_words.specs.Words.{Command, CatchUp, Init, Run, Show, Sample, Parses, ParsesNone}
 use Rattle.stored_outcome.specs.StoredRun.{DidRun}
 use Rattle.stored_outcome.specs.Init.{DidInit}
 use Rattle.stored_outcome.specs.Show.{DidShow}
 use Rattle.stored_outcome.specs.Sample.{DidSample}
 
--- Nothing is read, nothing is written to the output, and the volume stays the value that it was. This end is told.
+-- Nothing is read, nothing is written to the output, and the volume stays the value that it was. This end is written.
 pub record DidNothing (cause : Status) (input out err : Seen) (vol : SeenVolume) (end : Status) : Type 0 where
-  pub told : IsTold cause err end
+  pub reported : IsReported cause err end
   pub unread : IsUntouched input
   pub unwritten : IsUntouched out
   pub same : vol.same
@@ -30,6 +30,6 @@ RanAs (Sample seed ledgers) input out err vol end =
 -- refused while they were read.
 abbrev pub Ran : (words : List (List ℕ)) → (input out err : Seen) (vol : SeenVolume) → (end : Status) → Type 0
 Ran words input out err vol end =
-    ((command : Command) × Spells words command × RanAs command input out err vol end)
-    ⊎ (SpellsNone words × DidNothing status.Usage input out err vol end)
-    ⊎ ((command : Command) × Spells words command × DidNothing status.NoMemory input out err vol end)
+    ((command : Command) × Parses words command × RanAs command input out err vol end)
+    ⊎ (ParsesNone words × DidNothing status.Usage input out err vol end)
+    ⊎ ((command : Command) × Parses words command × DidNothing status.NoMemory input out err vol end)

@@ -6,13 +6,13 @@ use Rattle.run_outcome.specs.close_rules.Close.{IsClose}
 use Rattle.run_outcome.specs.declared.status.Status.{Status}
 use Rattle.run_outcome.specs.declared.status.Status.TheVariants as status
 use Rattle.run_outcome.specs.Lines.{sample_line, refused_line, success_count}
-use Rattle.run_outcome.specs.Outcome.{Outcome, IsFront}
-use Rattle.run_outcome.specs.Run.{Answered, IsLineTold}
+use Rattle.run_outcome.specs.Outcome.{Outcome, IsPrefix}
+use Rattle.run_outcome.specs.Run.{Answered, IsLineReported}
 use Rattle.sample_ledger.specs.Samples.{Progress, HaveClosed, record_bytes}
 
 -- so many records close ledgers: the line of the last one
-abbrev pub IsWhole : (seed ledgers : ℕ) → Outcome → Type 0
-IsWhole seed ledgers o =
+abbrev pub IsEntire : (seed ledgers : ℕ) → Outcome → Type 0
+IsEntire seed ledgers o =
     (now : Progress) × HaveClosed seed ledgers now
     × (o ≡ record {
       status = status.Done;
@@ -20,19 +20,19 @@ IsWhole seed ledgers o =
     })
 
 -- k records close ledgers, and the next one is refused
-abbrev pub IsRefusedBehind : (seed k : ℕ) → Outcome → Type 0
-IsRefusedBehind seed k o =
+abbrev pub IsRefusedAfter : (seed k : ℕ) → Outcome → Type 0
+IsRefusedAfter seed k o =
     (now : Progress) × HaveClosed seed k now
     × (wrong : CloseFault) × IsClose now.state (record_bytes seed (suc k) now.state) (Err wrong)
     × (o ≡ record { status = status.Refused; text = refused_line now.state.header wrong })
 
--- what a sample of so many ledgers comes to
+-- what a sample of so many ledgers yields
 abbrev pub IsSampled : (seed ledgers : ℕ) → Outcome → Type 0
-IsSampled seed ledgers o = IsWhole seed ledgers o ⊎ ((k : ℕ) × (k < ledgers) × IsRefusedBehind seed k o)
+IsSampled seed ledgers o = IsEntire seed ledgers o ⊎ ((k : ℕ) × (k < ledgers) × IsRefusedAfter seed k o)
 
-abbrev pub IsSampleFront : (seed ledgers : ℕ) → (front : List ℕ) → Type 0
-IsSampleFront seed ledgers front =
-    (front ≡ []) ⊎ ((o : Outcome) × IsSampled seed ledgers o × IsFront front o.text)
+abbrev pub IsSamplePrefix : (seed ledgers : ℕ) → (prefix : List ℕ) → Type 0
+IsSamplePrefix seed ledgers prefix =
+    (prefix ≡ []) ⊎ ((o : Outcome) × IsSampled seed ledgers o × IsPrefix prefix o.text)
 
 -- all is done, a record is refused, or a stream or memory failed
 abbrev pub IsSampleEnd : Status → Type 0
@@ -44,7 +44,7 @@ IsSampleEnd other = ⊥
 
 -- `sample`, over these streams, with this end and its line on standard error
 pub record DidSample (seed ledgers : ℕ) (out err : Seen) (end : Status) : Type 0 where
-  pub answered : Answered (IsSampled seed ledgers) (IsSampleFront seed ledgers) out end
+  pub answered : Answered (IsSampled seed ledgers) (IsSamplePrefix seed ledgers) out end
   pub write_fault : end ≡ status.WriteFault → Failed out ⊎ Failed err
   pub is_end : IsSampleEnd end
-  pub told : IsLineTold err end
+  pub reported : IsLineReported err end

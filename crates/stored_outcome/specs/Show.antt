@@ -6,18 +6,18 @@ use Rattle.run_outcome.specs.close_rules.State.{ClosingState}
 use Rattle.run_outcome.specs.declared.status.Status.{Status}
 use Rattle.run_outcome.specs.declared.status.Status.TheVariants as status
 use Rattle.run_outcome.specs.Lines.{shown_lines}
-use Rattle.run_outcome.specs.Run.{IsLineTold}
+use Rattle.run_outcome.specs.Run.{IsLineReported}
 use Rattle.image_store.specs.outside.Disk.{Runs, Same}
 use Rattle.run_outcome.specs.run_streams.SeenVolume.{SeenVolume, VolumeFailed}
 use Rattle.image_store.specs.Opening.{Kept, Holds, HoldsNothing}
-use Rattle.stored_outcome.specs.Opening.{ComesTo, IsBadStore}
+use Rattle.stored_outcome.specs.Opening.{Yields, IsBadStore}
 use Rattle.stored_outcome.specs.StoredRun.{IsFailedEnd, IsUnopenedEnd}
 
 -- the lines of what is kept, and of the state to which it comes
 abbrev pub lines_shown : Kept → ClosingState → List ℕ
 lines_shown k s = shown_lines s.header k.epoch (length k.records) (length (entries s.entries))
 
--- a text was written whole, or a front of it where a stream failed or memory was refused
+-- a text was written entirely, or a prefix of it where a stream failed or memory was refused
 abbrev pub IsShown : (text : List ℕ) → (out err : Seen) → (end : Status) → Type 0
 IsShown text out err end =
     ((end ≡ status.Done) × Received out text)
@@ -31,7 +31,7 @@ ReadsStay vol = vol.now.reads ≡ vol.before.reads
 -- why nothing was written
 abbrev pub IsUnshown : (err : Seen) → SeenVolume → (end : Status) → Type 0
 IsUnshown err vol status.Missing = HoldsNothing vol.before.reads × ReadsStay vol
-IsUnshown err vol (status.BadStore file place) = IsBadStore vol.before.reads file place × ReadsStay vol
+IsUnshown err vol (status.BadStore file offset) = IsBadStore vol.before.reads file offset × ReadsStay vol
 IsUnshown err vol status.DiskFault = VolumeFailed vol
 IsUnshown err vol status.WriteFault = Failed err
 IsUnshown err vol status.NoMemory = ReadsStay vol
@@ -40,16 +40,16 @@ IsUnshown err vol other = ⊥
 -- `show`, over these streams and this volume, with this end and its line on standard error
 pub record DidShow (out err : Seen) (vol : SeenVolume) (end : Status) : Type 0 where
   -- what the volume keeps was shown, or nothing was
-  pub shown : vol.tells
-      → ((k : Kept) × (s : ClosingState) × Holds vol.before.reads k × ComesTo k s
+  pub shown : vol.reports
+      → ((k : Kept) × (s : ClosingState) × Holds vol.before.reads k × Yields k s
       × IsShown (lines_shown k s) out err end × ReadsStay vol)
       ⊎ (IsUntouched out × IsUnshown err vol end)
   -- the volume stays
   pub runs : Runs Same vol.before vol.now
-  pub reads : vol.tells → VolumeFailed vol ⊎ ReadsStay vol
-  -- whatever the volume tells
+  pub reads : vol.reports → VolumeFailed vol ⊎ ReadsStay vol
+  -- whatever the volume reports
   pub unopened : IsUnopenedEnd end → IsUntouched out
   pub write_fault : end ≡ status.WriteFault → Failed out ⊎ Failed err
   pub disk_fault : end ≡ status.DiskFault → VolumeFailed vol
   pub is_end : (end ≡ status.Done) ⊎ IsFailedEnd end ⊎ IsUnopenedEnd end
-  pub told : IsLineTold err end
+  pub reported : IsLineReported err end

@@ -1,14 +1,11 @@
--- A sum over all entries, by what stands behind one key after another.
-use Rattle.std.proofs.Common.{◌≡◌, ◌≢◌, refl, sym, ap, ◌∙◌, subst, ℕ, zero, suc, cond, T, arith}
-use Rattle.std.proofs.Common.{List, [], ◌∷◌, length, Option, Some, None}
-use Rattle.std.proofs.lemmas.Int.{ints}
-use Rattle.std.specs.Prelude.{IfSome, ◌+◌, ◌*◌, ◌<◌, ℤ, pos, negsuc, neg_ℤ, ◌+ℤ◌, ◌≤ℤ◌, replicate, FitsSigned}
-use Rattle.std.specs.Int.{w128}
-use Rattle.std.specs.declared.cmp.Ordering.TheVariants.{Less, Equal, Greater}
-use Rattle.std.specs.Ordering.{is_eq, ordering_then}
-use Rattle.std.specs.Cmp.{nat_cmp_is}
-use Rattle.std.specs.FinMap.{get, entries, entries_sorted, get-entries}
-use Rattle.std.specs.FinMap.Entries.{find, is_sorted, below_all}
+-- A sum over all entries, by what comes after one key after another.
+use Rattle.tally.proofs.Prelude.{◌≡◌, ◌≢◌, refl, sym, ap, ◌∙◌, subst, ℕ, zero, suc, cond, T, arith, List, [], ◌∷◌}
+use Rattle.tally.proofs.Prelude.{length, Option, Some, None, ints, IfSome, ◌+◌, ◌*◌, ◌<◌, ℤ, pos, negsuc, neg_ℤ, ◌+ℤ◌}
+use Rattle.tally.proofs.Prelude.{◌≤ℤ◌, replicate, FitsSigned, w128, Less, Equal, Greater, is_eq, ordering_then}
+use Rattle.tally.proofs.Prelude.{nat_cmp_is, get, entries, entries_sorted, get-entries, is_sorted, key_of, key_of_body}
+use Rattle.tally.proofs.Prelude.{key_cmp, keys_total, EntryMap, IsKeyed, IsLeastAbove, IsNextAfter, Weight, sum_over}
+use Rattle.tally.proofs.Prelude.{total, part, first_key, sum_after}
+use Rattle.std.specs.FinMap.Entries.{find, below_all}
 use Rattle.entry_map.proofs.shared_tree_proofs.Parts.{first, second, less}
 use Rattle.entry_map.proofs.shared_tree_proofs.Changed.{below_less, below_tied}
 use Rattle.ledger_types.specs.declared.entry.LedgerEntry.{LedgerEntry}
@@ -16,18 +13,15 @@ use Rattle.ledger_types.specs.declared.key.LedgerKey.{LedgerKey}
 use Rattle.ledger_types.specs.declared.key.LedgerKey.TheVariants as key
 use Rattle.ledger_types.specs.declared.entry.LedgerEntryBody.{LedgerEntryBody}
 use Rattle.ledger_types.specs.declared.entry.LedgerEntryBody.TheVariants as body
-use Rattle.ledger_types.specs.Keys.{key_of, key_of_body}
-use Rattle.ledger_types.specs.KeyOrder.{bytes_cmp, key_cmp}
-use Rattle.ledger_types.proofs.KeyOrdering.{keys_total}
+use Rattle.ledger_types.specs.KeyOrder.{bytes_cmp}
 use Rattle.legal_rules.specs.xdr_core.Leaves.{fixed}
 use Rattle.entry_changes.specs.xdr_entries.Basic.{account_id}
 use Rattle.entry_changes.specs.xdr_entries.Entries.{account_head, account_entry, ledger_entry_body, ledger_entry}
-use Rattle.entry_map.specs.EntryMap.{EntryMap, IsKeyed, IsLeastAbove, IsNextAfter}
-use Rattle.legal_rules.specs.entry_sums.Sums.{Weight, sum_over, total, part}
-use Rattle.entry_changes.specs.Spellable.{IsEntrySpellable, AreSpellable}
+use Rattle.entry_changes.specs.Encodable.{IsEntryEncodable, AreEncodable}
 use Rattle.offer_book.specs.Sold.{above}
-use Rattle.offer_book.proofs.Above.{Pairs, found_first, skipped, taken, nothing_left, next_left}
-use Rattle.tally.specs.Walk.{first_key, sum_behind}
+use Rattle.offer_book.proofs.Above.{Pairs, skipped, taken, nothing_left, next_left}
+use Rattle.entry_changes.proofs.entry_sums_proofs.Lists.{not_found_below}
+use Rattle.entry_map.proofs.Aggregates.{found_first}
 
 -- ---- no key is ahead of the first
 
@@ -35,7 +29,7 @@ zero_less : (n x : ℕ) (xs : List ℕ) → bytes_cmp (replicate (suc n) 0) (suc
 zero_less n x xs = ap (λ o. ordering_then o (bytes_cmp (replicate n 0) xs))
     (sym (nat_cmp_is 0 (suc x) Less (omega (arith))))
 
--- zero bytes are behind no text that is as long
+-- zero bytes never sort after a text that is as long
 zeros_first : (n : ℕ) (xs : List ℕ) → length xs ≡ n → bytes_cmp (replicate n 0) xs ≢ Greater
 zeros_first zero [] same = λ e. absurd (cc)
 zeros_first zero (x ∷ xs) same = λ e. absurd (cc)
@@ -44,49 +38,44 @@ zeros_first (suc n) (zero ∷ xs) same = zeros_first n xs (omega (arith, same))
 zeros_first (suc n) (suc x ∷ xs) same = λ e. absurd (let lt = zero_less n x xs in cc)
 
 -- the id in an account's key has 32 bytes
-abbrev HasWholeId : LedgerKey → Type 0
-HasWholeId (key.Account id) = length id.0 ≡ 32
-HasWholeId other = Unit {0}
+abbrev HasEntireId : LedgerKey → Type 0
+HasEntireId (key.Account id) = length id.0 ≡ 32
+HasEntireId other = Unit {0}
 
-body_whole : (b : LedgerEntryBody) → ledger_entry_body.within b → HasWholeId (key_of_body b)
+body_entire : (b : LedgerEntryBody) → ledger_entry_body.within b → HasEntireId (key_of_body b)
 unfolding ledger_entry_body account_entry account_head account_id fixed
-body_whole (body.Account account) within = within.0.0.1
-body_whole (body.TrustLine line) within = tt
-body_whole (body.Offer offer) within = tt
-body_whole (body.Data entry) within = tt
-body_whole (body.ClaimableBalance balance) within = tt
-body_whole (body.LiquidityPool pool) within = tt
+body_entire (body.Account account) within = within.0.0.1
+body_entire (body.TrustLine line) within = tt
+body_entire (body.Offer offer) within = tt
+body_entire (body.Data entry) within = tt
+body_entire (body.ClaimableBalance balance) within = tt
+body_entire (body.LiquidityPool pool) within = tt
 
-entry_whole : (e : LedgerEntry) → IsEntrySpellable e → HasWholeId (key_of e)
+entry_entire : (e : LedgerEntry) → IsEntryEncodable e → HasEntireId (key_of e)
 unfolding ledger_entry
-entry_whole e spellable = body_whole e.body spellable.within.1.0
+entry_entire e encodable = body_entire e.body encodable.within.1.0
 
-pub none_ahead : (k : LedgerKey) → HasWholeId k → key_cmp first_key k ≢ Greater
-none_ahead (key.Account id) whole = zeros_first 32 id.0 whole
-none_ahead (key.TrustLine id held) whole = λ e. absurd (cc)
-none_ahead (key.Offer id offer) whole = λ e. absurd (cc)
-none_ahead (key.Data id name) whole = λ e. absurd (cc)
-none_ahead (key.ClaimableBalance id) whole = λ e. absurd (cc)
-none_ahead (key.LiquidityPool id) whole = λ e. absurd (cc)
+pub none_ahead : (k : LedgerKey) → HasEntireId k → key_cmp first_key k ≢ Greater
+none_ahead (key.Account id) entire = zeros_first 32 id.0 entire
+none_ahead (key.TrustLine id held) entire = λ e. absurd (cc)
+none_ahead (key.Offer id offer) entire = λ e. absurd (cc)
+none_ahead (key.Data id name) entire = λ e. absurd (cc)
+none_ahead (key.ClaimableBalance id) entire = λ e. absurd (cc)
+none_ahead (key.LiquidityPool id) entire = λ e. absurd (cc)
 
--- ---- a sum, by what stands at its first key and behind it
+-- ---- a sum, by what is at its first key and after it
 
-all_behind : (f : Weight) (k : LedgerKey) (es : Pairs) → T (below_all key_cmp k es)
+all_after : (f : Weight) (k : LedgerKey) (es : Pairs) → T (below_all key_cmp k es)
     → sum_over f (above k es) ≡ sum_over f es
-all_behind f k [] h = refl
-all_behind f k (x ∷ xs) h = ap (sum_over f) (taken k x xs (less _ (first _ _ h)))
-    ∙ ap (λ s. f x.1 +ℤ s) (all_behind f k xs (second _ _ h))
+all_after f k [] h = refl
+all_after f k (x ∷ xs) h = ap (sum_over f) (taken k x xs (less _ (first _ _ h)))
+    ∙ ap (λ s. f x.1 +ℤ s) (all_after f k xs (second _ _ h))
 
-none_at : (k : LedgerKey) (es : Pairs) → T (below_all key_cmp k es) → find key_cmp k es ≡ None
-none_at k [] h = refl
-none_at k (x ∷ xs) h = ap (λ o. cond (is_eq o) (Some x.1) (find key_cmp k xs)) (less _ (first _ _ h))
-    ∙ none_at k xs (second _ _ h)
+after_none : (here after all : ℤ) → here ≡ pos 0 → after ≡ all → all ≡ (here +ℤ after)
+after_none here after all none is = omega (arith, ints)
 
-behind_none : (here behind all : ℤ) → here ≡ pos 0 → behind ≡ all → all ≡ (here +ℤ behind)
-behind_none here behind all none is = omega (arith, ints)
-
-behind_one : (x rest here behind : ℤ) → here ≡ x → behind ≡ rest → (x +ℤ rest) ≡ (here +ℤ behind)
-behind_one x rest here behind is same = omega (arith, ints)
+after_one : (x rest here after : ℤ) → here ≡ x → after ≡ rest → (x +ℤ rest) ≡ (here +ℤ after)
+after_one x rest here after is same = omega (arith, ints)
 
 sum_from : (f : Weight) (k : LedgerKey) (es : Pairs) → T (is_sorted key_cmp es)
     → ((q : LedgerKey) (e : LedgerEntry) → find key_cmp q es ≡ Some e → key_cmp k q ≢ Greater)
@@ -94,47 +83,47 @@ sum_from : (f : Weight) (k : LedgerKey) (es : Pairs) → T (is_sorted key_cmp es
 sum_from f k [] h ahead = omega (arith, ints)
 sum_from f k (x ∷ xs) h ahead = elim (key_cmp k x.0) as (λ r. key_cmp k x.0 ≡ r
     → sum_over f (x ∷ xs) ≡ (part f (find key_cmp k (x ∷ xs)) +ℤ sum_over f (above k (x ∷ xs)))) [
-      | Less ↦ λ lt. let behind = below_less keys_total k x.0 xs lt (first _ _ h) in
-          behind_none _ _ _
-          (ap (λ o. part f (cond (is_eq o) (Some x.1) (find key_cmp k xs))) lt ∙ ap (part f) (none_at k xs behind))
-          (ap (sum_over f) (taken k x xs lt) ∙ ap (λ s. f x.1 +ℤ s) (all_behind f k xs behind))
-      | Equal ↦ λ tied. behind_one (f x.1) (sum_over f xs) _ _
+      | Less ↦ λ lt. let after = below_less keys_total k x.0 xs lt (first _ _ h) in
+          after_none _ _ _
+          (ap (λ o. part f (cond (is_eq o) (Some x.1) (find key_cmp k xs))) lt ∙ ap (part f) (not_found_below k xs after))
+          (ap (sum_over f) (taken k x xs lt) ∙ ap (λ s. f x.1 +ℤ s) (all_after f k xs after))
+      | Equal ↦ λ tied. after_one (f x.1) (sum_over f xs) _ _
           (ap (λ o. part f (cond (is_eq o) (Some x.1) (find key_cmp k xs))) tied)
           (ap (sum_over f) (skipped k x xs (λ lt. absurd (cc (tied, lt))))
-          ∙ all_behind f k xs (below_tied keys_total k x.0 xs tied (first _ _ h)))
+          ∙ all_after f k xs (below_tied keys_total k x.0 xs tied (first _ _ h)))
       | Greater ↦ λ past. absurd (ahead x.0 x.1 (found_first x xs) past)
     ] refl
 
-pub sum_from_first : (f : Weight) (m : EntryMap) → IsKeyed m → AreSpellable m
-    → total f m ≡ (part f (get m first_key) +ℤ sum_behind f m first_key)
+pub sum_from_first : (f : Weight) (m : EntryMap) → IsKeyed m → AreEncodable m
+    → total f m ≡ (part f (get m first_key) +ℤ sum_after f m first_key)
 unfolding total
-sum_from_first f m keyed spellable =
+sum_from_first f m keyed encodable =
     sum_from f first_key (entries m) (entries_sorted m)
     (λ q e there.
-    let stands : get m q ≡ Some e = get-entries m q ∙ there in
-    let at : key_of e ≡ q = subst (λ o. IfSome o (λ e. key_of e ≡ q)) stands (keyed q) in
-    none_ahead q (subst HasWholeId at (entry_whole e (spellable q e stands))))
-    ∙ ap (λ o. part f o +ℤ sum_behind f m first_key) (sym (get-entries m first_key))
+    let exists : get m q ≡ Some e = get-entries m q ∙ there in
+    let at : key_of e ≡ q = subst (λ o. IfSome o (λ e. key_of e ≡ q)) exists (keyed q) in
+    none_ahead q (subst HasEntireId at (entry_entire e (encodable q e exists))))
+    ∙ ap (λ o. part f o +ℤ sum_after f m first_key) (sym (get-entries m first_key))
 
 -- ---- one key after another
 
 pub sum_next : (f : Weight) (m : EntryMap) (k : LedgerKey) (e : LedgerEntry) → IsLeastAbove m k e
-    → sum_behind f m k ≡ (f e +ℤ sum_behind f m (key_of e))
+    → sum_after f m k ≡ (f e +ℤ sum_after f m (key_of e))
 sum_next f m k e next = ap (sum_over f) (next_left m k e next)
 
-pub none_behind : (f : Weight) (m : EntryMap) (k : LedgerKey) → IsNextAfter m k None → sum_behind f m k ≡ pos 0
-none_behind f m k none = ap (sum_over f) (nothing_left m k none)
+pub none_after : (f : Weight) (m : EntryMap) (k : LedgerKey) → IsNextAfter m k None → sum_after f m k ≡ pos 0
+none_after f m k none = ap (sum_over f) (nothing_left m k none)
 
--- what was looked up at the first key, and what stands behind it, is all
-pub first_part : (f : Weight) (m : EntryMap) → IsKeyed m → AreSpellable m → (k : LedgerKey)
-    (o : Option LedgerEntry) → k ≡ first_key → o ≡ get m k → total f m ≡ (part f o +ℤ sum_behind f m k)
-first_part f m keyed spellable k o is found = sum_from_first f m keyed spellable
-    ∙ ap (λ q. part f (get m q) +ℤ sum_behind f m q) (sym is)
-    ∙ ap (λ p. part f p +ℤ sum_behind f m k) (sym found)
+-- what was looked up at the first key, and what comes after it, is all
+pub first_part : (f : Weight) (m : EntryMap) → IsKeyed m → AreEncodable m → (k : LedgerKey)
+    (o : Option LedgerEntry) → k ≡ first_key → o ≡ get m k → total f m ≡ (part f o +ℤ sum_after f m k)
+first_part f m keyed encodable k o is found = sum_from_first f m keyed encodable
+    ∙ ap (λ q. part f (get m q) +ℤ sum_after f m q) (sym is)
+    ∙ ap (λ p. part f p +ℤ sum_after f m k) (sym found)
 
-pub at_the_end : (sum rest start behind here all : ℤ) → (sum +ℤ rest) ≡ (start +ℤ behind) → rest ≡ pos 0
-    → start ≡ here → all ≡ (here +ℤ behind) → sum ≡ all
-at_the_end sum rest start behind here all goes none is whole = omega (arith, ints)
+pub at_the_end : (sum rest start after here all : ℤ) → (sum +ℤ rest) ≡ (start +ℤ after) → rest ≡ pos 0
+    → start ≡ here → all ≡ (here +ℤ after) → sum ≡ all
+at_the_end sum rest start after here all goes none is entire = omega (arith, ints)
 
 -- ---- what so many entries hold fits 128 bits with a sign
 
@@ -143,9 +132,9 @@ pub sum_fits : (sum more : ℤ) (n : ℕ) → n < 4611686018427387904
     → negsuc 18446744073709551615 ≤ℤ more → more ≤ℤ pos 18446744073709551616 → FitsSigned w128 (sum +ℤ more)
 sum_fits sum more n few low high least most = omega (arith, ints)
 
-pub goes_on : (sum more new first rest behind moved : ℤ) → new ≡ (sum +ℤ more) → (sum +ℤ rest) ≡ first
-    → rest ≡ (behind +ℤ moved) → more ≡ behind → (new +ℤ moved) ≡ first
-goes_on sum more new first rest behind moved is goes next held = omega (arith, ints)
+pub moved_sum_goes_on : (sum more new first rest after moved : ℤ) → new ≡ (sum +ℤ more) → (sum +ℤ rest) ≡ first
+    → rest ≡ (after +ℤ moved) → more ≡ after → (new +ℤ moved) ≡ first
+moved_sum_goes_on sum more new first rest after moved is goes next held = omega (arith, ints)
 
 pub still_low : (sum more new : ℤ) (n : ℕ) → new ≡ (sum +ℤ more)
     → neg_ℤ (pos (18446744073709551616 * (n + 1))) ≤ℤ sum → negsuc 18446744073709551615 ≤ℤ more

@@ -18,6 +18,6 @@ first_key = key.Account (record { 0 = replicate 32 0 })
 abbrev pub held_in_pool : Asset → LiquidityPoolEntry → ℤ
 held_in_pool x pool = of_asset x pool.params.asset_a pool.reserve_a +ℤ of_asset x pool.params.asset_b pool.reserve_b
 
--- the sum over what stands behind a key
-abbrev pub sum_behind : Weight → EntryMap → LedgerKey → ℤ
-sum_behind f m k = sum_over f (above k (entries m))
+-- the sum over what comes after a key
+abbrev pub sum_after : Weight → EntryMap → LedgerKey → ℤ
+sum_after f m k = sum_over f (above k (entries m))

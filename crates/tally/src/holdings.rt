@@ -14,7 +14,7 @@ fn of_asset(asked: &Asset, asset: &Asset, amount: i64) -> i64
     if asked.is_same(asset) { amount } else { 0 }
 }
 
-/// The balance of a line where it is in the asset asked for, else 0. Shares of a pool are no asset: what they stand for
+/// The balance of a line where it is in the asset asked for, else 0. Shares of a pool are no asset: what they represent
 /// is counted as the pool's reserves (CAP-0038).
 fn of_line(asked: &Asset, line: &TrustLineAsset, balance: i64) -> i64
     ensures { supply.of_line asked.now line.now balance ≡ result }

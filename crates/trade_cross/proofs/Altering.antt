@@ -1,16 +1,7 @@
 -- Entries that are changed in their place, and that such changes may be joined and swapped.
-use Rattle.std.proofs.Common.{◌≡◌, ◌≢◌, refl, sym, ap, ◌∙◌, true, false, Option, Some, None}
-use Rattle.std.specs.FinMap.{get, same_map}
-use Rattle.ledger_types.specs.declared.entry.LedgerEntry.{LedgerEntry}
-use Rattle.ledger_types.specs.declared.key.LedgerKey.{LedgerKey}
-use Rattle.ledger_types.specs.Keys.{key_of}
-use Rattle.ledger_types.proofs.KeyOrdering.{keys_total, keys_exact}
-use Rattle.entry_map.specs.EntryMap.{EntryMap, put}
-use Rattle.entry_map.proofs.KeyMaps.{same_keys, same_itself}
-use Rattle.legal_rules.proofs.entry_sums_proofs.Lookups.{put_there, put_elsewhere}
-use Rattle.legal_rules.specs.EntryKeys.{is_key}
-use Rattle.legal_rules.specs.Holdings.{IsKeyed}
-use Rattle.legal_rules.proofs.Leaving.{keyed_put}
+use Rattle.trade_cross.proofs.Prelude.{◌≡◌, ◌≢◌, refl, sym, ap, ◌∙◌, true, false, Option, Some, None, get, same_map}
+use Rattle.trade_cross.proofs.Prelude.{LedgerEntry, LedgerKey, key_of, keys_total, keys_exact, EntryMap, put}
+use Rattle.trade_cross.proofs.Prelude.{same_itself, is_key, IsKeyed, keyed_put, put_elsewhere, put_there, same_keys}
 
 abbrev pub mapped : (LedgerEntry → LedgerEntry) → Option LedgerEntry → Option LedgerEntry
 mapped h None = None
@@ -20,15 +11,15 @@ abbrev pub altered_by : (LedgerEntry → LedgerEntry) → EntryMap → Option Le
 altered_by h m None = m
 altered_by h m (Some e) = put m (h e)
 
--- the map, in which what stands under a key is changed
+-- the map, in which what is under a key is changed
 abbrev pub altered : LedgerKey → (LedgerEntry → LedgerEntry) → EntryMap → EntryMap
 altered k h m = altered_by h m (get m k)
 
 abbrev pub KeepsKeys : (LedgerEntry → LedgerEntry) → Type 0
 KeepsKeys h = (e : LedgerEntry) → key_of (h e) ≡ key_of e
 
-either : (P : Type 0) (q k : LedgerKey) → (q ≡ k → P) → (q ≢ k → P) → P
-either P q k same apart = elim (is_key q k) as (λ b. is_key q k ≡ b → P) [
+same_or_other_key : (P : Type 0) (q k : LedgerKey) → (q ≡ k → P) → (q ≢ k → P) → P
+same_or_other_key P q k same apart = elim (is_key q k) as (λ b. is_key q k ≡ b → P) [
   | true ↦ λ tied. same (same_keys q k tied)
   | false ↦ λ is. apart (λ e. let tied : is_key q k ≡ true = ap (λ x. is_key x k) e ∙ same_itself k in absurd (cc))
 ] refl
@@ -59,7 +50,7 @@ module _ (m : EntryMap) (keyed : IsKeyed m) (k : LedgerKey) (h : LedgerEntry →
   pub altered_keyed : IsKeyed (altered k h m)
   altered_keyed = keyed_by (get m k)
 
--- ---- one change behind another
+-- ---- one change after another
 
 pub keeps_both : (g h : LedgerEntry → LedgerEntry) → KeepsKeys g → KeepsKeys h → KeepsKeys (λ e. g (h e))
 keeps_both g h first second e = first (h e) ∙ second e
@@ -94,7 +85,7 @@ module _ (m : EntryMap) (keyed : IsKeyed m) where
 
     pub altered_both : altered k g (altered k h m) ≡ altered k (λ e. g (h e)) m
     altered_both = same_map keys_total keys_exact (altered k g now) (altered k joined m)
-        (λ q. either (get (altered k g now) q ≡ get (altered k joined m) q) q k (both_at q) (both_beside q))
+        (λ q. same_or_other_key (get (altered k g now) q ≡ get (altered k joined m) q) q k (both_at q) (both_beside q))
 
   -- changes under two keys may be swapped
   module _ (k l : LedgerKey) (g h : LedgerEntry
@@ -139,11 +130,11 @@ module _ (m : EntryMap) (keyed : IsKeyed m) where
 
       pub altered_swapped : altered k g (altered l h m) ≡ altered l h (altered k g m)
       altered_swapped = same_map keys_total keys_exact one two
-          (λ q. either (get one q ≡ get two q) q k (at_first q) (λ beside.
-          either (get one q ≡ get two q) q l (at_second q)
+          (λ q. same_or_other_key (get one q ≡ get two q) q k (at_first q) (λ beside.
+          same_or_other_key (get one q ≡ get two q) q l (at_second q)
           (further q beside)))
 
--- changes that come to the same for what stands
+-- changes that yield the same for what is there
 module _ (m : EntryMap) (k : LedgerKey) (g h : LedgerEntry → LedgerEntry)
     (same : (e : LedgerEntry) → get m k ≡ Some e → g e ≡ h e) where
   as_by : (o : Option LedgerEntry) → get m k ≡ o → altered_by g m o ≡ altered_by h m o

@@ -1,41 +1,17 @@
 -- What payments and liabilities leave of what accounts hold.
-use Rattle.std.proofs.Common.{◌≡◌, inl, inr, refl, sym, subst, ℕ, ◌≤◌}
-use Rattle.std.proofs.Common.{Option, Some, None, arith}
-use Rattle.std.proofs.lemmas.Int.{ints}
-use Rattle.std.specs.Prelude.{ℤ, pos, neg_ℤ, ◌+ℤ◌, ◌-ℤ◌, ◌≤ℤ◌}
-use Rattle.std.specs.FinMap.{get}
-use Rattle.ledger_types.specs.declared.ids.AccountId.{AccountId}
-use Rattle.ledger_types.specs.declared.price.Liabilities.{Liabilities}
-use Rattle.ledger_types.specs.declared.account.AccountEntry.{AccountEntry}
-use Rattle.ledger_types.specs.declared.trust_line.TrustLineEntry.{TrustLineEntry}
-use Rattle.ledger_types.specs.declared.key.LedgerKey.{LedgerKey}
+use Rattle.trade_cross.proofs.Prelude as prelude
+use prelude.{◌≡◌, inl, inr, refl, sym, subst, ℕ, ◌≤◌, Option, Some, None, arith, ints, ℤ, pos, neg_ℤ, ◌+ℤ◌, ◌-ℤ◌, ◌≤ℤ◌}
+use prelude.{get, AccountId, Liabilities, AccountEntry, TrustLineEntry, LedgerKey, EntryMap, account_at}
+use prelude.{account_liabilities, line_at, line_liabilities, available, room, line_available, line_room, greatest_i64}
+use prelude.{unlimited, risen, binding, bound_account, bound_line, CanBind, Subentries, Sponsored, View, Owed}
+use prelude.{IsLegalOwing, paid, account_legal, not_above_balance, stored, line_stored, kept_elsewhere, bound_in_range}
+use prelude.{line_in_range, at_least_nothing, most_given, most_taken, account_gives, account_takes, line_gives}
+use prelude.{line_takes, line_paid, paying, IsKeyed, Related, IsHeld, line_legal, add_natural_nonnegative}
+use prelude.{add_zero_at_most, at_most_refl, fits_after_zero, room_after_zero}
 use Rattle.ledger_types.specs.declared.key.LedgerKey.TheVariants as key
-use Rattle.entry_map.specs.EntryMap.{EntryMap}
-use Rattle.entry_slots.specs.Accounts.{account_at}
-use Rattle.entry_slots.specs.AccountExtensions.{account_liabilities}
-use Rattle.entry_slots.specs.Lines.{line_at}
-use Rattle.entry_slots.specs.LineExtensions.{line_liabilities}
-use Rattle.reserve_rules.specs.Reserve.{available, room, line_available, line_room, greatest_i64}
-use Rattle.offer_exchange.specs.Exchange.{unlimited}
-use Rattle.legal_rules.specs.Binding.{risen, binding, bound_account, bound_line, CanBind}
-use Rattle.legal_rules.specs.Books.{Subentries, Sponsored, View}
-use Rattle.legal_rules.specs.Owing.{Owed, IsLegalOwing}
-use Rattle.legal_rules.specs.Payments.{paid}
-use Rattle.legal_rules.proofs.Bounded.{account_legal}
-use Rattle.legal_rules.proofs.Covered.{not_above_balance}
-use Rattle.legal_rules.proofs.Liable.{stored, line_stored}
-use Rattle.legal_rules.proofs.Places.{kept_elsewhere}
-use Rattle.legal_rules.proofs.Releasing.{bound_in_range, line_in_range}
-use Rattle.trade_cross.specs.Holdings.{at_least_nothing, most_given, most_taken, account_gives, account_takes}
-use Rattle.trade_cross.specs.Holdings.{line_gives}
-use Rattle.trade_cross.specs.Holdings.{line_takes, line_paid, paying}
-use Rattle.legal_rules.specs.Holdings.{IsKeyed}
-use Rattle.trade_cross.specs.Accounts.{Related}
-use Rattle.trade_cross.specs.Accounts.{IsHeld}
 use Rattle.trade_cross.proofs.Held.{related_same, Relates, account_relates, line_relates, line_keeps}
 use Rattle.trade_cross.proofs.Held.{AnyAccount, SameFlags, held_still}
 use Rattle.trade_cross.proofs.Paying.{CanPay, within}
-use Rattle.legal_rules.proofs.LinesLeft.{line_legal}
 
 -- ---- before and after
 
@@ -79,7 +55,7 @@ pub held_paid : (m : EntryMap) → IsKeyed m → (k : Option LedgerKey) (n : ℤ
 held_paid m keyed k n can q held = held_still m (paying k n m)
     (paying_relates AnyAccount SameFlags (λ a. tt) (λ t. refl) m keyed k n can (λ a. tt) (λ t. refl)) q held
 
--- an offer stands still
+-- an offer stays as it is
 pub offer_beside : (m : EntryMap) → IsKeyed m → (k : Option LedgerKey) (n : ℤ) → CanPay m k n → (seller : AccountId)
     (id : ℤ) → get (paying k n m) (key.Offer seller id) ≡ get m (key.Offer seller id)
 offer_beside m keyed None n can seller id = refl
@@ -105,9 +81,6 @@ RoomRises a b = room a ≤ℤ room b
 
 abbrev LineRoomRises : TrustLineEntry → TrustLineEntry → Type 0
 LineRoomRises t u = line_room t ≤ℤ line_room u
-
-itself : (x : ℤ) → x ≤ℤ x
-itself x = omega (arith, ints)
 
 pub no_less : (x y : ℤ) → x ≤ℤ y → at_least_nothing x ≤ at_least_nothing y
 no_less (pos a) (pos b) le = omega (arith, ints)
@@ -144,38 +117,23 @@ less_room g b buying n = omega (arith, ints)
 pub giving_takes : (m : EntryMap) → IsKeyed m → (k : Option LedgerKey) (n : ℕ) → CanPay m k (neg_ℤ (pos n))
     → (q : Option LedgerKey) → most_taken m q ≤ most_taken (paying k (neg_ℤ (pos n)) m) q
 giving_takes m keyed k n can q = takes_more m (paying k (neg_ℤ (pos n)) m)
-    (paying_relates RoomRises LineRoomRises (λ a. itself (room a)) (λ t. itself (line_room t)) m keyed k
+    (paying_relates RoomRises LineRoomRises (λ a. at_most_refl (room a)) (λ t. at_most_refl (line_room t)) m keyed k
     (neg_ℤ (pos n)) can (λ a. less_room greatest_i64 a.balance (account_liabilities a).buying n)
     (λ t. less_room t.limit t.balance (line_liabilities t).buying n)) q
-
-same_room : (g b buying : ℤ) → (g -ℤ b -ℤ buying) ≤ℤ (g -ℤ b -ℤ (buying +ℤ pos 0))
-same_room g b buying = omega (arith, ints)
 
 -- who binds more for sale has no less room
 pub selling_takes : (m : EntryMap) → IsKeyed m → (k : Option LedgerKey) (n : ℤ) → CanBind m k n (pos 0)
     → (q : Option LedgerKey) → most_taken m q ≤ most_taken (binding k n (pos 0) m) q
 selling_takes m keyed k n can q = takes_more m (binding k n (pos 0) m)
-    (binding_relates RoomRises LineRoomRises (λ a. itself (room a)) (λ t. itself (line_room t)) m keyed k n (pos 0) can
+    (binding_relates RoomRises LineRoomRises (λ a. at_most_refl (room a)) (λ t. at_most_refl (line_room t)) m keyed k n (pos 0) can
     (λ a. subst (λ (l : Liabilities). room a ≤ℤ (greatest_i64 -ℤ a.balance -ℤ l.buying))
     (sym (stored (risen n (pos 0) (account_liabilities a)) a.ext))
-    (same_room greatest_i64 a.balance (account_liabilities a).buying))
+    (room_after_zero greatest_i64 a.balance (account_liabilities a).buying))
     (λ t. subst (λ (l : Liabilities). line_room t ≤ℤ (t.limit -ℤ t.balance -ℤ l.buying))
     (sym (line_stored (risen n (pos 0) (line_liabilities t)) t.ext))
-    (same_room t.limit t.balance (line_liabilities t).buying))) q
+    (room_after_zero t.limit t.balance (line_liabilities t).buying))) q
 
 -- ---- what can be bound
-
-sold_low : (s : ℤ) (n : ℕ) → pos 0 ≤ℤ s → pos 0 ≤ℤ (s +ℤ pos n)
-sold_low s n low = omega (arith, ints)
-
-same_low : (s : ℤ) → pos 0 ≤ℤ s → pos 0 ≤ℤ (s +ℤ pos 0)
-same_low s low = omega (arith, ints)
-
-same_fits : (b x g : ℤ) → (b +ℤ x) ≤ℤ g → (b +ℤ (x +ℤ pos 0)) ≤ℤ g
-same_fits b x g fits = omega (arith, ints)
-
-same_covered : (s b : ℤ) → s ≤ℤ b → (s +ℤ pos 0) ≤ℤ b
-same_covered s b le = omega (arith, ints)
 
 sold_covered : (b s : ℤ) (n : ℕ) → pos n ≤ℤ (b -ℤ s) → (s +ℤ pos n) ≤ℤ b
 sold_covered b s n le = omega (arith, ints)
@@ -198,8 +156,8 @@ module _ (v : View) (id_pool base : ℕ) (owed : Owed) (sum : ℤ) (m : EntryMap
       let range = (account_legal v id_pool owed sum m id a legal held.1).range.range in (
         a,
         held.1,
-        bound_in_range (pos n) (pos 0) a range (sold_low _ n range.selling) (same_low _ range.buying)
-            (same_fits a.balance _ greatest_i64 range.fits),
+        bound_in_range (pos n) (pos 0) a range (add_natural_nonnegative _ n range.selling) (add_natural_nonnegative _ 0 range.buying)
+            (fits_after_zero a.balance _ greatest_i64 range.fits),
       )
   can_sell n (Some (key.TrustLine id x)) held le =
       let t = held.0 in
@@ -207,11 +165,11 @@ module _ (v : View) (id_pool base : ℕ) (owed : Owed) (sum : ℤ) (m : EntryMap
       let enough : n ≤ at_least_nothing (line_available t) = subst (λ o. n ≤ line_gives o) held.1 le in (
         t,
         held.1,
-        line_in_range (pos n) (pos 0) t range (sold_low _ n range.selling) (same_low _ range.buying)
+        line_in_range (pos n) (pos 0) t range (add_natural_nonnegative _ n range.selling) (add_natural_nonnegative _ 0 range.buying)
             (elim (within (line_available t) n enough) [
               | inl none ↦ none_sold t.balance (line_liabilities t).selling n range.covered none
               | inr there ↦ sold_covered t.balance (line_liabilities t).selling n there
-            ]) (same_fits t.balance _ t.limit range.fits),
+            ]) (fits_after_zero t.balance _ t.limit range.fits),
         held.2,
       )
   can_sell n (Some other) held le = held
@@ -224,7 +182,7 @@ module _ (v : View) (id_pool base : ℕ) (owed : Owed) (sum : ℤ) (m : EntryMap
       let room_for : n ≤ at_least_nothing (room a) = subst (λ o. n ≤ account_takes o) held.1 le in (
         a,
         held.1,
-        bound_in_range (pos 0) (pos n) a range (same_low _ range.selling) (sold_low _ n range.buying)
+        bound_in_range (pos 0) (pos n) a range (add_natural_nonnegative _ 0 range.selling) (add_natural_nonnegative _ n range.buying)
             (elim (within (room a) n room_for) [
               | inl none ↦ none_bought a.balance (account_liabilities a).buying greatest_i64 n range.fits none
               | inr there ↦ bought_fits a.balance (account_liabilities a).buying greatest_i64 n there
@@ -236,8 +194,8 @@ module _ (v : View) (id_pool base : ℕ) (owed : Owed) (sum : ℤ) (m : EntryMap
       let room_for : n ≤ at_least_nothing (line_room t) = subst (λ o. n ≤ line_takes o) held.1 le in (
         t,
         held.1,
-        line_in_range (pos 0) (pos n) t range (same_low _ range.selling) (sold_low _ n range.buying)
-            (same_covered _ t.balance range.covered)
+        line_in_range (pos 0) (pos n) t range (add_natural_nonnegative _ 0 range.selling) (add_natural_nonnegative _ n range.buying)
+            (add_zero_at_most _ t.balance range.covered)
             (elim (within (line_room t) n room_for) [
               | inl none ↦ none_bought t.balance (line_liabilities t).buying t.limit n range.fits none
               | inr there ↦ bought_fits t.balance (line_liabilities t).buying t.limit n there
@@ -274,7 +232,7 @@ module _ (v : View) (id_pool base : ℕ) (owed : Owed) (sum : ℤ) (m : EntryMap
       subst (λ o. account_gives base o ≤ unlimited) (sym held.1) (fits_nat (available a base)
       (gives_fits a.balance (available a base) (account_liabilities a).buying
       (not_above_balance v id_pool owed sum m id a base (available a base) legal (covered (key.Account id)) held.1
-      (itself (available a base))) range.buying range.fits))
+      (at_most_refl (available a base))) range.buying range.fits))
   given_fits covered (Some (key.TrustLine id x)) held =
       let t = held.0 in
       let its = line_legal v id_pool owed sum m id x t legal held.1 in

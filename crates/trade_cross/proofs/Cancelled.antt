@@ -1,33 +1,23 @@
 -- That an offer which is removed without a trade leaves a legal state, and that the removal can be worked out.
-use Rattle.std.proofs.Common.{◌≡◌, ℕ, Some}
-use Rattle.std.specs.Prelude.{ℤ, pos, neg_ℤ}
-use Rattle.ledger_types.specs.declared.offer.OfferEntry.{OfferEntry}
-use Rattle.entry_map.specs.EntryMap.{EntryMap}
-use Rattle.entry_slots.specs.Offers.{offer_at}
-use Rattle.legal_rules.specs.Binding.{binding, releasing}
-use Rattle.legal_rules.specs.Books.{View}
-use Rattle.legal_rules.specs.OfferLiabilities.{bound_of}
-use Rattle.legal_rules.specs.OneMore.{IsOwedRightly}
-use Rattle.legal_rules.specs.Owing.{Owed, IsLegalOwing}
-use Rattle.trade_cross.specs.Amounts.{DoesReleaseFit}
-use Rattle.trade_cross.specs.Cancelling.{CancelledOffersKeep, map_after_cancelling}
-use Rattle.trade_cross.specs.Crossable.{IsCrossable}
-use Rattle.trade_cross.specs.Crossing.{seller_gives_at, seller_takes_at}
+use Rattle.trade_cross.proofs.Prelude.{◌≡◌, ℕ, Some, ℤ, pos, neg_ℤ, OfferEntry, EntryMap, offer_at, binding, releasing}
+use Rattle.trade_cross.proofs.Prelude.{View, bound_of, IsOwedRightly, Owed, IsLegalOwing, DoesReleaseFit}
+use Rattle.trade_cross.proofs.Prelude.{CancelledOffersKeep, map_after_cancelling, IsCrossable, seller_gives_at}
+use Rattle.trade_cross.proofs.Prelude.{seller_takes_at}
 use Rattle.trade_cross.proofs.Bonds.{bond_fits, released_within, bought_within}
 use Rattle.trade_cross.proofs.StepLegal.{lets, legal_unsold, offer_gone, release_open}
 
 pub cancelled_keeps : CancelledOffersKeep
-cancelled_keeps v id_pool base owed sum o m legal right stands =
+cancelled_keeps v id_pool base owed sum o m legal right exists =
     offer_gone v id_pool base owed right o sum (releasing o m)
-    (release_open v id_pool base owed right o sum m legal stands)
+    (release_open v id_pool base owed right o sum m legal exists)
 
 pub release_fits : (v : View) (id_pool base : ℕ) (owed : Owed) (right : IsOwedRightly owed) (o : OfferEntry) (sum : ℤ)
     (m : EntryMap) → IsLegalOwing v id_pool owed sum m → offer_at m o.seller_id o.offer_id ≡ Some o
     → DoesReleaseFit o m
-release_fits v id_pool base owed right o sum m legal stands =
-    let can = lets v id_pool base owed right o sum m legal stands in
+release_fits v id_pool base owed right o sum m legal exists =
+    let can = lets v id_pool base owed right o sum m legal exists in
     let unsold = binding (seller_gives_at o) (neg_ℤ (pos (bound_of o).wheat)) (pos 0) m in
-    let legal_then = legal_unsold v id_pool base owed right o sum m legal stands in
+    let legal_then = legal_unsold v id_pool base owed right o sum m legal exists in
     record {
       gives = bond_fits v id_pool owed sum m legal (seller_gives_at o) _ (pos 0) can.0
           (released_within v id_pool owed sum m legal (seller_gives_at o) (bound_of o).wheat);
@@ -37,11 +27,11 @@ release_fits v id_pool base owed right o sum m legal stands =
 
 pub still_crossable : (o : OfferEntry) (m : EntryMap) → IsCrossable m → offer_at m o.seller_id o.offer_id ≡ Some o
     → IsCrossable (map_after_cancelling o m)
-still_crossable o m k stands = record {
+still_crossable o m k exists = record {
   view = k.view;
   id_pool = k.id_pool;
   owed = k.owed;
   sum = k.sum;
-  legal = cancelled_keeps k.view k.id_pool 0 k.owed k.sum o m k.legal k.right stands;
+  legal = cancelled_keeps k.view k.id_pool 0 k.owed k.sum o m k.legal k.right exists;
   right = k.right;
 }

@@ -1,29 +1,13 @@
 -- What is bound and paid where an account has an asset, and an offer that is changed, as changes of one entry.
-use Rattle.std.proofs.Common.{◌≡◌, refl, sym, ap, ℕ, Option, Some, None}
-use Rattle.std.specs.FinMap.{get}
-use Rattle.std.specs.Prelude.{ℤ}
-use Rattle.ledger_types.specs.declared.ids.AccountId.{AccountId}
-use Rattle.ledger_types.specs.declared.asset.TrustLineAsset.{TrustLineAsset}
-use Rattle.ledger_types.specs.declared.account.AccountEntry.{AccountEntry}
-use Rattle.ledger_types.specs.declared.trust_line.TrustLineEntry.{TrustLineEntry}
-use Rattle.ledger_types.specs.declared.offer.OfferEntry.{OfferEntry}
-use Rattle.ledger_types.specs.declared.entry.LedgerEntry.{LedgerEntry}
-use Rattle.ledger_types.specs.declared.entry.LedgerEntryBody.{LedgerEntryBody}
+use Rattle.trade_cross.proofs.Prelude as prelude
+use prelude.{◌≡◌, refl, sym, ap, ℕ, Option, Some, None, get, ℤ, AccountId, TrustLineAsset, AccountEntry, TrustLineEntry}
+use prelude.{OfferEntry, LedgerEntry, LedgerEntryBody, LedgerKey, key_of_body, EntryMap, put, with_account}
+use prelude.{with_account_in, with_account_of, with_line, with_line_in, with_line_of, offer_of, offer_at, with_offer}
+use prelude.{with_offer_in, with_offer_of, binding, bound_account, bound_line, IsKeyed, paid, Change, with_amount}
+use prelude.{offer_key, line_paid, paying, changed_account, changed_line, changing}
 use Rattle.ledger_types.specs.declared.entry.LedgerEntryBody.TheVariants as body
-use Rattle.ledger_types.specs.declared.key.LedgerKey.{LedgerKey}
 use Rattle.ledger_types.specs.declared.key.LedgerKey.TheVariants as key
-use Rattle.ledger_types.specs.Keys.{key_of_body}
-use Rattle.entry_map.specs.EntryMap.{EntryMap, put}
-use Rattle.entry_slots.specs.Accounts.{with_account, with_account_in, with_account_of}
-use Rattle.entry_slots.specs.Lines.{with_line, with_line_in, with_line_of}
-use Rattle.entry_slots.specs.Offers.{offer_in, offer_of, offer_at, with_offer, with_offer_in, with_offer_of}
-use Rattle.legal_rules.specs.Binding.{binding, bound_account, bound_line}
-use Rattle.legal_rules.specs.Holdings.{IsKeyed}
-use Rattle.legal_rules.specs.Payments.{paid}
-use Rattle.trade_cross.specs.declared.holding.Change.{Change}
-use Rattle.trade_cross.specs.Crossing.{with_amount, offer_key}
-use Rattle.trade_cross.specs.Holdings.{line_paid, paying}
-use Rattle.trade_cross.specs.Places.{changed_account, changed_line, changing}
+use Rattle.entry_slots.specs.Offers.{offer_in}
 use Rattle.trade_cross.proofs.Altering.{altered, altered_by, altered_opt, KeepsKeys}
 use Rattle.trade_cross.proofs.Passing.{IsOwnKey}
 
@@ -137,7 +121,7 @@ module _ (m : EntryMap) (keyed : IsKeyed m) where
       line_altered (changed_account change) (changed_line change) id x
   changed_altered owner (Some other) own change = absurd own
 
-  -- an offer that stands gets another amount
+  -- an offer that exists gets another amount
   module _ (n : ℕ) (o : OfferEntry) where
     resized_by_body : (e : LedgerEntry) (b : LedgerEntryBody) → offer_in b ≡ Some o
         → with_offer_in m e (λ was. with_amount n o) b ≡ put m (record e { body = resized_body n b })
@@ -155,4 +139,4 @@ module _ (m : EntryMap) (keyed : IsKeyed m) where
         → with_offer m o.seller_id o.offer_id (λ was. with_amount n o)
         ≡ altered_opt (Some (offer_key o)) (over (resized_body n)) m
     unfolding with_offer offer_at
-    resized_altered stands = resized_by (get m (offer_key o)) stands
+    resized_altered exists = resized_by (get m (offer_key o)) exists

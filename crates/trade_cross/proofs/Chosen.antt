@@ -1,14 +1,7 @@
 -- The book is tried on a child of the map, and kept or undone.
-use Rattle.std.proofs.Common.{◌≡◌, refl, sym, ap, subst, ◌∙◌, true, false, ◌&&◌, Some}
-use Rattle.entry_map.specs.Undo.{Undo, with_current, opened, undone, kept}
-use Rattle.sponsor_rules.specs.declared.context.Ctx.{Ctx}
-use Rattle.trade_cross.specs.declared.crossed.Crossed.{Crossed}
-use Rattle.trade_cross.specs.declared.pool_swap.Swap.{Swap}
-use Rattle.trade_cross.specs.declared.trade.Trade.{Trade}
-use Rattle.trade_cross.specs.Crossing.{Crossing, converted}
-use Rattle.trade_cross.specs.Hop.{swap_of, swapped, hop}
-use Rattle.trade_cross.specs.HopCalls.{amounts_of, is_served_by, is_cheaper_by}
-use Rattle.trade_cross.specs.Progressing.{IsCrossing}
+use Rattle.trade_cross.proofs.Prelude.{◌≡◌, refl, sym, ap, subst, ◌∙◌, true, false, ◌&&◌, Some, Undo, with_current}
+use Rattle.trade_cross.proofs.Prelude.{opened, undone, kept, Ctx, Crossed, Swap, Trade, Crossing, converted, swap_of}
+use Rattle.trade_cross.proofs.Prelude.{swapped, hop, amounts_of, is_served_by, is_cheaper_by, IsCrossing}
 use Rattle.trade_cross.proofs.PoolSwaps.{by_book, by_pool_then}
 
 module _ (ctx : Ctx) (trade : Trade) (old child tried : Undo) (book : Crossed) (swap : Swap)

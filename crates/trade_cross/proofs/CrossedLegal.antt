@@ -1,42 +1,15 @@
 -- Crossing keeps a state legal.
-use Rattle.std.proofs.Common.{◌≡◌, refl, sym, subst, ℕ, ◌+◌, ◌-◌, ◌≤◌, zero, suc, Bool, true, false, Option, Some, None}
-use Rattle.std.proofs.Common.{arith}
-use Rattle.std.proofs.lemmas.Int.{ints}
-use Rattle.std.specs.Prelude.{ℤ, pos, ◌+ℤ◌, if◌then◌else◌}
-use Rattle.ledger_types.specs.declared.offer.OfferEntry.{OfferEntry}
-use Rattle.entry_map.specs.EntryMap.{EntryMap}
-use Rattle.entry_slots.specs.Offers.{offer_at}
-use Rattle.sponsor_rules.specs.Payers.{is_same_account}
-use Rattle.offer_book.specs.Book.{best}
-use Rattle.legal_rules.specs.Books.{View}
-use Rattle.legal_rules.specs.Owing.{Owed, IsLegalOwing}
-use Rattle.trade_cross.specs.declared.crossed.CrossEnd.{CrossEnd}
-use Rattle.trade_cross.specs.declared.crossed.CrossEnd.TheVariants.{Converted, BadPrice, CrossSelf, TooMany}
-use Rattle.trade_cross.specs.declared.trade.Trade.{Trade}
-use Rattle.trade_cross.specs.declared.turn.Turn.{Turn}
-use Rattle.trade_cross.specs.declared.turn.Turn.TheVariants.{Ends, Meets}
-use Rattle.trade_cross.specs.Crossing.{Left}
-use Rattle.trade_cross.specs.Crossing.{is_too_dear, turn_at, is_used_up, turn, Crossing, ended, at_limit, joined}
-use Rattle.trade_cross.specs.Crossing.{left_after}
-use Rattle.trade_cross.specs.Crossing.{Step, step, atom_of, crossed}
-use Rattle.sponsor_rules.proofs.Ids.{apart_accounts}
-use Rattle.trade_cross.specs.Accounts.{Passes}
-use Rattle.legal_rules.specs.OneMore.{IsOwedRightly}
-use Rattle.trade_cross.specs.CrossingLaws.{CrossingKeeps, kept_by, kept_in, more_by, more_in}
-use Rattle.trade_cross.specs.CrossingLaws.{AreTraded, IsOfTrade, bought_in, sold_in}
-use Rattle.std.proofs.lemmas.List.Elements.{All-nil, All-cons}
-use Rattle.std.proofs.Common.{◌≢◌, ◌&&◌}
-use Rattle.std.specs.Ordering.{is_eq}
-use Rattle.std.specs.Cmp.{Equal-is}
-use Rattle.ledger_types.specs.declared.asset.Asset.{Asset}
-use Rattle.ledger_types.specs.KeyOrder.{asset_cmp}
-use Rattle.ledger_types.proofs.KeyOrdering.{assets_exact}
+use Rattle.trade_cross.proofs.Prelude as prelude
+use prelude.{◌≡◌, refl, sym, subst, ℕ, ◌+◌, ◌-◌, ◌≤◌, zero, suc, Bool, true, false, Option, Some, None, arith, ints, ℤ}
+use prelude.{pos, ◌+ℤ◌, if◌then◌else◌, OfferEntry, EntryMap, offer_at, is_same_account, best, View, Owed, IsLegalOwing}
+use prelude.{CrossEnd, Converted, BadPrice, CrossSelf, TooMany, Trade, Turn, Ends, Meets, Left, is_too_dear, turn_at}
+use prelude.{is_used_up, turn, Crossing, ended, at_limit, joined, left_after, Step, step, atom_of, crossed}
+use prelude.{apart_accounts, Passes, IsOwedRightly, CrossingKeeps, kept_by, kept_in, more_by, more_in, AreTraded}
+use prelude.{IsOfTrade, bought_in, sold_in, All-nil, All-cons, ◌≢◌, is_eq, asset_cmp, IsKeyed, Leaves, leaves_itself}
+use prelude.{leaves_both, add_assoc, add_zero, natural_nonnegative, zero_at_most, same_assets, and_parts}
 use Rattle.trade_cross.proofs.Passing.{passes_itself, passes_on}
-use Rattle.legal_rules.specs.Holdings.{IsKeyed}
-use Rattle.legal_rules.proofs.Leaving.{Leaves, leaves_itself, leaves_both}
-use Rattle.legal_rules.proofs.Lows.{natural_low}
 use Rattle.trade_cross.proofs.StepLeft.{step_left, step_passes}
-use Rattle.trade_cross.proofs.Book.{IsInBook, best_stands}
+use Rattle.trade_cross.proofs.Book.{IsInBook, best_exists}
 use Rattle.trade_cross.proofs.StepLegal.{step_legal, step_sheep, step_wheat}
 
 -- ---- what an offer that is met is
@@ -54,7 +27,7 @@ module _ (trade : Trade) (left : Left) (m : EntryMap) (keyed : IsKeyed m) (o : O
   not_own false first own is meets =
       let same : first ≡ o = cc in
       subst (IsMet m trade) same
-      (record { book = best_stands m keyed trade.wheat trade.sheep first is; other = own })
+      (record { book = best_exists m keyed trade.wheat trade.sheep first is; other = own })
 
   not_dear : (t : Bool) (first : OfferEntry) → best m trade.wheat trade.sheep ≡ Some first
       → (if t then Ends BadPrice else if is_same_account first.seller_id trade.taker then Ends CrossSelf
@@ -77,24 +50,8 @@ module _ (trade : Trade) (left : Left) (m : EntryMap) (keyed : IsKeyed m) (o : O
 
 -- ---- the recursion
 
-pub same_asset : (a b : Asset) → is_eq (asset_cmp a b) ≡ true → a ≡ b
-same_asset a b is = assets_exact a b ((Equal-is (asset_cmp a b)).0 is)
-
-pub both_true : (a b : Bool) → (a && b) ≡ true → (a ≡ true) × (b ≡ true)
-both_true true b is = (refl, is)
-both_true false b is = absurd (cc)
-
 summed : (a b : ℕ) (rest : ℤ) → rest ≡ pos b → (pos a +ℤ rest) ≡ pos (a + b)
 summed a b rest is = omega (arith, ints)
-
-plus_none : (x : ℤ) → x ≡ (x +ℤ pos 0)
-plus_none x = omega (arith, ints)
-
-grouped : (x a b : ℤ) → ((x +ℤ a) +ℤ b) ≡ (x +ℤ (a +ℤ b))
-grouped x a b = omega (arith, ints)
-
-none_more_of : (n : ℕ) → 0 ≤ n
-none_more_of n = omega arith
 
 together : (a b n : ℕ) → a ≤ n → b ≤ n - a → a + b ≤ n
 together a b n le rest = omega arith
@@ -115,9 +72,9 @@ module _ (v : View) (id_pool base : ℕ) (owed : Owed) (right : IsOwedRightly ow
   nothing_crossed : (sum : ℤ) (left : Left) (m : EntryMap) (end : CrossEnd)
       → IsLegalOwing v id_pool owed sum m → IsDone sum left m (ended m end)
   nothing_crossed sum left m end legal = record {
-    legal = subst (λ s. IsLegalOwing v id_pool owed s m) (plus_none sum) legal;
-    sheep = none_more_of left.sheep_send;
-    wheat = none_more_of left.wheat_receive;
+    legal = subst (λ s. IsLegalOwing v id_pool owed s m) (sym (add_zero sum)) legal;
+    sheep = zero_at_most left.sheep_send;
+    wheat = zero_at_most left.wheat_receive;
     leaves = leaves_itself base m legal.keyed;
     passes = passes_itself base trade.taker m;
     atoms = record { sheep = refl; wheat = refl; each = All-nil (IsOfTrade trade) };
@@ -130,8 +87,8 @@ module _ (v : View) (id_pool base : ℕ) (owed : Owed) (right : IsOwedRightly ow
 
   module _ (sum : ℤ) (left : Left) (m : EntryMap) (legal : IsLegalOwing v id_pool owed sum m) (o : OfferEntry)
       (its : IsMet m trade o) where
-    abbrev stands : offer_at m o.seller_id o.offer_id ≡ Some o
-    stands = its.book.stands
+    abbrev exists : offer_at m o.seller_id o.offer_id ≡ Some o
+    exists = its.book.exists
 
     abbrev x : Step
     x = step base trade.rounding left o m
@@ -140,19 +97,19 @@ module _ (v : View) (id_pool base : ℕ) (owed : Owed) (right : IsOwedRightly ow
     sum_then = sum +ℤ kept_by v.asset (atom_of o x.amounts)
 
     legal_then : IsLegalOwing v id_pool owed sum_then x.entries
-    legal_then = step_legal v id_pool base owed right o sum m legal stands trade.rounding left
+    legal_then = step_legal v id_pool base owed right o sum m legal exists trade.rounding left
 
     sheep_then : x.amounts.sheep ≤ left.sheep_send
-    sheep_then = step_sheep v id_pool base owed right o sum m legal stands trade.rounding left
+    sheep_then = step_sheep v id_pool base owed right o sum m legal exists trade.rounding left
 
     wheat_then : x.amounts.wheat ≤ left.wheat_receive
-    wheat_then = step_wheat v id_pool base owed right o sum m legal stands trade.rounding left
+    wheat_then = step_wheat v id_pool base owed right o sum m legal exists trade.rounding left
 
     leaves_then : Leaves base (more_by (atom_of o x.amounts)) m x.entries
-    leaves_then = step_left v id_pool base owed right o sum m legal stands trade.rounding left
+    leaves_then = step_left v id_pool base owed right o sum m legal exists trade.rounding left
 
     passes_then : Passes base trade.taker m x.entries
-    passes_then = step_passes v id_pool base owed right o sum m legal stands trade.rounding left trade.taker
+    passes_then = step_passes v id_pool base owed right o sum m legal exists trade.rounding left trade.taker
         (λ same. apart_accounts o.seller_id trade.taker its.other (sym same))
 
     not_taker : o.seller_id ≢ trade.taker
@@ -161,19 +118,19 @@ module _ (v : View) (id_pool base : ℕ) (owed : Owed) (right : IsOwedRightly ow
     first_atom : IsOfTrade trade (atom_of o x.amounts)
     first_atom = (
       not_taker,
-      same_asset o.selling trade.wheat (both_true (is_eq (asset_cmp o.selling trade.wheat))
+      same_assets o.selling trade.wheat (and_parts (is_eq (asset_cmp o.selling trade.wheat))
           (is_eq (asset_cmp o.buying trade.sheep)) its.book.pair).0,
-      same_asset o.buying trade.sheep (both_true (is_eq (asset_cmp o.selling trade.wheat))
+      same_assets o.buying trade.sheep (and_parts (is_eq (asset_cmp o.selling trade.wheat))
           (is_eq (asset_cmp o.buying trade.sheep)) its.book.pair).1,
-      natural_low x.amounts.wheat,
-      natural_low x.amounts.sheep,
+      natural_nonnegative x.amounts.wheat,
+      natural_nonnegative x.amounts.sheep,
     )
 
     with_rest : (rest : Crossing) → IsDone sum_then (left_after left x.amounts) x.entries rest
         → IsDone sum left m (joined o x.amounts rest)
     with_rest rest h = record {
       legal = subst (λ s. IsLegalOwing v id_pool owed s rest.entries)
-          (grouped sum (kept_by v.asset (atom_of o x.amounts)) (kept_in v.asset rest.atoms)) h.legal;
+          (add_assoc sum (kept_by v.asset (atom_of o x.amounts)) (kept_in v.asset rest.atoms)) h.legal;
       sheep = together x.amounts.sheep rest.sheep left.sheep_send sheep_then h.sheep;
       wheat = together x.amounts.wheat rest.wheat left.wheat_receive wheat_then h.wheat;
       leaves = leaves_both base (more_by (atom_of o x.amounts)) (more_in rest.atoms) m x.entries rest.entries
@@ -227,7 +184,7 @@ crossing_keeps v id_pool base owed sum trade crossings left m legal right =
       wheat = done.wheat;
       holds = done.leaves.holds;
       accounts = done.leaves.each;
-      stand = done.leaves.stand;
+      exist = done.leaves.exist;
       passes = done.passes;
       atoms = done.atoms;
     }

@@ -1,38 +1,19 @@
 -- Who sells or buys by an offer has an extension that says so: liabilities fall and rise there as one number does.
-use Rattle.std.proofs.Common.{◌≡◌, ◌≢◌, refl, sym, ap, subst, ◌∙◌, ℕ, ◌≤◌, Option, Some, None, arith}
-use Rattle.std.proofs.lemmas.Int.{ints}
-use Rattle.std.specs.Prelude.{ℤ, pos, neg_ℤ, ◌+ℤ◌, ◌≤ℤ◌}
-use Rattle.std.specs.FinMap.{get}
-use Rattle.ledger_types.specs.declared.price.Liabilities.{Liabilities}
-use Rattle.ledger_types.specs.declared.account.AccountEntry.{AccountEntry}
-use Rattle.ledger_types.specs.declared.account.AccountEntryExtensionV1.{AccountEntryExtensionV1}
-use Rattle.ledger_types.specs.declared.trust_line.TrustLineEntry.{TrustLineEntry}
-use Rattle.ledger_types.specs.declared.trust_line.TrustLineEntryExtensionV1.{TrustLineEntryExtensionV1}
-use Rattle.ledger_types.specs.declared.entry.LedgerEntry.{LedgerEntry}
-use Rattle.ledger_types.specs.declared.entry.LedgerEntryBody.{LedgerEntryBody}
+use Rattle.trade_cross.proofs.Prelude as prelude
+use prelude.{◌≡◌, ◌≢◌, refl, sym, ap, subst, ◌∙◌, ℕ, ◌≤◌, Option, Some, None, arith, ints, ℤ, pos, neg_ℤ, ◌+ℤ◌, ◌≤ℤ◌}
+use prelude.{get, Liabilities, AccountEntry, AccountEntryExtensionV1, TrustLineEntry, TrustLineEntryExtensionV1}
+use prelude.{LedgerEntry, LedgerEntryBody, LedgerKey, EntryMap, account_in, account_of, account_at, liabilities_in}
+use prelude.{with_liabilities_in, account_liabilities, line_in, line_of, line_at, line_liabilities_in}
+use prelude.{with_line_liabilities_in, line_liabilities, risen, bound_account, bound_line, CanBind, paid, stored}
+use prelude.{line_stored, Change, line_paid, changed_account, changed_line, add_assoc_to}
 use Rattle.ledger_types.specs.declared.entry.LedgerEntryBody.TheVariants as body
-use Rattle.ledger_types.specs.declared.key.LedgerKey.{LedgerKey}
 use Rattle.ledger_types.specs.declared.key.LedgerKey.TheVariants as key
-use Rattle.entry_map.specs.EntryMap.{EntryMap}
-use Rattle.entry_slots.specs.Accounts.{account_in, account_of, account_at}
-use Rattle.entry_slots.specs.AccountExtensions.{liabilities_in, with_liabilities_in, account_liabilities}
-use Rattle.entry_slots.specs.Lines.{line_in, line_of, line_at}
-use Rattle.entry_slots.specs.LineExtensions.{line_liabilities_in, with_line_liabilities_in, line_liabilities}
-use Rattle.legal_rules.specs.Binding.{risen, bound_account, bound_line, CanBind}
-use Rattle.legal_rules.specs.Payments.{paid}
-use Rattle.legal_rules.proofs.Liable.{stored, line_stored}
-use Rattle.trade_cross.specs.declared.holding.Change.{Change}
-use Rattle.trade_cross.specs.Holdings.{line_paid}
-use Rattle.trade_cross.specs.Places.{changed_account, changed_line}
 use Rattle.trade_cross.proofs.Changing.{holding_body, bound_entry, paid_entry, changed_entry}
 
 -- ---- twice
 
 abbrev pub change_of : (balance selling buying : ℤ) → Change
 change_of balance selling buying = record { balance = balance; selling = selling; buying = buying }
-
-summed : (x s t u : ℤ) → (s +ℤ t) ≡ u → ((x +ℤ s) +ℤ t) ≡ (x +ℤ u)
-summed x s t u is = omega (arith, ints)
 
 -- an extension that says what is bound
 abbrev pub IsExtended : LedgerEntryBody → Type 0
@@ -42,7 +23,7 @@ IsExtended other = Unit {0}
 
 module _ (s t u b c d : ℤ) (selling : (s +ℤ t) ≡ u) (buying : (b +ℤ c) ≡ d) where
   both_risen : (l : Liabilities) → risen t c (risen s b l) ≡ risen u d l
-  both_risen l = λ i. record { buying = summed l.buying b c d buying i; selling = summed l.selling s t u selling i }
+  both_risen l = λ i. record { buying = add_assoc_to l.buying b c d buying i; selling = add_assoc_to l.selling s t u selling i }
 
   account_twice : (x : Option AccountEntryExtensionV1) → x ≢ None
       → with_liabilities_in (risen t c (liabilities_in (with_liabilities_in (risen s b (liabilities_in x)) x)))

@@ -1,25 +1,10 @@
 -- That the sums of the changes by which an offer is crossed fit 64 bits.
-use Rattle.std.proofs.Common.{◌≡◌, refl, sym, ap, subst, ◌∙◌, Option, Some, None, arith}
-use Rattle.std.proofs.lemmas.Int.{ints}
-use Rattle.std.specs.Prelude.{ℤ, pos, ◌+ℤ◌, ◌≤ℤ◌}
-use Rattle.ledger_types.specs.declared.ids.AccountId.{AccountId}
-use Rattle.ledger_types.specs.declared.asset.TrustLineAsset.{TrustLineAsset}
-use Rattle.ledger_types.specs.declared.price.Liabilities.{Liabilities}
-use Rattle.ledger_types.specs.declared.account.AccountEntry.{AccountEntry}
-use Rattle.ledger_types.specs.declared.trust_line.TrustLineEntry.{TrustLineEntry}
-use Rattle.ledger_types.specs.declared.key.LedgerKey.{LedgerKey}
+use Rattle.trade_cross.proofs.Prelude.{◌≡◌, refl, sym, ap, subst, ◌∙◌, Option, Some, None, arith, ints, ℤ, pos, ◌+ℤ◌}
+use Rattle.trade_cross.proofs.Prelude.{◌≤ℤ◌, AccountId, TrustLineAsset, Liabilities, AccountEntry, TrustLineEntry}
+use Rattle.trade_cross.proofs.Prelude.{LedgerKey, EntryMap, account_at, account_liabilities, line_at, line_liabilities}
+use Rattle.trade_cross.proofs.Prelude.{greatest_i64, IsInRange, IsLineInRange, risen, IsKeyed, stored, line_stored}
+use Rattle.trade_cross.proofs.Prelude.{Change, DoSumsFit, DoesChangeFit, changed_account, changed_line, changing}
 use Rattle.ledger_types.specs.declared.key.LedgerKey.TheVariants as key
-use Rattle.entry_map.specs.EntryMap.{EntryMap}
-use Rattle.entry_slots.specs.Accounts.{account_at}
-use Rattle.entry_slots.specs.AccountExtensions.{account_liabilities}
-use Rattle.entry_slots.specs.Lines.{line_at}
-use Rattle.entry_slots.specs.LineExtensions.{line_liabilities}
-use Rattle.reserve_rules.specs.Reserve.{greatest_i64, IsInRange, IsLineInRange}
-use Rattle.legal_rules.specs.Binding.{risen}
-use Rattle.legal_rules.specs.Holdings.{IsKeyed}
-use Rattle.legal_rules.proofs.Liable.{stored, line_stored}
-use Rattle.trade_cross.specs.declared.holding.Change.{Change}
-use Rattle.trade_cross.specs.Places.{DoSumsFit, DoesChangeFit, changed_account, changed_line, changing}
 use Rattle.trade_cross.proofs.Altering.{AreApart, altered_opt, opt_keyed}
 use Rattle.trade_cross.proofs.Changing.{changed_entry, changed_keeps, changed_altered}
 use Rattle.trade_cross.proofs.Passing.{IsOwnKey}
@@ -100,14 +85,14 @@ module _ (m : EntryMap) (keyed : IsKeyed m) (owner : AccountId) (w s : Option Le
 
   first_by : (k : Option LedgerKey) → w ≡ k → SellsWithin c w → DoesChangeFit m k c
   first_by None is high = tt
-  first_by (Some (key.Account id)) is high = λ a stands.
+  first_by (Some (key.Account id)) is high = λ a exists.
       account_fits c a (range.accounts id (changed_account c a) (ap (λ n. account_at n id) both_is
       ∙ account_first m keyed w s apart (changed_account c) (changed_account d) (changed_line c) (changed_line d)
-      (changed_keeps c) (changed_keeps d) id a is stands)) (high id a is stands)
-  first_by (Some (key.TrustLine id x)) is high = λ t stands.
+      (changed_keeps c) (changed_keeps d) id a is exists)) (high id a is exists)
+  first_by (Some (key.TrustLine id x)) is high = λ t exists.
       let its = range.lines id x (changed_line c t) (ap (λ n. line_at n id x) both_is
       ∙ line_first m keyed w s apart (changed_account c) (changed_account d) (changed_line c) (changed_line d)
-      (changed_keeps c) (changed_keeps d) id x t is stands) in
+      (changed_keeps c) (changed_keeps d) id x t is exists) in
       line_fits c t its.0 its.1
   first_by (Some other) is high = tt
 
@@ -116,15 +101,15 @@ module _ (m : EntryMap) (keyed : IsKeyed m) (owner : AccountId) (w s : Option Le
 
   second_by : (k : Option LedgerKey) → s ≡ k → SellsWithin d s → DoesChangeFit first k d
   second_by None is high = tt
-  second_by (Some (key.Account id)) is high = λ a stands.
+  second_by (Some (key.Account id)) is high = λ a exists.
       let before = sym (account_elsewhere m keyed w (changed_entry c) (changed_keeps c) id
-      (λ same. apart (key.Account id) same is)) ∙ stands in
+      (λ same. apart (key.Account id) same is)) ∙ exists in
       account_fits d a (range.accounts id (changed_account d a) (ap (λ n. account_at n id) both_is
       ∙ account_second m keyed w s apart (changed_account c) (changed_account d) (changed_line c) (changed_line d)
       (changed_keeps c) (changed_keeps d) id a is before)) (high id a is before)
-  second_by (Some (key.TrustLine id x)) is high = λ t stands.
+  second_by (Some (key.TrustLine id x)) is high = λ t exists.
       let before = sym (line_elsewhere m keyed w (changed_entry c) (changed_keeps c) id x
-      (λ same. apart (key.TrustLine id x) same is)) ∙ stands in
+      (λ same. apart (key.TrustLine id x) same is)) ∙ exists in
       let its = range.lines id x (changed_line d t) (ap (λ n. line_at n id x) both_is
       ∙ line_second m keyed w s apart (changed_account c) (changed_account d) (changed_line c) (changed_line d)
       (changed_keeps c) (changed_keeps d) id x t is before) in

@@ -1,27 +1,11 @@
--- What stands under the keys under which accounts have their assets, and what changes leave of it.
-use Rattle.std.proofs.Common.{◌≡◌, ◌≢◌, refl, sym, ap, subst, ◌∙◌, ◌%◌, true, false, Option, Some, None}
-use Rattle.std.specs.FinMap.{get}
-use Rattle.ledger_types.specs.declared.ids.AccountId.{AccountId}
-use Rattle.ledger_types.specs.declared.asset.TrustLineAsset.{TrustLineAsset}
-use Rattle.ledger_types.specs.declared.account.AccountEntry.{AccountEntry}
-use Rattle.ledger_types.specs.declared.trust_line.TrustLineEntry.{TrustLineEntry}
-use Rattle.ledger_types.specs.declared.entry.LedgerEntry.{LedgerEntry}
-use Rattle.ledger_types.specs.declared.key.LedgerKey.{LedgerKey}
+-- What is under the keys under which accounts have their assets, and what changes leave of it.
+use Rattle.trade_cross.proofs.Prelude as prelude
+use prelude.{◌≡◌, ◌≢◌, refl, sym, ap, subst, ◌∙◌, ◌%◌, true, false, Option, Some, None, get, AccountId, TrustLineAsset}
+use prelude.{AccountEntry, TrustLineEntry, LedgerEntry, LedgerKey, key_of_body, EntryMap, put, same_itself, account_of}
+use prelude.{account_at, with_account, line_of, line_at, with_line, is_key, line_entry, with_line_is, with_line_body}
+use prelude.{IsLineEntry, account_after, account_elsewhere, kept_elsewhere, is_same_account, same_account}
+use prelude.{apart_accounts, IsHeld, Related, IsKeyed, keyed_put, put_elsewhere, put_there, same_keys}
 use Rattle.ledger_types.specs.declared.key.LedgerKey.TheVariants as key
-use Rattle.ledger_types.specs.Keys.{key_of_body}
-use Rattle.entry_map.specs.EntryMap.{EntryMap, put}
-use Rattle.entry_map.proofs.KeyMaps.{same_keys, same_itself}
-use Rattle.entry_slots.specs.Accounts.{account_of, account_at, with_account}
-use Rattle.entry_slots.specs.Lines.{line_of, line_at, with_line}
-use Rattle.legal_rules.proofs.entry_sums_proofs.Lookups.{put_elsewhere, put_there}
-use Rattle.legal_rules.specs.EntryKeys.{is_key}
-use Rattle.legal_rules.proofs.Liable.{line_entry, with_line_is, with_line_body, IsLineEntry}
-use Rattle.legal_rules.proofs.Places.{account_after, account_elsewhere, kept_elsewhere}
-use Rattle.sponsor_rules.specs.Payers.{is_same_account}
-use Rattle.sponsor_rules.proofs.Ids.{same_account, apart_accounts}
-use Rattle.trade_cross.specs.Accounts.{IsHeld, Related}
-use Rattle.legal_rules.specs.Holdings.{IsKeyed}
-use Rattle.legal_rules.proofs.Leaving.{keyed_put}
 
 -- ---- one thing before and after
 
@@ -49,23 +33,23 @@ pub record Relates (R : AccountEntry → AccountEntry → Type 0) (S : TrustLine
 module _ (R : AccountEntry → AccountEntry → Type 0) (S : TrustLineEntry → TrustLineEntry → Type 0)
     (same_a : (a : AccountEntry) → R a a) (same_t : (t : TrustLineEntry) → S t t) (m : EntryMap)
     (keyed : IsKeyed m) where
-  module _ (id : AccountId) (f : AccountEntry → AccountEntry) (a : AccountEntry) (stands : account_at m id ≡ Some a)
+  module _ (id : AccountId) (f : AccountEntry → AccountEntry) (a : AccountEntry) (exists : account_at m id ≡ Some a)
       (named : (f a).account_id ≡ a.account_id) (h : R a (f a)) where
     account_by : (other : AccountId) → Related R (account_at m other) (account_at (with_account m id f) other)
     account_by other = elim (is_same_account other id) as (λ t. is_same_account other id ≡ t
         → Related R (account_at m other) (account_at (with_account m id f) other)) [
           | true ↦ λ is.
               let same = same_account other id is in
-              related_some R _ _ a (f a) (ap (account_at m) same ∙ stands)
-              (ap (account_at (with_account m id f)) same ∙ account_after m id f a keyed stands named) h
+              related_some R _ _ a (f a) (ap (account_at m) same ∙ exists)
+              (ap (account_at (with_account m id f)) same ∙ account_after m id f a keyed exists named) h
           | false ↦ λ is. related_same R same_a _ _
-              (sym (account_elsewhere m id f a keyed stands named other (apart_accounts other id is)))
+              (sym (account_elsewhere m id f a keyed exists named other (apart_accounts other id is)))
         ] refl
 
     pub line_beside : (other : AccountId) (held : TrustLineAsset)
         → line_at (with_account m id f) other held ≡ line_at m other held
     unfolding line_at
-    line_beside other held = ap line_of (kept_elsewhere m id f a keyed stands named (key.TrustLine other held)
+    line_beside other held = ap line_of (kept_elsewhere m id f a keyed exists named (key.TrustLine other held)
         (λ same. absurd (cc)))
 
     pub account_relates : Relates R S m (with_account m id f)
@@ -77,7 +61,7 @@ module _ (R : AccountEntry → AccountEntry → Type 0) (S : TrustLineEntry → 
   -- ---- a line that is changed
 
   module _ (id : AccountId) (held : TrustLineAsset) (g : TrustLineEntry → TrustLineEntry) (t : TrustLineEntry)
-      (stands : line_at m id held ≡ Some t) (owned : (g t).account_id ≡ t.account_id) (its : (g t).asset ≡ t.asset)
+      (exists : line_at m id held ≡ Some t) (owned : (g t).account_id ≡ t.account_id) (its : (g t).asset ≡ t.asset)
       (h : S t (g t)) where
     abbrev now : EntryMap
     now = with_line m id held g
@@ -87,7 +71,7 @@ module _ (R : AccountEntry → AccountEntry → Type 0) (S : TrustLineEntry → 
 
     line_key : key.TrustLine (g t).account_id (g t).asset ≡ its_key
     line_key =
-        let found = line_entry m id held t stands in
+        let found = line_entry m id held t exists in
         (λ i. key.TrustLine (owned i) (its i)) ∙ sym (ap key_of_body found.1.is) ∙ keyed its_key found.0 found.1.there
 
     now_is : (e : LedgerEntry) → IsLineEntry m id held t e → now ≡ put m (with_line_body e (g t))
@@ -95,14 +79,14 @@ module _ (R : AccountEntry → AccountEntry → Type 0) (S : TrustLineEntry → 
 
     pub line_keeps : (k : LedgerKey) → k ≢ its_key → get now k ≡ get m k
     line_keeps k apart =
-        let found = line_entry m id held t stands in
+        let found = line_entry m id held t exists in
         ap (λ n. get n k) (now_is found.0 found.1)
         ∙ put_elsewhere m (with_line_body found.0 (g t)) k (λ same. apart (same ∙ line_key))
 
     line_there : line_at now id held ≡ Some (g t)
     unfolding line_at
     line_there =
-        let found = line_entry m id held t stands in
+        let found = line_entry m id held t exists in
         ap (λ n. line_of (get n its_key)) (now_is found.0 found.1)
         ∙ ap (λ k. line_of (get (put m (with_line_body found.0 (g t))) k)) (sym line_key)
         ∙ ap line_of (put_there m (with_line_body found.0 (g t)))
@@ -122,7 +106,7 @@ module _ (R : AccountEntry → AccountEntry → Type 0) (S : TrustLineEntry → 
         → Related S (line_at m other x) (line_at now other x)) [
           | true ↦ λ is.
               let same = same_keys _ _ is in
-              related_some S _ _ t (g t) (at m same ∙ stands) (at now same ∙ line_there) h
+              related_some S _ _ t (g t) (at m same ∙ exists) (at now same ∙ line_there) h
           | false ↦ λ is. related_same S same_t _ _ (sym (line_elsewhere other x (λ same.
               let tied : is_key (key.TrustLine other x) its_key ≡ true = ap (λ k. is_key k its_key) same
               ∙ same_itself its_key in absurd (cc))))
@@ -139,7 +123,7 @@ module _ (R : AccountEntry → AccountEntry → Type 0) (S : TrustLineEntry → 
 
     pub line_still_keyed : IsKeyed now
     line_still_keyed =
-        let found = line_entry m id held t stands in
+        let found = line_entry m id held t exists in
         subst IsKeyed (sym (now_is found.0 found.1)) (keyed_put m (with_line_body found.0 (g t)) keyed)
 
 -- ---- what is held is held still

@@ -1,17 +1,10 @@
 -- An account has two assets under two keys.
-use Rattle.std.proofs.Common.{◌≡◌, ◌≢◌, sym, ap, subst, ◌∙◌, Bool, true, false, Option, Some, None}
-use Rattle.std.specs.Prelude.{if◌then◌else◌}
-use Rattle.ledger_types.specs.declared.ids.AccountId.{AccountId}
-use Rattle.ledger_types.specs.declared.asset.Asset.{Asset}
+use Rattle.trade_cross.proofs.Prelude.{◌≡◌, ◌≢◌, sym, ap, subst, ◌∙◌, Bool, true, false, Option, Some, None}
+use Rattle.trade_cross.proofs.Prelude.{if◌then◌else◌, AccountId, Asset, TrustLineAsset, LedgerKey, is_same_account}
+use Rattle.trade_cross.proofs.Prelude.{holder, offer_key, OfferEntry}
 use Rattle.ledger_types.specs.declared.asset.Asset.TheVariants as asset
-use Rattle.ledger_types.specs.declared.asset.TrustLineAsset.{TrustLineAsset}
 use Rattle.ledger_types.specs.declared.asset.TrustLineAsset.TheVariants as line
-use Rattle.ledger_types.specs.declared.key.LedgerKey.{LedgerKey}
 use Rattle.ledger_types.specs.declared.key.LedgerKey.TheVariants as key
-use Rattle.sponsor_rules.specs.Payers.{is_same_account}
-use Rattle.legal_rules.specs.Trades.{holder}
-use Rattle.trade_cross.specs.Crossing.{offer_key}
-use Rattle.ledger_types.specs.declared.offer.OfferEntry.{OfferEntry}
 use Rattle.trade_cross.proofs.Altering.{AreApart}
 use Rattle.trade_cross.proofs.Passing.{IsOwnKey, holder_own}
 

@@ -1,32 +1,12 @@
 -- A hop keeps a state legal, by the book and by the pool.
-use Rattle.std.proofs.Common.{◌≡◌, refl, sym, subst, ℕ, ◌+◌, ◌<◌, ◌≤◌, zero, suc, Bool, true, false}
-use Rattle.std.proofs.Common.{inl, inr, List, [], ◌∷◌, length, arith}
-use Rattle.std.proofs.lemmas.Int.{ints}
-use Rattle.std.proofs.lemmas.List.Elements.{All-nil, All-cons}
-use Rattle.std.specs.Prelude.{ℤ, pos, ◌≤ℤ◌, unsigned_abs, if◌then◌else◌}
-use Rattle.ledger_types.specs.declared.claim_atom.ClaimAtom.{ClaimAtom}
+use Rattle.trade_cross.proofs.Prelude as prelude
+use prelude.{◌≡◌, refl, sym, subst, ℕ, ◌+◌, ◌<◌, ◌≤◌, zero, suc, Bool, true, false, inl, inr, List, [], ◌∷◌, length}
+use prelude.{arith, ints, All-nil, All-cons, ℤ, pos, ◌≤ℤ◌, unsigned_abs, if◌then◌else◌, ClaimAtom, OfferEntry, EntryMap}
+use prelude.{Ctx, Rounding, Normal, StrictSend, StrictReceive, Amounts, unlimited, greatest, View, IsOwedRightly, Owed}
+use prelude.{IsLegalOwing, Converted, Trade, Turn, Ends, Meets, Left, Crossing, step, turn, ended, joined, at_limit}
+use prelude.{left_after, crossed, converted, atom_of, left_of, IsOfTrade, is_sheep_first, pool_of_pair, sheep_in}
+use prelude.{wheat_in, pool_atom, swapped, hop, add_zero, natural_nonnegative, suc_at_most_suc, zero_at_most}
 use Rattle.ledger_types.specs.declared.claim_atom.ClaimAtom.TheVariants as atom
-use Rattle.ledger_types.specs.declared.offer.OfferEntry.{OfferEntry}
-use Rattle.entry_map.specs.EntryMap.{EntryMap}
-use Rattle.sponsor_rules.specs.declared.context.Ctx.{Ctx}
-use Rattle.offer_exchange.specs.declared.rounding.Rounding.{Rounding}
-use Rattle.offer_exchange.specs.declared.rounding.Rounding.TheVariants.{Normal, StrictSend, StrictReceive}
-use Rattle.offer_exchange.specs.Exchange.{Amounts, unlimited}
-use Rattle.pool_math.specs.Pools.{greatest}
-use Rattle.legal_rules.specs.Books.{View}
-use Rattle.legal_rules.specs.OneMore.{IsOwedRightly}
-use Rattle.legal_rules.specs.Owing.{Owed, IsLegalOwing}
-use Rattle.legal_rules.proofs.Lows.{natural_low}
-use Rattle.legal_rules.proofs.Numbers.{plus_nothing}
-use Rattle.trade_cross.specs.declared.crossed.CrossEnd.TheVariants.{Converted}
-use Rattle.trade_cross.specs.declared.trade.Trade.{Trade}
-use Rattle.trade_cross.specs.declared.turn.Turn.{Turn}
-use Rattle.trade_cross.specs.declared.turn.Turn.TheVariants.{Ends, Meets}
-use Rattle.trade_cross.specs.Crossing.{Left, Crossing, step, turn, ended, joined, at_limit, left_after, crossed}
-use Rattle.trade_cross.specs.Crossing.{converted, atom_of, left_of}
-use Rattle.trade_cross.specs.CrossingLaws.{IsOfTrade}
-use Rattle.trade_cross.specs.Hop.{is_sheep_first, pool_of_pair, sheep_in, wheat_in, pool_atom, swapped}
-use Rattle.trade_cross.specs.Hop.{hop}
 use Rattle.trade_cross.specs.HopLaws.{crossings_in, IsBoundedOnce, IsHopTrade, DoPoolReservesFit, IsOfHop, IsHopped}
 use Rattle.trade_cross.specs.HopLaws.{HopKeeps}
 use Rattle.trade_cross.proofs.CrossedLegal.{crossing_keeps}
@@ -44,18 +24,12 @@ pub record AreFew (k : ℕ) (atoms : List ClaimAtom) : Type 0 where
 none_few : (k : ℕ) → AreFew k []
 none_few k = record { crossings = omega arith; length = omega arith }
 
-one_more : (a k : ℕ) → a ≤ k → suc a ≤ suc k
-one_more a k le = omega arith
-
-up_to : (k : ℕ) → 0 ≤ k
-up_to k = omega arith
-
 module _ (base : ℕ) (trade : Trade) where
   with_first : (k : ℕ) (o : OfferEntry) (a : Amounts) (rest : List ClaimAtom) → AreFew k rest
       → AreFew (suc k) (atom_of o a ∷ rest)
   with_first k o a rest h = record {
-    crossings = one_more (crossings_in rest) k h.crossings;
-    length = one_more (length rest) k h.length;
+    crossings = suc_at_most_suc (crossings_in rest) k h.crossings;
+    length = suc_at_most_suc (length rest) k h.length;
   }
 
   limited : (m : EntryMap) (t : Turn) → AreFew 0 (at_limit m t).atoms
@@ -98,8 +72,8 @@ at_unlimited z n is le = omega (arith, ints)
 within_sum : (x n most : ℕ) → x + n ≤ most → n ≤ most
 within_sum x n most le = omega arith
 
-at_most : (a b : ℕ) → a ≡ b → a ≤ b
-at_most a b is = omega arith
+at_most_from_equal : (a b : ℕ) → a ≡ b → a ≤ b
+at_most_from_equal a b is = omega arith
 
 below_all : (n : ℕ) (y : ℤ) → n < unsigned_abs y → pos 0 ≤ℤ y → y ≤ℤ pos unlimited → n ≤ greatest
 below_all n y less low le = omega (arith, ints)
@@ -109,9 +83,9 @@ one_atom k = omega arith
 
 -- ---- the book and the pool
 
-of_book : (trade : Trade) (x : ClaimAtom) → IsOfTrade trade x → IsOfHop trade x
-of_book trade (atom.LiquidityPool pool sold amount_sold bought amount_bought) its = absurd its
-of_book trade other its = its
+pub trade_is_of_hop : (trade : Trade) (x : ClaimAtom) → IsOfTrade trade x → IsOfHop trade x
+trade_is_of_hop trade (atom.LiquidityPool pool sold amount_sold bought amount_bought) its = absurd its
+trade_is_of_hop trade other its = its
 
 module _ (v : View) (id_pool : ℕ) (owed : Owed) (sum : ℤ) (ctx : Ctx) (trade : Trade) (m : EntryMap)
     (asks : IsHopTrade trade) (legal : IsLegalOwing v id_pool owed sum m) (right : IsOwedRightly owed) where
@@ -134,11 +108,11 @@ module _ (v : View) (id_pool : ℕ) (owed : Owed) (sum : ℤ) (ctx : Ctx) (trade
         wheat = λ fit. h.wheat;
         holds = h.holds;
         accounts = h.accounts;
-        stand = h.stand;
+        exist = h.exist;
         atoms = record {
           sheep = h.atoms.sheep;
           wheat = h.atoms.wheat;
-          each = λ k d lt. of_book trade _ (h.atoms.each k d lt);
+          each = λ k d lt. trade_is_of_hop trade _ (h.atoms.each k d lt);
           crossings = few.crossings;
           few = one_up (length book.atoms) trade.crossings few.length;
         };
@@ -151,24 +125,24 @@ module _ (v : View) (id_pool : ℕ) (owed : Owed) (sum : ℤ) (ctx : Ctx) (trade
 
     sheep_within : (r : Rounding) → IsBoundedOnce r trade → IsMet r left a → a.sheep ≤ greatest
         → a.sheep ≤ left.sheep_send
-    sheep_within StrictSend once met fits = at_most a.sheep left.sheep_send met
+    sheep_within StrictSend once met fits = at_most_from_equal a.sheep left.sheep_send met
     sheep_within Normal once met fits = at_unlimited trade.sheep_send a.sheep once fits
     sheep_within StrictReceive once met fits = at_unlimited trade.sheep_send a.sheep once fits
 
     wheat_within : (r : Rounding) → IsBoundedOnce r trade → IsMet r left a → a.wheat ≤ greatest
         → a.wheat ≤ left.wheat_receive
     wheat_within StrictSend once met fits = at_unlimited trade.wheat_receive a.wheat once fits
-    wheat_within Normal once met fits = at_most a.wheat left.wheat_receive met
-    wheat_within StrictReceive once met fits = at_most a.wheat left.wheat_receive met
+    wheat_within Normal once met fits = at_most_from_equal a.wheat left.wheat_receive met
+    wheat_within StrictReceive once met fits = at_most_from_equal a.wheat left.wheat_receive met
 
     fits_by : DoPoolReservesFit trade m → (t : Bool)
         → a.wheat < unsigned_abs (if t then its.pool.reserve_b else its.pool.reserve_a) → a.wheat ≤ greatest
     fits_by fit true less = below_all a.wheat its.pool.reserve_b less
-        (pool_legal v id_pool owed sum m (pool_of_pair trade) its.pool legal its.stands).range.reserve_b
-        (fit.b its.pool its.stands)
+        (pool_legal v id_pool owed sum m (pool_of_pair trade) its.pool legal its.exists).range.reserve_b
+        (fit.b its.pool its.exists)
     fits_by fit false less = below_all a.wheat its.pool.reserve_a less
-        (pool_legal v id_pool owed sum m (pool_of_pair trade) its.pool legal its.stands).range.reserve_a
-        (fit.a its.pool its.stands)
+        (pool_legal v id_pool owed sum m (pool_of_pair trade) its.pool legal its.exists).range.reserve_a
+        (fit.a its.pool its.exists)
 
     pool_kept : IsHopped v id_pool base owed sum trade m (swapped trade a m)
     pool_kept =
@@ -180,13 +154,13 @@ module _ (v : View) (id_pool : ℕ) (owed : Owed) (sum : ℤ) (ctx : Ctx) (trade
           wheat = λ fit. wheat_within trade.rounding asks.once does.1 (fits_by fit (is_sheep_first trade) does.0.left);
           holds = made.leaves.holds;
           accounts = made.leaves.each;
-          stand = made.leaves.stand;
+          exist = made.leaves.exist;
           atoms = record {
-            sheep = plus_nothing (pos a.sheep);
-            wheat = plus_nothing (pos a.wheat);
+            sheep = add_zero (pos a.sheep);
+            wheat = add_zero (pos a.wheat);
             each = All-cons (IsOfHop trade) (pool_atom trade a) []
-                (refl, refl, refl, natural_low a.wheat, natural_low a.sheep) (All-nil (IsOfHop trade));
-            crossings = up_to trade.crossings;
+                (refl, refl, refl, natural_nonnegative a.wheat, natural_nonnegative a.sheep) (All-nil (IsOfHop trade));
+            crossings = zero_at_most trade.crossings;
             few = one_atom trade.crossings;
           };
           end = λ served. refl;

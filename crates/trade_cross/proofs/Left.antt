@@ -1,52 +1,23 @@
 -- What crossing leaves: what entries hold, and no less available of accounts than before, unless enough is.
-use Rattle.std.proofs.Common.{◌≡◌, ◌⊎◌, inl, inr, refl, sym, ap, subst, ◌∙◌, ℕ, ◌+◌, ◌≤◌, Bool, true, false}
-use Rattle.std.proofs.Common.{Option, Some, None, arith}
-use Rattle.std.proofs.lemmas.Int.{ints}
-use Rattle.std.specs.Prelude.{ℤ, pos, neg_ℤ, ◌+ℤ◌, ◌-ℤ◌, ◌*ℤ◌, ◌≤ℤ◌, if◌then◌else◌}
-use Rattle.std.specs.FinMap.{get}
-use Rattle.ledger_types.specs.declared.ids.AccountId.{AccountId}
-use Rattle.ledger_types.specs.declared.asset.Asset.{Asset}
+use Rattle.trade_cross.proofs.Prelude as prelude
+use prelude.{◌≡◌, ◌⊎◌, inl, inr, refl, sym, ap, subst, ◌∙◌, ℕ, ◌+◌, ◌≤◌, Bool, true, false, Option, Some, None, arith}
+use prelude.{ints, ℤ, pos, neg_ℤ, ◌+ℤ◌, ◌-ℤ◌, ◌*ℤ◌, ◌≤ℤ◌, if◌then◌else◌, get, AccountId, Asset, TrustLineAsset}
+use prelude.{AccountEntry, OfferEntry, LedgerEntry, LedgerKey, EntryMap, erase, account_at, account_liabilities}
+use prelude.{sponsored_in, sponsoring_in, sponsor_of, with_line, offer_at, with_offer, part, available, min_balance}
+use prelude.{is_same_account, without_subentry, map_after_removing, map_after_removing_entry, map_after_discounting}
+use prelude.{risen, binding, bound_account, bound_line, CanBind, View, AreReservesSettled, Owed, IsLegalOwing, paid}
+use prelude.{stored, second, offer_entry, with_offer_body, with_offer_is, put_same, still_holds, line_left, line_kept}
+use prelude.{is_key, of_asset, of_line, held_in, held_of, holder, offer_key, at_least_nothing, most_given}
+use prelude.{account_gives, line_paid, paying, discharged_kept, erased_kept, IsKeyed, none_more, under_key, more_at}
+use prelude.{HoldsMore, Leaves, leaves_itself, leaves_as, keeps_both, accounts_kept, account_changed, account_kept}
+use prelude.{add_sub_first, add_zero, room_after_zero}
 use Rattle.ledger_types.specs.declared.asset.Asset.TheVariants as asset
-use Rattle.ledger_types.specs.declared.asset.TrustLineAsset.{TrustLineAsset}
 use Rattle.ledger_types.specs.declared.asset.TrustLineAsset.TheVariants as line
-use Rattle.ledger_types.specs.declared.account.AccountEntry.{AccountEntry}
-use Rattle.ledger_types.specs.declared.offer.OfferEntry.{OfferEntry}
-use Rattle.ledger_types.specs.declared.entry.LedgerEntry.{LedgerEntry}
 use Rattle.ledger_types.specs.declared.entry.LedgerEntryBody.TheVariants as body
-use Rattle.ledger_types.specs.declared.key.LedgerKey.{LedgerKey}
 use Rattle.ledger_types.specs.declared.key.LedgerKey.TheVariants as key
-use Rattle.entry_map.specs.EntryMap.{EntryMap, erase}
-use Rattle.entry_slots.specs.Accounts.{account_at}
-use Rattle.entry_slots.specs.AccountExtensions.{account_liabilities, sponsored_in, sponsoring_in}
-use Rattle.entry_slots.specs.EntrySponsor.{sponsor_of}
-use Rattle.entry_slots.specs.Lines.{with_line}
-use Rattle.entry_slots.specs.Offers.{offer_at, with_offer}
-use Rattle.legal_rules.specs.entry_sums.Sums.{part}
-use Rattle.reserve_rules.specs.Reserve.{available, min_balance}
-use Rattle.sponsor_rules.specs.Payers.{is_same_account}
-use Rattle.sponsor_rules.specs.Paying.{without_subentry}
-use Rattle.sponsor_rules.specs.Removing.{map_after_removing, map_after_removing_entry, map_after_discounting}
-use Rattle.legal_rules.specs.Binding.{risen, binding, bound_account, bound_line, CanBind}
-use Rattle.legal_rules.specs.Books.{View}
-use Rattle.legal_rules.specs.EntryLaws.{AreReservesSettled}
-use Rattle.legal_rules.specs.Owing.{Owed, IsLegalOwing}
-use Rattle.legal_rules.specs.Payments.{paid}
-use Rattle.legal_rules.proofs.Liable.{stored, second}
 use Rattle.legal_rules.proofs.Removing.{owns}
-use Rattle.legal_rules.proofs.OffersKept.{offer_entry, with_offer_body, with_offer_is}
-use Rattle.legal_rules.proofs.Holdings.{put_same, still_holds}
-use Rattle.legal_rules.proofs.LinesLeft.{line_left, line_kept}
-use Rattle.legal_rules.specs.EntryKeys.{is_key}
-use Rattle.legal_rules.specs.Supply.{of_asset, of_line, held_in, held as held_of}
-use Rattle.legal_rules.specs.Trades.{holder}
 use Rattle.legal_rules.proofs.Subentries.{subentry_of}
-use Rattle.trade_cross.specs.Crossing.{offer_key}
-use Rattle.trade_cross.specs.Holdings.{at_least_nothing, most_given, account_gives, line_paid, paying}
-use Rattle.legal_rules.proofs.ChargesLeft.{discharged_kept, erased_kept}
 use Rattle.trade_cross.proofs.Paying.{CanPay, within}
-use Rattle.legal_rules.specs.Holdings.{IsKeyed, none_more, under_key, more_at, HoldsMore}
-use Rattle.legal_rules.proofs.Leaving.{Leaves, leaves_itself, leaves_as}
-use Rattle.legal_rules.proofs.Leaving.{keeps_both, accounts_kept, account_changed, account_kept}
 use Rattle.trade_cross.proofs.StepLegal.{account_keeps}
 
 -- ---- payments
@@ -55,9 +26,6 @@ use Rattle.trade_cross.proofs.StepLegal.{account_keeps}
 abbrev IsCoveredPayment : ℕ → ℤ → AccountEntry → Type 0
 IsCoveredPayment base n a = (pos 0 ≤ℤ available (paid n a) base) ⊎ (available a base ≤ℤ available (paid n a) base)
 
-all_of_it : (b n : ℤ) → ((b +ℤ n) -ℤ b) ≡ n
-all_of_it b n = omega (arith, ints)
-
 module _ (base : ℕ) (m : EntryMap) (keyed : IsKeyed m) (n : ℤ) where
   line_pays : (id : AccountId) (x : TrustLineAsset) → CanPay m (Some (key.TrustLine id x)) n
       → Leaves base (under_key (key.TrustLine id x) (λ y. of_line y x n)) m (with_line m id x (line_paid n))
@@ -65,7 +33,7 @@ module _ (base : ℕ) (m : EntryMap) (keyed : IsKeyed m) (n : ℤ) where
       (under_key (key.TrustLine id x) (λ y. of_line y x ((can.0.balance +ℤ n) -ℤ can.0.balance)))
       (under_key (key.TrustLine id x) (λ y. of_line y x n)) m (with_line m id x (line_paid n))
       (line_left m id x (line_paid n) can.0 can.1 refl refl base keyed)
-      (λ k y. ap (λ d. if is_key k (key.TrustLine id x) then of_line y x d else pos 0) (all_of_it can.0.balance n))
+      (λ k y. ap (λ d. if is_key k (key.TrustLine id x) then of_line y x d else pos 0) (add_sub_first can.0.balance n))
 
   line_or_none : (b : Bool) (id : AccountId) (x : TrustLineAsset) (held : Asset)
       → ((y : Asset) (d : ℤ) → of_line y x d ≡ of_asset y held d)
@@ -108,9 +76,9 @@ some_is id other same = cc
 module _ (base : ℕ) (m : EntryMap) (keyed : IsKeyed m) (n : ℕ) where
   covers : (k : Option LedgerKey) → n ≤ most_given base m k → (id : AccountId) → k ≡ Some (key.Account id)
       → (a : AccountEntry) → account_at m id ≡ Some a → IsCoveredPayment base (neg_ℤ (pos n)) a
-  covers k le id is a stands =
+  covers k le id is a exists =
       let enough : n ≤ at_least_nothing (available a base) =
-      subst (λ o. n ≤ account_gives base o) stands (subst (λ q. n ≤ most_given base m q) is le) in
+      subst (λ o. n ≤ account_gives base o) exists (subst (λ q. n ≤ most_given base m q) is le) in
       elim (within (available a base) n enough) [
         | inl none ↦ inr (none_given a.balance (min_balance a base) (account_liabilities a).selling n none)
         | inr there ↦ inl (given_covered a.balance (min_balance a base) (account_liabilities a).selling n there)
@@ -124,7 +92,7 @@ module _ (base : ℕ) (m : EntryMap) (keyed : IsKeyed m) (n : ℕ) where
   pub taking_left : (id : AccountId) (held : Asset) → CanPay m (holder id held) (pos n)
       → Leaves base (more_at (holder id held) held (pos n)) m (paying (holder id held) (pos n) m)
   taking_left id held can = paying_left base m keyed (pos n) id held can
-      (λ other is a stands. inr (taken_covered a.balance (min_balance a base) (account_liabilities a).selling n))
+      (λ other is a exists. inr (taken_covered a.balance (min_balance a base) (account_liabilities a).selling n))
 
 -- ---- liabilities
 
@@ -142,9 +110,6 @@ bound_available base selling buying a =
     (λ i. a.balance -ℤ same_minimum base selling buying a i
     -ℤ (stored (risen selling buying (account_liabilities a)) a.ext i).selling)
 
-plus_none : (x : ℤ) → x ≡ (x +ℤ pos 0)
-plus_none x = omega (arith, ints)
-
 abbrev IsCoveredBound : ℕ → (selling buying : ℤ) → AccountEntry → Type 0
 IsCoveredBound base selling buying a =
     (pos 0 ≤ℤ available (bound_account selling buying a) base)
@@ -157,16 +122,13 @@ binding_left : (base : ℕ) (m : EntryMap) → IsKeyed m → (k : Option LedgerK
 binding_left base m keyed None selling buying can covered = leaves_itself base m keyed
 binding_left base m keyed (Some (key.Account id)) selling buying can covered =
     account_kept base m keyed id (bound_account selling buying)
-    (λ a stands. record { id = refl; balance = plus_none a.balance; covered = covered id refl a stands })
+    (λ a exists. record { id = refl; balance = sym (add_zero a.balance); covered = covered id refl a exists })
 binding_left base m keyed (Some (key.TrustLine id x)) selling buying can covered =
     line_kept m id x (bound_line selling buying) can.0 can.1 refl refl base keyed refl
 binding_left base m keyed (Some other) selling buying can covered = absurd can
 
 less_bound : (b p s : ℤ) (n : ℕ) → (b -ℤ p -ℤ s) ≤ℤ (b -ℤ p -ℤ (s +ℤ neg_ℤ (pos n)))
 less_bound b p s n = omega (arith, ints)
-
-same_bound : (b p s : ℤ) → (b -ℤ p -ℤ s) ≤ℤ (b -ℤ p -ℤ (s +ℤ pos 0))
-same_bound b p s = omega (arith, ints)
 
 none_bound : (b p s : ℤ) (n : ℕ) → n ≡ 0 → (b -ℤ p -ℤ s) ≤ℤ (b -ℤ p -ℤ (s +ℤ pos n))
 none_bound b p s n none = omega (arith, ints)
@@ -178,7 +140,7 @@ module _ (base : ℕ) (m : EntryMap) (keyed : IsKeyed m) (k : Option LedgerKey) 
   -- less is bound for sale
   pub releasing_left : CanBind m k (neg_ℤ (pos n)) (pos 0)
       → Leaves base none_more m (binding k (neg_ℤ (pos n)) (pos 0) m)
-  releasing_left can = binding_left base m keyed k (neg_ℤ (pos n)) (pos 0) can (λ id is a stands.
+  releasing_left can = binding_left base m keyed k (neg_ℤ (pos n)) (pos 0) can (λ id is a exists.
       inr (subst (λ x. available a base ≤ℤ x) (sym (bound_available base (neg_ℤ (pos n)) (pos 0) a))
       (less_bound a.balance (min_balance a base) (account_liabilities a).selling n)))
 
@@ -193,15 +155,15 @@ module _ (base : ℕ) (m : EntryMap) (keyed : IsKeyed m) (k : Option LedgerKey) 
   -- more is, of what is available
   pub selling_left : CanBind m k (pos n) (pos 0) → n ≤ most_given base m k
       → Leaves base none_more m (binding k (pos n) (pos 0) m)
-  selling_left can le = binding_left base m keyed k (pos n) (pos 0) can (λ id is a stands.
-      by_sale a (subst (λ o. n ≤ account_gives base o) stands (subst (λ q. n ≤ most_given base m q) is le)))
+  selling_left can le = binding_left base m keyed k (pos n) (pos 0) can (λ id is a exists.
+      by_sale a (subst (λ o. n ≤ account_gives base o) exists (subst (λ q. n ≤ most_given base m q) is le)))
 
 -- more or less is bound for purchase
 pub buying_left : (base : ℕ) (m : EntryMap) → IsKeyed m → (k : Option LedgerKey) (n : ℤ) → CanBind m k (pos 0) n
     → Leaves base none_more m (binding k (pos 0) n m)
-buying_left base m keyed k n can = binding_left base m keyed k (pos 0) n can (λ id is a stands.
+buying_left base m keyed k n can = binding_left base m keyed k (pos 0) n can (λ id is a exists.
     inr (subst (λ x. available a base ≤ℤ x) (sym (bound_available base (pos 0) n a))
-    (same_bound a.balance (min_balance a base) (account_liabilities a).selling)))
+    (room_after_zero a.balance (min_balance a base) (account_liabilities a).selling)))
 
 -- ---- an offer that is removed
 
@@ -212,10 +174,10 @@ module _ (v : View) (id_pool base : ℕ) (owed : Owed) (sum : ℤ) (m : EntryMap
   e1 = with_offer_body e o
 
   pub had_one : (a : AccountEntry) → account_at m o.seller_id ≡ Some a → 1 ≤ a.num_sub_entries
-  had_one a stands =
+  had_one a exists =
       let own = owns v id_pool owed sum m legal settled o.seller_id 1 (offer_key o) e1 there
       (subentry_of (body.Offer o) o.seller_id 1 refl) in
-      let also = own.stands in
+      let also = own.exists in
       let same : own.account ≡ a = cc in
       subst (λ (b : AccountEntry). 1 ≤ b.num_sub_entries) same own.enough
 
@@ -235,8 +197,8 @@ module _ (v : View) (id_pool base : ℕ) (owed : Owed) (sum : ℤ) (m : EntryMap
 changing_holds : (m : EntryMap) (o new : OfferEntry) → offer_at m o.seller_id o.offer_id ≡ Some o
     → new.seller_id ≡ o.seller_id → new.offer_id ≡ o.offer_id
     → HoldsMore none_more m (with_offer m o.seller_id o.offer_id (λ was. new))
-changing_holds m o new stands seller id =
-    let found = offer_entry m o.seller_id o.offer_id o stands in
+changing_holds m o new exists seller id =
+    let found = offer_entry m o.seller_id o.offer_id o exists in
     let e = with_offer_body found.0 new in
     subst (HoldsMore none_more m) (sym (with_offer_is m o.seller_id o.offer_id (λ was. new) o found.0 found.1))
     (put_same m e (λ x. sym (ap (part (held_of x))
@@ -246,5 +208,5 @@ pub changing_left : (base : ℕ) (m : EntryMap) (o new : OfferEntry) → offer_a
     → new.seller_id ≡ o.seller_id → new.offer_id ≡ o.offer_id
     → IsKeyed (with_offer m o.seller_id o.offer_id (λ was. new))
     → Leaves base none_more m (with_offer m o.seller_id o.offer_id (λ was. new))
-changing_left base m o new stands seller id keyed = accounts_kept base none_more m _ keyed
-    (account_keeps m o new stands seller id) (changing_holds m o new stands seller id)
+changing_left base m o new exists seller id keyed = accounts_kept base none_more m _ keyed
+    (account_keeps m o new exists seller id) (changing_holds m o new exists seller id)

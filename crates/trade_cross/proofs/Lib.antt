@@ -3,7 +3,7 @@ pub mod Held
 pub mod Paying
 pub mod Binding
 pub mod Book
-pub mod BooksSound
+pub mod OffersSound
 pub mod StepLegal
 pub mod Left
 pub mod Passing
@@ -34,3 +34,4 @@ pub use Rattle.legal_rules.proofs.entry_sums_proofs
 pub use Rattle.legal_rules.proofs as legal_rules_proofs
 pub use Rattle.offer_book.proofs as offer_book_proofs
 pub use Rattle.legal_rules.proofs.sponsor_laws_proofs
+pub mod Prelude

@@ -1,22 +1,9 @@
 -- One offer that is crossed changes each of its owner's two holders once.
-use Rattle.std.proofs.Common.{◌≡◌, ◌≢◌, refl, sym, ap, subst, ◌∙◌, ℕ, suc, Option, Some, arith}
-use Rattle.std.proofs.lemmas.Int.{ints}
-use Rattle.std.specs.Prelude.{ℤ, pos, neg_ℤ, ◌+ℤ◌, ◌-ℤ◌}
-use Rattle.std.specs.FinMap.{get}
-use Rattle.ledger_types.specs.declared.offer.OfferEntry.{OfferEntry}
-use Rattle.ledger_types.specs.declared.entry.LedgerEntry.{LedgerEntry}
-use Rattle.ledger_types.specs.declared.key.LedgerKey.{LedgerKey}
-use Rattle.entry_map.specs.EntryMap.{EntryMap}
-use Rattle.entry_slots.specs.Offers.{offer_of, offer_at, with_offer}
-use Rattle.offer_exchange.specs.Exchange.{Amounts}
-use Rattle.legal_rules.specs.Binding.{acquiring, releasing, binding}
-use Rattle.legal_rules.specs.Holdings.{IsKeyed}
-use Rattle.legal_rules.specs.OfferLiabilities.{bound_of}
-use Rattle.trade_cross.specs.Crossing.{seller_gives_at, seller_takes_at, map_after_trade, with_amount, offer_key}
-use Rattle.trade_cross.specs.Plans.{giving_change, taking_change}
-use Rattle.trade_cross.specs.Holdings.{paying}
-use Rattle.trade_cross.specs.Places.{changing}
-use Rattle.trade_cross.specs.declared.holding.Change.{Change}
+use Rattle.trade_cross.proofs.Prelude.{◌≡◌, ◌≢◌, refl, sym, ap, subst, ◌∙◌, ℕ, suc, Option, Some, arith, ints, ℤ, pos}
+use Rattle.trade_cross.proofs.Prelude.{neg_ℤ, ◌+ℤ◌, ◌-ℤ◌, get, OfferEntry, LedgerEntry, LedgerKey, EntryMap, offer_of}
+use Rattle.trade_cross.proofs.Prelude.{offer_at, with_offer, Amounts, acquiring, releasing, binding, IsKeyed, bound_of}
+use Rattle.trade_cross.proofs.Prelude.{seller_gives_at, seller_takes_at, map_after_trade, with_amount, offer_key}
+use Rattle.trade_cross.proofs.Prelude.{giving_change, taking_change, paying, changing, Change}
 use Rattle.trade_cross.proofs.Altering.{altered_opt, AreApart, KeepsKeys, keeps_both, opt_keyed, opt_elsewhere}
 use Rattle.trade_cross.proofs.Altering.{opt_both}
 use Rattle.trade_cross.proofs.Altering.{opt_swapped, opt_as}
@@ -107,7 +94,7 @@ module _ (m : EntryMap) (keyed : IsKeyed m) (o : OfferEntry) (apart : AreApart (
   pub traded_keyed : IsKeyed traded
   traded_keyed = opt_keyed giver giver_keyed s takes_entry takes_keeps
 
-  -- the trade behind the release, holder by holder
+  -- the trade after the release, holder by holder
   pub trade_is : map_after_trade o a (releasing o m) ≡ traded
   trade_is =
       ap (map_after_trade o a) releasing_is
@@ -160,7 +147,7 @@ module _ (m : EntryMap) (keyed : IsKeyed m) (o : OfferEntry) (apart : AreApart (
 
   -- ---- an offer that rests
 
-  module _ (j : ℕ) (stands : offer_at (map_after_trade o a (releasing o m)) o.seller_id o.offer_id ≡ Some o)
+  module _ (j : ℕ) (exists : offer_at (map_after_trade o a (releasing o m)) o.seller_id o.offer_id ≡ Some o)
       (sells : (x : LedgerKey) → w ≡ Some x → (e : LedgerEntry) → get m x ≡ Some e → IsExtended e.body)
       (buys : (x : LedgerKey) → s ≡ Some x → (e : LedgerEntry) → get m x ≡ Some e → IsExtended e.body)
       (w_beside : w ≢ Some (offer_key o)) (s_beside : s ≢ Some (offer_key o)) where
@@ -195,7 +182,7 @@ module _ (m : EntryMap) (keyed : IsKeyed m) (o : OfferEntry) (apart : AreApart (
     in_place_is =
         ap (λ n. with_offer n o.seller_id o.offer_id (λ was. new)) trade_is
         ∙ resized_altered traded traded_keyed (suc j) o
-        (subst (λ n. offer_at n o.seller_id o.offer_id ≡ Some o) trade_is stands)
+        (subst (λ n. offer_at n o.seller_id o.offer_id ≡ Some o) trade_is exists)
 
     abbrev sold_more : EntryMap
     sold_more = altered_opt w (bound_entry more_wheat (pos 0)) in_place
@@ -278,10 +265,10 @@ module _ (m : EntryMap) (keyed : IsKeyed m) (o : OfferEntry) (apart : AreApart (
         entry_twice less_wheat more_wheat (more_wheat -ℤ pos (bound_of o).wheat) (pos 0) (pos 0) (pos 0)
         (difference (bound_of o).wheat (bound_of new).wheat) none_twice (neg_ℤ (pos a.wheat)) e (sells x is e there)))
 
-    -- the offer stands still where each holder was changed once
-    pub once_stands : offer_at once o.seller_id o.offer_id ≡ Some o
+    -- the offer still exists where each holder was changed once
+    pub once_exists : offer_at once o.seller_id o.offer_id ≡ Some o
     unfolding offer_at
-    once_stands =
+    once_exists =
         ap (λ n. offer_of (get n (offer_key o))) (changed_is (suc j))
         ∙ ap offer_of (opt_elsewhere (changed_giver (suc j)) (changed_keyed (suc j)) s
         (changed_entry (taking_change o a (suc j))) (changed_keeps (taking_change o a (suc j))) (offer_key o) s_beside
@@ -289,7 +276,7 @@ module _ (m : EntryMap) (keyed : IsKeyed m) (o : OfferEntry) (apart : AreApart (
         (changed_keeps (giving_change o a (suc j))) (offer_key o) w_beside
         ∙ sym (opt_elsewhere m keyed w gives_entry gives_keeps (offer_key o) w_beside)
         ∙ sym (opt_elsewhere giver giver_keyed s takes_entry takes_keeps (offer_key o) s_beside))
-        ∙ ap (λ n. offer_of (get n (offer_key o))) (sym trade_is) ∙ stands
+        ∙ ap (λ n. offer_of (get n (offer_key o))) (sym trade_is) ∙ exists
 
     once_keyed : IsKeyed once
     once_keyed = subst IsKeyed (sym (changed_is (suc j)))
@@ -301,4 +288,4 @@ module _ (m : EntryMap) (keyed : IsKeyed m) (o : OfferEntry) (apart : AreApart (
     rest_is =
         ap (acquiring new) in_place_is ∙ acquiring_is ∙ bound_is ∙ ap (altered_opt at resized) twice_is
         ∙ ap (altered_opt at resized) (sym (changed_is (suc j)))
-        ∙ sym (resized_altered once once_keyed (suc j) o once_stands)
+        ∙ sym (resized_altered once once_keyed (suc j) o once_exists)

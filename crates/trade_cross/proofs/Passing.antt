@@ -1,67 +1,32 @@
 -- What crossing leaves of an account that isn't crossed, and of offers: none comes.
-use Rattle.std.proofs.Common.{◌≡◌, ◌≢◌, refl, sym, ap, subst, ◌∙◌, ℕ, ◌≤◌, Bool, true, false}
-use Rattle.std.proofs.Common.{Option, Some, None, arith}
-use Rattle.std.proofs.lemmas.Int.{ints}
-use Rattle.std.specs.Prelude.{ℤ, pos, ◌≤ℤ◌, if◌then◌else◌}
-use Rattle.std.specs.FinMap.{get}
-use Rattle.ledger_types.specs.declared.ids.AccountId.{AccountId}
-use Rattle.ledger_types.specs.declared.asset.Asset.{Asset}
+use Rattle.trade_cross.proofs.Prelude as prelude
+use prelude.{◌≡◌, ◌≢◌, refl, sym, ap, subst, ◌∙◌, ℕ, ◌≤◌, Bool, true, false, Option, Some, None, ℤ, pos, if◌then◌else◌}
+use prelude.{get, AccountId, Asset, TrustLineAsset, AccountEntry, TrustLineEntry, OfferEntry, LedgerEntry, LedgerKey}
+use prelude.{EntryMap, erase, account_at, with_account, sponsor_of, line_of, line_at, with_line, offer_of, offer_at}
+use prelude.{with_offer, available, is_same_account, binding, bound_account, bound_line, CanBind, paid, holder}
+use prelude.{with_offer_body, account_elsewhere, kept_elsewhere, with_less, map_after_releasing, without_subentry}
+use prelude.{map_after_removing, map_after_removing_entry, eq_by_cmp, key_cmp, cond, offer_key, line_paid, paying}
+use prelude.{Related, IsEased, Passes, releasing_kept, erase_beside, discharged_kept, IsCharged, pays_less}
+use prelude.{available_still, no_subentry_core, IsKeyed, no_account_changed, erase_elsewhere, erase_get, at_most_refl}
+use prelude.{at_most_trans}
 use Rattle.ledger_types.specs.declared.asset.Asset.TheVariants as asset
-use Rattle.ledger_types.specs.declared.asset.TrustLineAsset.{TrustLineAsset}
 use Rattle.ledger_types.specs.declared.asset.TrustLineAsset.TheVariants as line
-use Rattle.ledger_types.specs.declared.account.AccountEntry.{AccountEntry}
-use Rattle.ledger_types.specs.declared.trust_line.TrustLineEntry.{TrustLineEntry}
-use Rattle.ledger_types.specs.declared.offer.OfferEntry.{OfferEntry}
-use Rattle.ledger_types.specs.declared.entry.LedgerEntry.{LedgerEntry}
-use Rattle.ledger_types.specs.declared.key.LedgerKey.{LedgerKey}
 use Rattle.ledger_types.specs.declared.key.LedgerKey.TheVariants as key
-use Rattle.entry_map.specs.EntryMap.{EntryMap, erase}
-use Rattle.entry_slots.specs.Accounts.{account_at, with_account}
-use Rattle.entry_slots.specs.EntrySponsor.{sponsor_of}
-use Rattle.entry_slots.specs.Lines.{line_of, line_at, with_line}
-use Rattle.entry_slots.specs.Offers.{offer_of, offer_at, with_offer}
-use Rattle.legal_rules.proofs.entry_sums_proofs.Lookups.{erase_elsewhere, erase_get}
-use Rattle.reserve_rules.specs.Reserve.{available}
-use Rattle.sponsor_rules.specs.Payers.{is_same_account}
-use Rattle.legal_rules.specs.Binding.{binding, bound_account, bound_line, CanBind}
-use Rattle.legal_rules.specs.Payments.{paid}
-use Rattle.legal_rules.specs.Trades.{holder}
-use Rattle.legal_rules.proofs.OffersKept.{with_offer_body}
-use Rattle.legal_rules.proofs.Places.{account_elsewhere, kept_elsewhere}
 use Rattle.sponsor_rules.specs.declared.count.Count.TheVariants as count
-use Rattle.sponsor_rules.specs.Counting.{with_less}
-use Rattle.sponsor_rules.specs.Paying.{map_after_releasing, without_subentry}
-use Rattle.sponsor_rules.specs.Removing.{map_after_removing, map_after_removing_entry}
-use Rattle.std.specs.Ordering.{eq_by_cmp}
-use Rattle.ledger_types.specs.KeyOrder.{key_cmp}
-use Rattle.std.proofs.Common.{cond}
-use Rattle.trade_cross.specs.Crossing.{offer_key}
-use Rattle.trade_cross.specs.Holdings.{line_paid, paying}
-use Rattle.trade_cross.specs.Accounts.{Related, IsEased, Passes}
 use Rattle.trade_cross.proofs.Held.{related_same, account_relates, AnyAccount, SameFlags, account_beside, line_beside}
 use Rattle.trade_cross.proofs.Held.{line_elsewhere, line_keeps}
 use Rattle.trade_cross.proofs.Paying.{CanPay}
-use Rattle.legal_rules.proofs.ChargesLeft.{releasing_kept, erase_beside, discharged_kept}
-use Rattle.legal_rules.proofs.ReservesLeft.{IsCharged, pays_less, available_still, no_subentry_means}
-use Rattle.legal_rules.specs.Holdings.{IsKeyed}
-use Rattle.legal_rules.proofs.Leaving.{no_account_changed}
 use Rattle.trade_cross.proofs.StepLegal.{account_keeps, offer_keeps}
 use Rattle.trade_cross.proofs.StepLegal.{line_keeps as offer_keeps_line}
 
-itself : (x : ℤ) → x ≤ℤ x
-itself x = omega (arith, ints)
-
 eased_itself : (base : ℕ) (a : AccountEntry) → IsEased base a a
-eased_itself base a = record { balance = refl; liabilities = refl; more = itself (available a base) }
-
-on : (x y z : ℤ) → x ≤ℤ y → y ≤ℤ z → x ≤ℤ z
-on x y z le also = omega (arith, ints)
+eased_itself base a = record { balance = refl; liabilities = refl; more = at_most_refl (available a base) }
 
 eased_on : (base : ℕ) (a b c : AccountEntry) → IsEased base a b → IsEased base b c → IsEased base a c
 eased_on base a b c first second = record {
   balance = second.balance ∙ first.balance;
   liabilities = second.liabilities ∙ first.liabilities;
-  more = on (available a base) (available b base) (available c base) first.more second.more;
+  more = at_most_trans (available a base) (available b base) (available c base) first.more second.more;
 }
 
 related_on : (base : ℕ) (o p q : Option AccountEntry) → Related (IsEased base) o p → Related (IsEased base) p q
@@ -113,11 +78,11 @@ holder_own seller (asset.Alphanum12 code issuer) =
 module _ (base : ℕ) (x seller : AccountId) (apart : x ≢ seller) (m : EntryMap) (keyed : IsKeyed m) where
   pub account_passes : (id : AccountId) (f : AccountEntry → AccountEntry) (a : AccountEntry) → id ≡ seller
       → account_at m id ≡ Some a → (f a).account_id ≡ a.account_id → Passes base x m (with_account m id f)
-  account_passes id f a own stands named = record {
+  account_passes id f a own exists named = record {
     account = related_same (IsEased base) (eased_itself base) _ _
-        (sym (account_elsewhere m id f a keyed stands named x (λ same. apart (same ∙ own))));
-    lines = λ held. line_beside AnyAccount SameFlags (λ b. tt) (λ t. refl) m keyed id f a stands named tt x held;
-    offers = λ s i none. kept_elsewhere m id f a keyed stands named (key.Offer s i) (λ same. absurd (cc)) ∙ none;
+        (sym (account_elsewhere m id f a keyed exists named x (λ same. apart (same ∙ own))));
+    lines = λ held. line_beside AnyAccount SameFlags (λ b. tt) (λ t. refl) m keyed id f a exists named tt x held;
+    offers = λ s i none. kept_elsewhere m id f a keyed exists named (key.Offer s i) (λ same. absurd (cc)) ∙ none;
   }
 
   line_apart : (id : AccountId) (y z : TrustLineAsset) → id ≡ seller → key.TrustLine x y ≢ key.TrustLine id z
@@ -129,12 +94,12 @@ module _ (base : ℕ) (x seller : AccountId) (apart : x ≢ seller) (m : EntryMa
   pub line_passes : (id : AccountId) (z : TrustLineAsset) (g : TrustLineEntry → TrustLineEntry) (t : TrustLineEntry)
       → id ≡ seller → line_at m id z ≡ Some t → (g t).account_id ≡ t.account_id → (g t).asset ≡ t.asset
       → (g t).flags ≡ t.flags → Passes base x m (with_line m id z g)
-  line_passes id z g t own stands owned its flags = record {
+  line_passes id z g t own exists owned its flags = record {
     account = related_same (IsEased base) (eased_itself base) _ _
-        (sym (account_beside AnyAccount SameFlags (λ b. tt) (λ t. refl) m keyed id z g t stands owned its flags x));
-    lines = λ y. line_elsewhere AnyAccount SameFlags (λ b. tt) (λ t. refl) m keyed id z g t stands owned its flags x y
+        (sym (account_beside AnyAccount SameFlags (λ b. tt) (λ t. refl) m keyed id z g t exists owned its flags x));
+    lines = λ y. line_elsewhere AnyAccount SameFlags (λ b. tt) (λ t. refl) m keyed id z g t exists owned its flags x y
         (line_apart id y z own);
-    offers = λ s i none. line_keeps AnyAccount SameFlags (λ b. tt) (λ t. refl) m keyed id z g t stands owned its flags
+    offers = λ s i none. line_keeps AnyAccount SameFlags (λ b. tt) (λ t. refl) m keyed id z g t exists owned its flags
         (key.Offer s i) (λ same. absurd (cc)) ∙ none;
   }
 
@@ -160,10 +125,10 @@ pub offer_passes : (base : ℕ) (x : AccountId) (m : EntryMap) (o new : OfferEnt
     → offer_at m o.seller_id o.offer_id ≡ Some o → new.seller_id ≡ o.seller_id → new.offer_id ≡ o.offer_id
     → Passes base x m (with_offer m o.seller_id o.offer_id (λ was. new))
 unfolding offer_at
-offer_passes base x m o new stands seller id = record {
-  account = related_same (IsEased base) (eased_itself base) _ _ (sym (account_keeps m o new stands seller id x));
-  lines = λ held. offer_keeps_line m o new stands seller id x held;
-  offers = λ s i none. offer_keeps m o new stands seller id (key.Offer s i) (λ same.
+offer_passes base x m o new exists seller id = record {
+  account = related_same (IsEased base) (eased_itself base) _ _ (sym (account_keeps m o new exists seller id x));
+  lines = λ held. offer_keeps_line m o new exists seller id x held;
+  offers = λ s i none. offer_keeps m o new exists seller id (key.Offer s i) (λ same.
       let at : get m (key.Offer o.seller_id o.offer_id) ≡ None = ap (get m) (sym same) ∙ none in
       let also : offer_of (get m (key.Offer o.seller_id o.offer_id)) ≡ None = ap offer_of at in
       absurd (cc)) ∙ none;
@@ -173,8 +138,8 @@ offer_passes base x m o new stands seller id = record {
 
 eased_by : (base : ℕ) (a b : AccountEntry) → IsCharged (pos 0) a b → IsEased base a b
 eased_by base a b h = record {
-  balance = h.means.balance;
-  liabilities = h.means.liabilities;
+  balance = h.core.balance;
+  liabilities = h.core.liabilities;
   more = available_still base a b h;
 }
 
@@ -184,16 +149,16 @@ module _ (base : ℕ) (x : AccountId) (m : EntryMap) (keyed : IsKeyed m) where
       → Passes base x m (with_account m y (with_less count.Sponsoring 1))
   released_by y None none = subst (Passes base x m)
       (sym (no_account_changed m y (with_less count.Sponsoring 1) none)) (passes_itself base x m)
-  released_by y (Some a) stands =
+  released_by y (Some a) exists =
       let f = with_less count.Sponsoring 1 in
       let charged = pays_less 1 a in
-      let rel = account_relates (IsEased base) SameFlags (eased_itself base) (λ t. refl) m keyed y f a stands
-      charged.means.id (eased_by base a (f a) charged) in
+      let rel = account_relates (IsEased base) SameFlags (eased_itself base) (λ t. refl) m keyed y f a exists
+      charged.core.id (eased_by base a (f a) charged) in
       record {
         account = rel.accounts x;
-        lines = λ held. line_beside (IsEased base) SameFlags (eased_itself base) (λ t. refl) m keyed y f a stands
-            charged.means.id (eased_by base a (f a) charged) x held;
-        offers = λ s i none. kept_elsewhere m y f a keyed stands charged.means.id (key.Offer s i) (λ same. absurd (cc))
+        lines = λ held. line_beside (IsEased base) SameFlags (eased_itself base) (λ t. refl) m keyed y f a exists
+            charged.core.id (eased_by base a (f a) charged) x held;
+        offers = λ s i none. kept_elsewhere m y f a keyed exists charged.core.id (key.Offer s i) (λ same. absurd (cc))
             ∙ none;
       }
 
@@ -201,14 +166,14 @@ module _ (base : ℕ) (x : AccountId) (m : EntryMap) (keyed : IsKeyed m) where
   releasing_passes None = passes_itself base x m
   releasing_passes (Some y) = released_by y (account_at m y) refl
 
-  -- the account of another one is changed, if it stands
+  -- the account of another one is changed, if it exists
   other_passes : (seller : AccountId) (f : AccountEntry → AccountEntry) → x ≢ seller
       → ((a : AccountEntry) → (f a).account_id ≡ a.account_id) → (o : Option AccountEntry) → account_at m seller ≡ o
       → Passes base x m (with_account m seller f)
   other_passes seller f apart named None none = subst (Passes base x m)
       (sym (no_account_changed m seller f none)) (passes_itself base x m)
-  other_passes seller f apart named (Some a) stands =
-      account_passes base x seller apart m keyed seller f a refl stands (named a)
+  other_passes seller f apart named (Some a) exists =
+      account_passes base x seller apart m keyed seller f a refl exists (named a)
 
   erased_offer : (k : LedgerKey) (s : AccountId) (i : ℤ) → get m (key.Offer s i) ≡ None
       → get (erase m k) (key.Offer s i) ≡ None
@@ -245,6 +210,6 @@ removing_passes base x m keyed o e there had apart =
     subst (Passes base x m) (sym (ap (map_after_removing_entry (offer_key o) m) there))
     (passes_on base x m now (erase last (offer_key o)) (releasing_passes base x m keyed s)
     (passes_on base x now last (erase last (offer_key o))
-    (other_passes base x now now_keyed o.seller_id f apart (λ a. (no_subentry_means 1 s a).id)
+    (other_passes base x now now_keyed o.seller_id f apart (λ a. (no_subentry_core 1 s a).id)
     (account_at now o.seller_id) refl)
     (erasing_passes base x last last_keyed o)))

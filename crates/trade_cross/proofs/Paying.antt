@@ -1,43 +1,18 @@
 -- Amounts that are paid from and to what an account holds.
-use Rattle.std.proofs.Common.{◌≡◌, ◌⊎◌, inl, inr, refl, sym, ap, subst, ◌∙◌, ℕ, ◌≤◌, zero, suc, Bool, true, false}
-use Rattle.std.proofs.Common.{Option, Some, None, arith}
-use Rattle.std.proofs.lemmas.Int.{ints}
-use Rattle.std.specs.Prelude.{ℤ, pos, neg_ℤ, ◌+ℤ◌, ◌-ℤ◌, ◌≤ℤ◌, if◌then◌else◌}
-use Rattle.std.specs.Ordering.{is_eq}
-use Rattle.ledger_types.specs.declared.ids.AccountId.{AccountId}
-use Rattle.ledger_types.specs.declared.asset.Asset.{Asset}
+use Rattle.trade_cross.proofs.Prelude as prelude
+use prelude.{◌≡◌, ◌⊎◌, inl, inr, refl, sym, ap, subst, ◌∙◌, ℕ, ◌≤◌, zero, suc, Bool, true, false, Option, Some, None}
+use prelude.{arith, ints, ℤ, pos, neg_ℤ, ◌+ℤ◌, ◌-ℤ◌, ◌≤ℤ◌, if◌then◌else◌, is_eq, AccountId, Asset, TrustLineAsset}
+use prelude.{AccountEntry, TrustLineEntry, LedgerKey, asset_cmp, EntryMap, account_at, with_account}
+use prelude.{account_liabilities, line_at, with_line, line_liabilities, available, room, line_available, line_room}
+use prelude.{greatest_i64, is_same_account, Kind, Subentries, Sponsored, Shares, View, in_shares, Owed, IsEntryLegal}
+use prelude.{IsLegalOwing, paid, of_asset, of_line, holder, account_legal, line_changed, not_above_balance, legal_as}
+use prelude.{at_least_nothing, most_given, most_taken, account_gives, account_takes, line_gives, line_takes, line_paid}
+use prelude.{paying, line_legal, kept_at, IsHeld, add_change_if, add_natural_nonnegative, at_most_add_natural}
+use prelude.{at_most_rest, fits_after_no_natural, fits_after_sub_natural, fits_within_room}
 use Rattle.ledger_types.specs.declared.asset.Asset.TheVariants as asset
-use Rattle.ledger_types.specs.declared.asset.TrustLineAsset.{TrustLineAsset}
 use Rattle.ledger_types.specs.declared.asset.TrustLineAsset.TheVariants as line
-use Rattle.ledger_types.specs.declared.account.AccountEntry.{AccountEntry}
-use Rattle.ledger_types.specs.declared.trust_line.TrustLineEntry.{TrustLineEntry}
-use Rattle.ledger_types.specs.declared.key.LedgerKey.{LedgerKey}
 use Rattle.ledger_types.specs.declared.key.LedgerKey.TheVariants as key
-use Rattle.ledger_types.specs.KeyOrder.{asset_cmp}
-use Rattle.entry_map.specs.EntryMap.{EntryMap}
-use Rattle.entry_slots.specs.Accounts.{account_at, with_account}
-use Rattle.entry_slots.specs.AccountExtensions.{account_liabilities}
-use Rattle.entry_slots.specs.Lines.{line_at, with_line}
-use Rattle.entry_slots.specs.LineExtensions.{line_liabilities}
-use Rattle.reserve_rules.specs.Reserve.{available, room, line_available, line_room, greatest_i64}
-use Rattle.sponsor_rules.specs.Payers.{is_same_account}
-use Rattle.legal_rules.specs.Books.{Kind, Subentries, Sponsored, Shares, View}
-use Rattle.legal_rules.specs.ChangeLaws.{in_shares}
-use Rattle.legal_rules.specs.Owing.{Owed, IsEntryLegal, IsLegalOwing}
-use Rattle.legal_rules.specs.Payments.{paid}
-use Rattle.legal_rules.specs.Supply.{of_asset, of_line}
-use Rattle.legal_rules.specs.Trades.{holder}
-use Rattle.legal_rules.proofs.Bounded.{account_legal}
-use Rattle.legal_rules.proofs.Changed.{line_changed}
-use Rattle.legal_rules.proofs.Covered.{not_above_balance}
 use Rattle.legal_rules.proofs.Paid.{paid_legal}
-use Rattle.legal_rules.proofs.Steps.{legal_as}
-use Rattle.trade_cross.specs.Holdings.{at_least_nothing, most_given, most_taken, account_gives, account_takes}
-use Rattle.trade_cross.specs.Holdings.{line_gives}
-use Rattle.trade_cross.specs.Holdings.{line_takes, line_paid, paying}
-use Rattle.legal_rules.proofs.LinesLeft.{line_legal}
-use Rattle.trade_cross.specs.CrossingLaws.{kept_at}
-use Rattle.trade_cross.specs.Accounts.{IsHeld}
 
 -- ---- what can be paid
 
@@ -64,12 +39,6 @@ no_shares x n none kind k o = plus_nothing o
   where
     plus_nothing : (o : ℤ) → (o +ℤ pos 0) ≡ o
     plus_nothing o = omega (arith, ints)
-
-paid_sum : (t : Bool) (sum balance delta : ℤ)
-    → (sum +ℤ ((if t then (balance +ℤ delta) else pos 0) -ℤ (if t then balance else pos 0)))
-    ≡ (sum +ℤ (if t then delta else pos 0))
-paid_sum true sum balance delta = omega (arith, ints)
-paid_sum false sum balance delta = omega (arith, ints)
 
 module _ (v : View) (id_pool : ℕ) (owed : Owed) (sum : ℤ) (m : EntryMap) (legal : IsLegalOwing v id_pool owed sum m)
   where
@@ -102,7 +71,7 @@ module _ (v : View) (id_pool : ℕ) (owed : Owed) (sum : ℤ) (m : EntryMap) (le
         ∙ none ((t.balance +ℤ n) -ℤ t.balance) q) kind k (owed kind k))
         ((λ i. sum +ℤ (of_line v.asset (was.asset i) (t.balance +ℤ n) -ℤ of_line v.asset (was.asset i) t.balance))
         ∙ (λ i. sum +ℤ (its (t.balance +ℤ n) i -ℤ its t.balance i))
-        ∙ paid_sum (is_eq (asset_cmp v.asset held)) sum t.balance n)
+        ∙ add_change_if (is_eq (asset_cmp v.asset held)) sum t.balance n)
 
     account_pays : (id : AccountId) (n : ℤ) → CanPay m (Some (key.Account id)) n
         → IsLegalOwing v id_pool owed (sum +ℤ of_asset v.asset asset.Native n) (with_account m id (paid n))
@@ -147,58 +116,40 @@ gives_nothing b n low none = omega (arith, ints)
 gives_room : (b buying g : ℤ) (n : ℕ) → (b +ℤ buying) ≤ℤ g → neg_ℤ (pos n) ≤ℤ (g -ℤ b -ℤ buying)
 gives_room b buying g n fits = omega (arith, ints)
 
-gives_covered : (b s : ℤ) (n : ℕ) → pos n ≤ℤ (b -ℤ s) → s ≤ℤ (b +ℤ neg_ℤ (pos n))
-gives_covered b s n le = omega (arith, ints)
-
 none_covered : (b s : ℤ) (n : ℕ) → s ≤ℤ b → n ≡ 0 → s ≤ℤ (b +ℤ neg_ℤ (pos n))
 none_covered b s n le none = omega (arith, ints)
 
-gives_fits : (b buying limit : ℤ) (n : ℕ) → (b +ℤ buying) ≤ℤ limit → ((b +ℤ neg_ℤ (pos n)) +ℤ buying) ≤ℤ limit
-gives_fits b buying limit n fits = omega (arith, ints)
-
-takes_low : (b : ℤ) (n : ℕ) → pos 0 ≤ℤ b → pos 0 ≤ℤ (b +ℤ pos n)
-takes_low b n low = omega (arith, ints)
-
 takes_none : (b buying g : ℤ) (n : ℕ) → (b +ℤ buying) ≤ℤ g → n ≡ 0 → pos n ≤ℤ (g -ℤ b -ℤ buying)
 takes_none b buying g n fits none = omega (arith, ints)
-
-takes_covered : (b s : ℤ) (n : ℕ) → s ≤ℤ b → s ≤ℤ (b +ℤ pos n)
-takes_covered b s n le = omega (arith, ints)
-
-takes_fits : (b buying limit : ℤ) (n : ℕ) → pos n ≤ℤ (limit -ℤ b -ℤ buying) → ((b +ℤ pos n) +ℤ buying) ≤ℤ limit
-takes_fits b buying limit n le = omega (arith, ints)
-
-none_fits : (b buying limit : ℤ) (n : ℕ) → (b +ℤ buying) ≤ℤ limit → n ≡ 0 → ((b +ℤ pos n) +ℤ buying) ≤ℤ limit
-none_fits b buying limit n fits none = omega (arith, ints)
 
 module _ (v : View) (id_pool base : ℕ) (owed : Owed) (sum : ℤ) (m : EntryMap)
     (legal : IsLegalOwing v id_pool owed sum m) (n : ℕ) where
   account_can_give : (id : AccountId) → owed Subentries (key.Account id) ≤ℤ owed Sponsored (key.Account id)
       → (a : AccountEntry) → account_at m id ≡ Some a → n ≤ at_least_nothing (available a base)
       → CanPay m (Some (key.Account id)) (neg_ℤ (pos n))
-  account_can_give id covered a stands le =
-      let range = (account_legal v id_pool owed sum m id a legal stands).range.range in (
+  account_can_give id covered a exists le =
+      let range = (account_legal v id_pool owed sum m id a legal exists).range.range in (
         a,
-        stands,
+        exists,
         elim (within (available a base) n le) [
           | inl none ↦ gives_nothing a.balance n range.balance none
           | inr enough ↦ gives_low a.balance n
-              (not_above_balance v id_pool owed sum m id a base (pos n) legal covered stands enough)
+              (not_above_balance v id_pool owed sum m id a base (pos n) legal covered exists enough)
         ],
         gives_room a.balance (account_liabilities a).buying greatest_i64 n range.fits,
       )
 
   line_can_give : (id : AccountId) (x : TrustLineAsset) (t : TrustLineEntry) → line_at m id x ≡ Some t
       → n ≤ at_least_nothing (line_available t) → CanPay m (Some (key.TrustLine id x)) (neg_ℤ (pos n))
-  line_can_give id x t stands le =
-      let range = (line_legal v id_pool owed sum m id x t legal stands).range.range in (
+  line_can_give id x t exists le =
+      let range = (line_legal v id_pool owed sum m id x t legal exists).range.range in (
         t,
-        stands,
+        exists,
         elim (within (line_available t) n le) [
           | inl none ↦ none_covered t.balance (line_liabilities t).selling n range.covered none
-          | inr enough ↦ gives_covered t.balance (line_liabilities t).selling n enough
+          | inr enough ↦ at_most_rest t.balance (line_liabilities t).selling n enough
         ],
-        gives_fits t.balance (line_liabilities t).buying t.limit n range.fits,
+        fits_after_sub_natural t.balance (line_liabilities t).buying t.limit n range.fits,
       )
 
   -- What is held gives what is available.
@@ -213,11 +164,11 @@ module _ (v : View) (id_pool base : ℕ) (owed : Owed) (sum : ℤ) (m : EntryMap
 
   account_can_take : (id : AccountId) (a : AccountEntry) → account_at m id ≡ Some a → n ≤ at_least_nothing (room a)
       → CanPay m (Some (key.Account id)) (pos n)
-  account_can_take id a stands le =
-      let range = (account_legal v id_pool owed sum m id a legal stands).range.range in (
+  account_can_take id a exists le =
+      let range = (account_legal v id_pool owed sum m id a legal exists).range.range in (
         a,
-        stands,
-        takes_low a.balance n range.balance,
+        exists,
+        add_natural_nonnegative a.balance n range.balance,
         elim (within (room a) n le) [
           | inl none ↦ takes_none a.balance (account_liabilities a).buying greatest_i64 n range.fits none
           | inr fits ↦ fits
@@ -226,14 +177,14 @@ module _ (v : View) (id_pool base : ℕ) (owed : Owed) (sum : ℤ) (m : EntryMap
 
   line_can_take : (id : AccountId) (x : TrustLineAsset) (t : TrustLineEntry) → line_at m id x ≡ Some t
       → n ≤ at_least_nothing (line_room t) → CanPay m (Some (key.TrustLine id x)) (pos n)
-  line_can_take id x t stands le =
-      let range = (line_legal v id_pool owed sum m id x t legal stands).range.range in (
+  line_can_take id x t exists le =
+      let range = (line_legal v id_pool owed sum m id x t legal exists).range.range in (
         t,
-        stands,
-        takes_covered t.balance (line_liabilities t).selling n range.covered,
+        exists,
+        at_most_add_natural t.balance (line_liabilities t).selling n range.covered,
         elim (within (line_room t) n le) [
-          | inl none ↦ none_fits t.balance (line_liabilities t).buying t.limit n range.fits none
-          | inr fits ↦ takes_fits t.balance (line_liabilities t).buying t.limit n fits
+          | inl none ↦ fits_after_no_natural t.balance (line_liabilities t).buying t.limit n range.fits none
+          | inr fits ↦ fits_within_room t.balance (line_liabilities t).buying t.limit n fits
         ],
       )
 

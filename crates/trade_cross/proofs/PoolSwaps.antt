@@ -1,27 +1,13 @@
--- What the pool of a pair would move, and what its calls tell of it.
-use Rattle.std.proofs.Common.{◌≡◌, refl, sym, ap, subst, ◌∙◌, ℕ, ◌+◌, ◌<◌, ◌≤◌, Bool, true, false, Option, Some, None}
-use Rattle.std.proofs.Common.{◌&&◌, ◌⊎◌, inl, inr}
-use Rattle.std.proofs.lemmas.Bool.{leb-true, ltb-true}
-use Rattle.std.specs.Prelude.{ℤ, unsigned_abs, nat_eq, nat_le, nat_lt, if◌then◌else◌}
-use Rattle.ledger_types.specs.declared.liquidity_pool.LiquidityPoolEntry.{LiquidityPoolEntry}
-use Rattle.entry_map.specs.EntryMap.{EntryMap}
-use Rattle.entry_slots.specs.Pools.{pool_at}
-use Rattle.sponsor_rules.specs.declared.context.Ctx.{Ctx}
-use Rattle.offer_exchange.specs.declared.rounding.Rounding.{Rounding}
-use Rattle.offer_exchange.specs.declared.rounding.Rounding.TheVariants.{Normal, StrictSend, StrictReceive}
-use Rattle.offer_exchange.specs.Exchange.{Amounts}
-use Rattle.pool_math.specs.Pools.{greatest, given_for, taken_for}
+-- What the pool of a pair would move, and what its calls say of it.
+use Rattle.trade_cross.proofs.Prelude as prelude
+use prelude.{◌≡◌, refl, sym, ap, subst, ◌∙◌, ℕ, ◌+◌, ◌<◌, ◌≤◌, Bool, true, false, Option, Some, None, ◌&&◌, ◌⊎◌, inl}
+use prelude.{inr, leb-true, ltb-true, ℤ, unsigned_abs, nat_eq, nat_le, nat_lt, if◌then◌else◌, LiquidityPoolEntry}
+use prelude.{EntryMap, pool_at, Ctx, Rounding, Normal, StrictSend, StrictReceive, Amounts, greatest, given_for}
+use prelude.{taken_for, Crossed, Swap, Trade, Left, Crossing, converted, left_of, pool_of_pair, has_pair, sheep_in}
+use prelude.{wheat_in, can_give, can_take, swap_by, swap_with, is_trading_disabled, swap_of, swapped, served_by}
+use prelude.{is_served, is_cheaper, better_of, hop, amounts_of, is_served_in, is_served_by, is_cheaper_by, DoesSwapFit}
+use prelude.{IsSwapOf, IsCrossing, and_parts}
 use Rattle.pool_math.proofs.SwapLaws.{given_left}
-use Rattle.trade_cross.specs.declared.crossed.Crossed.{Crossed}
-use Rattle.trade_cross.specs.declared.pool_swap.Swap.{Swap}
-use Rattle.trade_cross.specs.declared.trade.Trade.{Trade}
-use Rattle.trade_cross.specs.Crossing.{Left, Crossing, converted, left_of}
-use Rattle.trade_cross.specs.Hop.{pool_of_pair, has_pair, sheep_in, wheat_in, can_give, can_take, swap_by, swap_with}
-use Rattle.trade_cross.specs.Hop.{is_trading_disabled, swap_of, swapped, served_by, is_served, is_cheaper, better_of}
-use Rattle.trade_cross.specs.Hop.{hop}
-use Rattle.trade_cross.specs.HopCalls.{amounts_of, is_served_in, is_served_by, is_cheaper_by, DoesSwapFit, IsSwapOf}
-use Rattle.trade_cross.specs.Progressing.{IsCrossing}
-use Rattle.trade_cross.proofs.CrossedLegal.{both_true}
 
 -- ---- what a pool would move
 
@@ -45,9 +31,9 @@ module _ (x y put : ℕ) (a : Amounts) where
   given_so true can is =
       let same : record { wheat = given_for x y put; sheep = put } ≡ a = cc in
       let some = nat_le 1 (given_for x y put) in
-      let last = both_true (nat_le 1 x && nat_le 1 y && nat_le (x + put) greatest) some can in
-      let more = both_true (nat_le 1 x && nat_le 1 y) (nat_le (x + put) greatest) last.0 in
-      let both = both_true (nat_le 1 x) (nat_le 1 y) more.0 in (
+      let last = and_parts (nat_le 1 x && nat_le 1 y && nat_le (x + put) greatest) some can in
+      let more = and_parts (nat_le 1 x && nat_le 1 y) (nat_le (x + put) greatest) last.0 in
+      let both = and_parts (nat_le 1 x) (nat_le 1 y) more.0 in (
         record {
           some_x = leb-true 1 x both.0;
           some_y = leb-true 1 y both.1;
@@ -66,9 +52,9 @@ module _ (x y want : ℕ) (a : Amounts) where
   taken_so true can is =
       let same : record { wheat = want; sheep = taken_for x y want } ≡ a = cc in
       let fits = nat_le (x + taken_for x y want) greatest in
-      let last = both_true (nat_le 1 x && nat_le 1 y && nat_lt want y) fits can in
-      let more = both_true (nat_le 1 x && nat_le 1 y) (nat_lt want y) last.0 in
-      let both = both_true (nat_le 1 x) (nat_le 1 y) more.0 in (
+      let last = and_parts (nat_le 1 x && nat_le 1 y && nat_lt want y) fits can in
+      let more = and_parts (nat_le 1 x && nat_le 1 y) (nat_lt want y) last.0 in
+      let both = and_parts (nat_le 1 x) (nat_le 1 y) more.0 in (
         record {
           some_x = leb-true 1 x both.0;
           some_y = leb-true 1 y both.1;
@@ -90,7 +76,7 @@ swaps StrictReceive x y left a is = taken_so x y left.wheat_receive a (can_take 
 -- the pair's pool, and that it would move so much
 pub record IsSwapping (trade : Trade) (m : EntryMap) (a : Amounts) : Type 0 where
   pub pool : LiquidityPoolEntry
-  pub stands : pool_at m (pool_of_pair trade) ≡ Some pool
+  pub exists : pool_at m (pool_of_pair trade) ≡ Some pool
   pub pair : has_pair trade pool ≡ true
   pub swap : swap_by trade.rounding (sheep_in trade pool) (wheat_in trade pool) (left_of trade) ≡ Some a
 
@@ -98,13 +84,13 @@ module _ (trade : Trade) (m : EntryMap) (a : Amounts) where
   by_pair : (p : LiquidityPoolEntry) → pool_at m (pool_of_pair trade) ≡ Some p → (t : Bool) → has_pair trade p ≡ t
       → (if t then swap_by trade.rounding (sheep_in trade p) (wheat_in trade p) (left_of trade) else None) ≡ Some a
       → IsSwapping trade m a
-  by_pair p stands true pair is = record { pool = p; stands = stands; pair = pair; swap = is }
-  by_pair p stands false pair is = absurd (cc)
+  by_pair p exists true pair is = record { pool = p; exists = exists; pair = pair; swap = is }
+  by_pair p exists false pair is = absurd (cc)
 
   by_pool : (o : Option LiquidityPoolEntry) → pool_at m (pool_of_pair trade) ≡ o → swap_with trade o ≡ Some a
       → IsSwapping trade m a
-  by_pool None stands is = absurd (cc)
-  by_pool (Some p) stands is = by_pair p stands (has_pair trade p) refl is
+  by_pool None exists is = absurd (cc)
+  by_pool (Some p) exists is = by_pair p exists (has_pair trade p) refl is
 
   by_flag : (t : Bool) → (if t then None else swap_with trade (pool_at m (pool_of_pair trade))) ≡ Some a
       → IsSwapping trade m a
@@ -114,29 +100,29 @@ module _ (trade : Trade) (m : EntryMap) (a : Amounts) where
   pub swapping : (ctx : Ctx) → swap_of ctx trade m ≡ Some a → IsSwapping trade m a
   swapping ctx is = by_flag (is_trading_disabled ctx) is
 
--- ---- what the calls tell
+-- ---- what the calls say
 
-pub none_told : (x y : ℤ) (o : Option Amounts) → IsSwapOf x y None o → o ≡ None
-none_told x y None told = refl
-none_told x y (Some a) told = absurd told
+pub none_reported : (x y : ℤ) (o : Option Amounts) → IsSwapOf x y None o → o ≡ None
+none_reported x y None shown = refl
+none_reported x y (Some a) shown = absurd shown
 
-pub some_told : (x y : ℤ) (swap : Swap) (o : Option Amounts) → IsSwapOf x y (Some swap) o
+pub some_shown : (x y : ℤ) (swap : Swap) (o : Option Amounts) → IsSwapOf x y (Some swap) o
     → (o ≡ Some (amounts_of swap)) × DoesSwapFit x y swap
-some_told x y swap None told = absurd told
-some_told x y swap (Some a) told = (
-  λ i. Some (record { wheat = sym (ap unsigned_abs told.0) i; sheep = sym (ap unsigned_abs told.1) i }),
-  told.2,
+some_shown x y swap None shown = absurd shown
+some_shown x y swap (Some a) shown = (
+  λ i. Some (record { wheat = sym (ap unsigned_abs shown.0) i; sheep = sym (ap unsigned_abs shown.1) i }),
+  shown.2,
 )
 
 module _ (ctx : Ctx) (trade : Trade) (m : EntryMap) (enabled : is_trading_disabled ctx ≡ false)
-    (p : LiquidityPoolEntry) (stands : pool_at m (pool_of_pair trade) ≡ Some p) where
+    (p : LiquidityPoolEntry) (exists : pool_at m (pool_of_pair trade) ≡ Some p) where
   abbrev moved : Option Amounts
   moved = swap_by trade.rounding (sheep_in trade p) (wheat_in trade p) (left_of trade)
 
   by_its : swap_of ctx trade m ≡ (if has_pair trade p then moved else None)
   by_its =
       ap (λ t. if t then None else swap_with trade (pool_at m (pool_of_pair trade))) enabled
-      ∙ ap (swap_with trade) stands
+      ∙ ap (swap_with trade) exists
 
   pub no_pair : has_pair trade p ≡ false → swap_of ctx trade m ≡ None
   no_pair other = by_its ∙ ap (λ t. if t then moved else None) other

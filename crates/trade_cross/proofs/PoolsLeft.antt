@@ -1,29 +1,12 @@
 -- What a pool leaves whose reserves change.
-use Rattle.std.proofs.Common.{◌≡◌, refl, sym, ap, subst, ◌∙◌, ℕ, Bool, true, false, Some, arith}
-use Rattle.std.proofs.lemmas.Int.{ints}
-use Rattle.std.specs.Prelude.{ℤ, pos, ◌+ℤ◌, if◌then◌else◌}
-use Rattle.std.specs.FinMap.{get}
-use Rattle.std.specs.Ordering.{is_eq}
-use Rattle.ledger_types.specs.declared.ids.Hash.{Hash}
-use Rattle.ledger_types.specs.declared.asset.Asset.{Asset}
-use Rattle.ledger_types.specs.declared.liquidity_pool.LiquidityPoolEntry.{LiquidityPoolEntry}
-use Rattle.ledger_types.specs.declared.entry.LedgerEntry.{LedgerEntry}
+use Rattle.trade_cross.proofs.Prelude.{◌≡◌, refl, sym, ap, subst, ◌∙◌, ℕ, Bool, true, false, Some, arith, ints, ℤ, pos}
+use Rattle.trade_cross.proofs.Prelude.{◌+ℤ◌, if◌then◌else◌, get, is_eq, Hash, Asset, LiquidityPoolEntry, LedgerEntry}
+use Rattle.trade_cross.proofs.Prelude.{LedgerKey, asset_cmp, key_of_body, EntryMap, put, pool_at, with_pool, part}
+use Rattle.trade_cross.proofs.Prelude.{KeepsParams, IsKeyed, under_key, HoldsMore, of_asset, held_in, held_of}
+use Rattle.trade_cross.proofs.Prelude.{put_beside, pool_entry, with_pool_body, IsPoolEntry, put_holds, Leaves}
+use Rattle.trade_cross.proofs.Prelude.{accounts_kept, keyed_put, with_pool_is}
 use Rattle.ledger_types.specs.declared.entry.LedgerEntryBody.TheVariants as body
-use Rattle.ledger_types.specs.declared.key.LedgerKey.{LedgerKey}
 use Rattle.ledger_types.specs.declared.key.LedgerKey.TheVariants as key
-use Rattle.ledger_types.specs.KeyOrder.{asset_cmp}
-use Rattle.ledger_types.specs.Keys.{key_of_body}
-use Rattle.entry_map.specs.EntryMap.{EntryMap, put}
-use Rattle.entry_slots.specs.Pools.{pool_at, with_pool}
-use Rattle.legal_rules.specs.entry_sums.Sums.{part}
-use Rattle.legal_rules.specs.ChangeLaws.{KeepsParams}
-use Rattle.legal_rules.specs.Holdings.{IsKeyed, under_key, HoldsMore}
-use Rattle.legal_rules.specs.Supply.{of_asset, held_in, held as held_of}
-use Rattle.legal_rules.proofs.ChargesLeft.{put_beside}
-use Rattle.legal_rules.proofs.Changed.{pool_entry, with_pool_body, IsPoolEntry}
-use Rattle.legal_rules.proofs.Holdings.{put_holds}
-use Rattle.legal_rules.proofs.Leaving.{Leaves, accounts_kept, keyed_put}
-use Rattle.trade_cross.proofs.PoolsLegal.{with_pool_is}
 
 -- both amounts of an asset more
 abbrev pub both_of : LiquidityPoolEntry → (a b : ℤ) → Asset → ℤ
@@ -44,12 +27,12 @@ more_of false true x y a b = omega (arith, ints)
 more_of false false x y a b = refl
 
 module _ (base : ℕ) (m : EntryMap) (keyed : IsKeyed m) (pool : Hash) (f : LiquidityPoolEntry → LiquidityPoolEntry)
-    (p : LiquidityPoolEntry) (stands : pool_at m pool ≡ Some p) (a b : ℤ) (rises : Rises p (f p) a b) where
+    (p : LiquidityPoolEntry) (exists : pool_at m pool ≡ Some p) (a b : ℤ) (rises : Rises p (f p) a b) where
   abbrev at : LedgerKey
   at = key.LiquidityPool pool
 
   found : (e : LedgerEntry) × IsPoolEntry m pool p e
-  found = pool_entry m pool p stands
+  found = pool_entry m pool p exists
 
   its_key : key.LiquidityPool (f p).pool_id ≡ at
   its_key = ap key.LiquidityPool rises.keeps.id ∙ sym (ap key_of_body found.1.is) ∙ keyed at found.0 found.1.there

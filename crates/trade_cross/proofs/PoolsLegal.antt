@@ -1,23 +1,12 @@
--- A pool that stands in a legal state.
-use Rattle.std.proofs.Common.{◌≡◌, refl, sym, ap, subst, ◌∙◌, ℕ, Option, Some, None}
-use Rattle.std.specs.Prelude.{ℤ}
-use Rattle.std.specs.FinMap.{get}
-use Rattle.ledger_types.specs.declared.ids.Hash.{Hash}
-use Rattle.ledger_types.specs.declared.liquidity_pool.LiquidityPoolEntry.{LiquidityPoolEntry}
-use Rattle.ledger_types.specs.declared.entry.LedgerEntry.{LedgerEntry}
-use Rattle.ledger_types.specs.declared.entry.LedgerEntryBody.{LedgerEntryBody}
+-- A pool that exists in a legal state.
+use Rattle.trade_cross.proofs.Prelude as prelude
+use prelude.{◌≡◌, refl, sym, ap, subst, ◌∙◌, ℕ, Option, Some, None, ℤ, get, Hash, LiquidityPoolEntry, LedgerEntry}
+use prelude.{LedgerEntryBody, key_of_body, EntryMap, put, pool_in, pool_of, pool_at, pool_slot_by, pool_slot_of}
+use prelude.{pool_slot_at, pool_of_slot, entry_of_pool, with_pool, with_pool_in, with_pool_of, IsFilledOrEmpty, View}
+use prelude.{Owed, IsLegalOwing, IsBodyInRange, IsPoolInRange, pool_entry}
 use Rattle.ledger_types.specs.declared.entry.LedgerEntryBody.TheVariants as body
 use Rattle.ledger_types.specs.declared.key.LedgerKey.TheVariants as key
-use Rattle.ledger_types.specs.Keys.{key_of_body}
-use Rattle.entry_map.specs.EntryMap.{EntryMap, put}
 use Rattle.entry_slots.specs.declared.pools.PoolSlot.{PoolSlot}
-use Rattle.entry_slots.specs.Pools.{pool_in, pool_of, pool_at, pool_slot_by, pool_slot_of, pool_slot_at, pool_of_slot}
-use Rattle.entry_slots.specs.Pools.{entry_of_pool, with_pool, with_pool_in, with_pool_of}
-use Rattle.legal_rules.specs.Bounds.{IsFilledOrEmpty}
-use Rattle.legal_rules.specs.Books.{View}
-use Rattle.legal_rules.specs.Owing.{Owed, IsLegalOwing}
-use Rattle.legal_rules.specs.Ranges.{IsBodyInRange, IsPoolInRange}
-use Rattle.legal_rules.proofs.Changed.{pool_entry, with_pool_body, IsPoolEntry}
 
 pub record IsLegalPool (id : Hash) (p : LiquidityPoolEntry) : Type 0 where
   pub range : IsPoolInRange p
@@ -29,8 +18,8 @@ pool_of_key id other same = cc
 
 pub pool_legal : (v : View) (id_pool : ℕ) (owed : Owed) (sum : ℤ) (m : EntryMap) (id : Hash) (p : LiquidityPoolEntry)
     → IsLegalOwing v id_pool owed sum m → pool_at m id ≡ Some p → IsLegalPool id p
-pool_legal v id_pool owed sum m id p legal stands =
-    let found = pool_entry m id p stands in
+pool_legal v id_pool owed sum m id p legal exists =
+    let found = pool_entry m id p exists in
     let is = found.1.is in
     let entry = legal.entries (key.LiquidityPool id) found.0 found.1.there in
     record {
@@ -39,13 +28,6 @@ pool_legal v id_pool owed sum m id p legal stands =
       own = pool_of_key p.pool_id id
           (sym (ap key_of_body is) ∙ legal.keyed (key.LiquidityPool id) found.0 found.1.there);
     }
-
--- ---- a pool that is changed in its place
-
-pub with_pool_is : (m : EntryMap) (id : Hash) (f : LiquidityPoolEntry → LiquidityPoolEntry) (p : LiquidityPoolEntry)
-    (e : LedgerEntry) → IsPoolEntry m id p e → with_pool m id f ≡ put m (with_pool_body e (f p))
-unfolding with_pool
-with_pool_is m id f p e here = ap (with_pool_of m f) here.there ∙ ap (with_pool_in m e f) here.is
 
 -- ---- a pool that was loaded
 

@@ -1,29 +1,14 @@
 -- What one more turn adds to a trade.
-use Rattle.std.proofs.Common.{◌≡◌, refl, sym, ap, subst, ◌∙◌, ℕ, ◌+◌, ◌-◌, ◌≤◌, ◌<◌, zero, suc, true, false}
-use Rattle.std.proofs.Common.{List, [], ◌∷◌, ◌++◌, Some, None, append_assoc, append-nil, arith}
-use Rattle.std.proofs.lemmas.Int.{ints}
-use Rattle.std.specs.Prelude.{ℤ, pos, ◌+ℤ◌, ◌-ℤ◌, ◌≤ℤ◌, unsigned_abs, if◌then◌else◌}
-use Rattle.ledger_types.specs.declared.claim_atom.ClaimAtom.{ClaimAtom}
+use Rattle.trade_cross.proofs.Prelude.{◌≡◌, refl, sym, ap, subst, ◌∙◌, ℕ, ◌+◌, ◌-◌, ◌≤◌, ◌<◌, zero, suc, true, false}
+use Rattle.trade_cross.proofs.Prelude.{List, [], ◌∷◌, ◌++◌, Some, None, append_assoc, append-nil, arith, ints, ℤ, pos}
+use Rattle.trade_cross.proofs.Prelude.{◌+ℤ◌, ◌-ℤ◌, ◌≤ℤ◌, unsigned_abs, if◌then◌else◌, ClaimAtom, OfferEntry, EntryMap}
+use Rattle.trade_cross.proofs.Prelude.{offer_at, Amounts, greatest_i64, CrossEnd, Converted, TooMany, Plan, Trade, Turn}
+use Rattle.trade_cross.proofs.Prelude.{Ends, Meets, IsCrossable, Left, Crossing, Step, step, turn, ended, joined}
+use Rattle.trade_cross.proofs.Prelude.{at_limit, left_after, crossed, converted, atom_of, left_in, atom_of_plan, noted}
+use Rattle.trade_cross.proofs.Prelude.{DoesNoteFit, IsWithin, IsCrossing, following, in_all, Advances, IsMoved}
+use Rattle.trade_cross.proofs.Prelude.{add_nonnegative, natural_zero_add, nonnegative_from_natural, suc_minus_one}
 use Rattle.ledger_types.specs.declared.claim_atom.ClaimAtom.TheVariants as atom
-use Rattle.ledger_types.specs.declared.offer.OfferEntry.{OfferEntry}
-use Rattle.entry_map.specs.EntryMap.{EntryMap}
-use Rattle.entry_slots.specs.Offers.{offer_at}
-use Rattle.offer_exchange.specs.Exchange.{Amounts}
-use Rattle.reserve_rules.specs.Reserve.{greatest_i64}
-use Rattle.trade_cross.specs.declared.crossed.CrossEnd.{CrossEnd}
-use Rattle.trade_cross.specs.declared.crossed.CrossEnd.TheVariants.{Converted, TooMany}
-use Rattle.trade_cross.specs.declared.plan.Plan.{Plan}
 use Rattle.trade_cross.specs.declared.progress.Progress.{Progress}
-use Rattle.trade_cross.specs.declared.trade.Trade.{Trade}
-use Rattle.trade_cross.specs.declared.turn.Turn.{Turn}
-use Rattle.trade_cross.specs.declared.turn.Turn.TheVariants.{Ends, Meets}
-use Rattle.trade_cross.specs.Crossable.{IsCrossable}
-use Rattle.trade_cross.specs.Crossing.{Left, Crossing, Step, step, turn, ended, joined, at_limit, left_after, crossed}
-use Rattle.trade_cross.specs.Crossing.{converted, atom_of}
-use Rattle.trade_cross.specs.Plans.{left_in}
-use Rattle.trade_cross.specs.Progressing.{atom_of_plan, noted, DoesNoteFit, IsWithin, IsCrossing, behind, in_all}
-use Rattle.trade_cross.specs.Progressing.{Advances}
-use Rattle.trade_cross.specs.Steps.{IsMoved}
 use Rattle.trade_cross.proofs.CrossedLegal.{met}
 use Rattle.trade_cross.proofs.StepLegal.{step_legal, step_sheep, step_wheat}
 
@@ -66,9 +51,6 @@ module _ (base : ℕ) (trade : Trade) (left : Left) (m : EntryMap) where
 
 -- ---- one offer more
 
-natural : (z : ℤ) (n : ℕ) → z ≡ pos n → unsigned_abs z ≡ n
-natural z n is = ap unsigned_abs is
-
 sum_abs : (p x : ℤ) (a b : ℕ) → pos 0 ≤ℤ p → x ≡ pos a → unsigned_abs (p +ℤ x) + b ≡ unsigned_abs p + (a + b)
 sum_abs p x a b low is = omega (arith, ints)
 
@@ -81,20 +63,11 @@ within_abs s x a low is le = omega (arith, ints)
 left_low : (s x : ℤ) → x ≤ℤ s → pos 0 ≤ℤ (s -ℤ x)
 left_low s x le = omega (arith, ints)
 
-sum_low : (p x : ℤ) → pos 0 ≤ℤ p → pos 0 ≤ℤ x → pos 0 ≤ℤ (p +ℤ x)
-sum_low p x low also = omega (arith, ints)
-
 same_sum : (p x s t : ℤ) → (p +ℤ s) ≡ t → ((p +ℤ x) +ℤ (s -ℤ x)) ≡ t
 same_sum p x s t is = omega (arith, ints)
 
 sum_fits : (p s t g : ℤ) → (p +ℤ s) ≡ t → t ≤ℤ g → (p +ℤ s) ≤ℤ g
 sum_fits p s t g is le = omega (arith, ints)
-
-low_natural : (z : ℤ) (n : ℕ) → z ≡ pos n → pos 0 ≤ℤ z
-low_natural z n is = omega (arith, ints)
-
-one_less : (c k : ℕ) → c ≡ suc k → c - 1 ≡ k
-one_less c k is = omega arith
 
 some_crossings : (c : ℕ) → 0 < c → (k : ℕ) × (c ≡ suc k)
 some_crossings zero some = absurd (omega arith)
@@ -113,8 +86,8 @@ module _ (p : Progress) (o : OfferEntry) (plan : Plan) (a : Amounts) (sheep : pl
   atoms_are rest = append_assoc p.atoms (atom_of_plan o plan ∷ []) rest ∙ ap (λ x. p.atoms ++ x ∷ rest) atom_is
 
   module _ (trade : Trade) (within : IsWithin trade p) where
-    behind_joined : (rest : Crossing) → behind (noted p o plan) rest ≡ behind p (joined o a rest)
-    behind_joined rest = λ i. record {
+    after_joined : (rest : Crossing) → following (noted p o plan) rest ≡ following p (joined o a rest)
+    after_joined rest = λ i. record {
       sheep = sum_abs p.sheep plan.sheep a.sheep rest.sheep within.sheep_low sheep i;
       wheat = sum_abs p.wheat plan.wheat a.wheat rest.wheat within.wheat_low wheat i;
       atoms = atoms_are rest.atoms i;
@@ -138,8 +111,8 @@ module _ (p : Progress) (o : OfferEntry) (plan : Plan) (a : Amounts) (sheep : pl
 
       note_fits : DoesNoteFit p plan
       note_fits = record {
-        sheep = low_natural plan.sheep a.sheep sheep;
-        wheat = low_natural plan.wheat a.wheat wheat;
+        sheep = nonnegative_from_natural plan.sheep a.sheep sheep;
+        wheat = nonnegative_from_natural plan.wheat a.wheat wheat;
         sheep_left = sheep_left;
         wheat_left = wheat_left;
         sheep_low = within.sheep_low;
@@ -155,8 +128,8 @@ module _ (p : Progress) (o : OfferEntry) (plan : Plan) (a : Amounts) (sheep : pl
           sheep_send = left_low p.left.sheep_send plan.sheep sheep_left;
           wheat_receive = left_low p.left.wheat_receive plan.wheat wheat_left;
         };
-        sheep_low = sum_low p.sheep plan.sheep within.sheep_low (low_natural plan.sheep a.sheep sheep);
-        wheat_low = sum_low p.wheat plan.wheat within.wheat_low (low_natural plan.wheat a.wheat wheat);
+        sheep_low = add_nonnegative p.sheep plan.sheep within.sheep_low (nonnegative_from_natural plan.sheep a.sheep sheep);
+        wheat_low = add_nonnegative p.wheat plan.wheat within.wheat_low (nonnegative_from_natural plan.wheat a.wheat wheat);
         sheep = same_sum p.sheep plan.sheep p.left.sheep_send trade.sheep_send within.sheep;
         wheat = same_sum p.wheat plan.wheat p.left.wheat_receive trade.wheat_receive within.wheat;
         sheep_fits = within.sheep_fits;
@@ -174,16 +147,16 @@ module _ (base : ℕ) (trade : Trade) (p : Progress) (m : EntryMap) (crossable :
   abbrev x : Step
   x = step base trade.rounding left o m
 
-  pub stands : offer_at m o.seller_id o.offer_id ≡ Some o
-  stands = (met trade left m crossable.legal.keyed o meets).book.stands
+  pub exists : offer_at m o.seller_id o.offer_id ≡ Some o
+  exists = (met trade left m crossable.legal.keyed o meets).book.exists
 
   sheep_within : x.amounts.sheep ≤ left.sheep_send
   sheep_within = step_sheep crossable.view crossable.id_pool base crossable.owed crossable.right o crossable.sum m
-      crossable.legal stands trade.rounding left
+      crossable.legal exists trade.rounding left
 
   wheat_within : x.amounts.wheat ≤ left.wheat_receive
   wheat_within = step_wheat crossable.view crossable.id_pool base crossable.owed crossable.right o crossable.sum m
-      crossable.legal stands trade.rounding left
+      crossable.legal exists trade.rounding left
 
   -- crossing goes on
   pub still_crossable : IsCrossable x.entries
@@ -193,7 +166,7 @@ module _ (base : ℕ) (trade : Trade) (p : Progress) (m : EntryMap) (crossable :
     owed = crossable.owed;
     sum = _;
     legal = step_legal crossable.view crossable.id_pool base crossable.owed crossable.right o crossable.sum m
-        crossable.legal stands trade.rounding left;
+        crossable.legal exists trade.rounding left;
     right = crossable.right;
   }
 
@@ -210,24 +183,24 @@ module _ (base : ℕ) (trade : Trade) (p : Progress) (m : EntryMap) (crossable :
     abbrev rest : ℕ → Crossing
     rest k = if x.stays then ended x.entries Converted else crossed base trade k (left_after left x.amounts) x.entries
 
-    all_is : (k : ℕ) → p.crossings ≡ suc k → in_all base trade p m ≡ behind q (rest k)
+    all_is : (k : ℕ) → p.crossings ≡ suc k → in_all base trade p m ≡ following q (rest k)
     all_is k is =
-        ap (λ c. behind p (crossed base trade c left m)) is
-        ∙ ap (behind p) (crossed_meets base trade left m k o meets)
-        ∙ sym (behind_joined p o plan x.amounts moved.sheep moved.wheat trade within (rest k))
+        ap (λ c. following p (crossed base trade c left m)) is
+        ∙ ap (following p) (crossed_meets base trade left m k o meets)
+        ∙ sym (after_joined p o plan x.amounts moved.sheep moved.wheat trade within (rest k))
 
     pub ends_converted : x.stays ≡ true → Advances base trade (Some Converted) p m q x.entries
     ends_converted stays =
         let k = some_crossings p.crossings some in
-        sym (all_is k.0 k.1 ∙ ap (λ t. behind q (if t then ended x.entries Converted
+        sym (all_is k.0 k.1 ∙ ap (λ t. following q (if t then ended x.entries Converted
         else crossed base trade k.0 (left_after left x.amounts) x.entries)) stays)
 
     pub goes_on : x.stays ≡ false → Advances base trade None p m q x.entries
     goes_on goes =
         let k = some_crossings p.crossings some in (
-          (λ i. behind q (crossed base trade (one_less p.crossings k.0 k.1 i) (left_is p o plan x.amounts moved.sheep
+          (λ i. following q (crossed base trade (suc_minus_one p.crossings k.0 k.1 i) (left_is p o plan x.amounts moved.sheep
               moved.wheat trade within sheep_within wheat_within i) x.entries))
-              ∙ sym (all_is k.0 k.1 ∙ ap (λ t. behind q (if t then ended x.entries Converted
+              ∙ sym (all_is k.0 k.1 ∙ ap (λ t. following q (if t then ended x.entries Converted
               else crossed base trade k.0 (left_after left x.amounts) x.entries)) goes),
           one_more p.crossings some,
         )
@@ -247,18 +220,15 @@ module _ (base : ℕ) (trade : Trade) (p : Progress) (m : EntryMap) (crossable :
 
 pub ends : (base : ℕ) (trade : Trade) (p : Progress) (m : EntryMap) (end : CrossEnd)
     → turn trade (left_in p.left) m ≡ Ends end → Advances base trade (Some end) p m p m
-ends base trade p m end is = ap (behind p) (sym (crossed_ends base trade (left_in p.left) m p.crossings end is))
+ends base trade p m end is = ap (following p) (sym (crossed_ends base trade (left_in p.left) m p.crossings end is))
 
 pub limited : (base : ℕ) (trade : Trade) (p : Progress) (m : EntryMap) (o : OfferEntry)
     → turn trade (left_in p.left) m ≡ Meets o → p.crossings ≡ 0 → Advances base trade (Some TooMany) p m p m
 limited base trade p m o is none =
-    ap (behind p) (sym (ap (λ c. crossed base trade c (left_in p.left) m) none
+    ap (following p) (sym (ap (λ c. crossed base trade c (left_in p.left) m) none
     ∙ crossed_limited base trade (left_in p.left) m o is))
 
--- ---- the whole
-
-none_before : (n : ℕ) → n ≡ 0 + n
-none_before n = omega arith
+-- ---- the entire trade
 
 abbrev pub start : Trade → Progress
 start trade =
@@ -275,22 +245,22 @@ pub start_is : (base : ℕ) (trade : Trade) (m : EntryMap) → converted base tr
 start_is base trade m =
     let done = converted base trade m in
     λ i. record {
-      sheep = none_before done.sheep i;
-      wheat = none_before done.wheat i;
+      sheep = sym (natural_zero_add done.sheep) i;
+      wheat = sym (natural_zero_add done.wheat) i;
       atoms = done.atoms;
       end = done.end;
       entries = done.entries;
     }
 
-nothing_more : (z : ℤ) → pos 0 ≤ℤ z → z ≡ pos (unsigned_abs z + 0)
-nothing_more z low = omega (arith, ints)
+abs_add_zero : (z : ℤ) → pos 0 ≤ℤ z → z ≡ pos (unsigned_abs z + 0)
+abs_add_zero z low = omega (arith, ints)
 
 module _ (trade : Trade) (done : Crossing) (q : Progress) (n : EntryMap) (end : CrossEnd) (within : IsWithin trade q)
-    (is : done ≡ behind q (ended n end)) where
+    (is : done ≡ following q (ended n end)) where
   pub finished : IsCrossing (record { sheep = q.sheep; wheat = q.wheat; atoms = q.atoms; end = end }) done
   finished = record {
-    sheep = nothing_more q.sheep within.sheep_low ∙ sym (ap (λ (c : Crossing). pos c.sheep) is);
-    wheat = nothing_more q.wheat within.wheat_low ∙ sym (ap (λ (c : Crossing). pos c.wheat) is);
+    sheep = abs_add_zero q.sheep within.sheep_low ∙ sym (ap (λ (c : Crossing). pos c.sheep) is);
+    wheat = abs_add_zero q.wheat within.wheat_low ∙ sym (ap (λ (c : Crossing). pos c.wheat) is);
     atoms = sym (append-nil q.atoms) ∙ sym (ap (λ (c : Crossing). c.atoms) is);
     end = sym (ap (λ (c : Crossing). c.end) is);
   }

@@ -1,20 +1,10 @@
--- What an offer's owner can give and take, as it is seen in the entries that stand before the offer's liabilities are
--- released, and behind the trade.
-use Rattle.std.proofs.Common.{◌≡◌, ◌≢◌, ap, ◌∙◌, Option, Some, None}
-use Rattle.std.specs.FinMap.{get}
-use Rattle.ledger_types.specs.declared.ids.AccountId.{AccountId}
-use Rattle.ledger_types.specs.declared.asset.TrustLineAsset.{TrustLineAsset}
-use Rattle.ledger_types.specs.declared.account.AccountEntry.{AccountEntry}
-use Rattle.ledger_types.specs.declared.trust_line.TrustLineEntry.{TrustLineEntry}
-use Rattle.ledger_types.specs.declared.entry.LedgerEntry.{LedgerEntry}
-use Rattle.ledger_types.specs.declared.entry.LedgerEntryBody.{LedgerEntryBody}
+-- What an offer's owner can give and take, as it is seen in the entries that exist before the offer's liabilities are
+-- released, and after the trade.
+use Rattle.trade_cross.proofs.Prelude.{◌≡◌, ◌≢◌, ap, ◌∙◌, Option, Some, None, get, AccountId, TrustLineAsset}
+use Rattle.trade_cross.proofs.Prelude.{AccountEntry, TrustLineEntry, LedgerEntry, LedgerEntryBody, LedgerKey, EntryMap}
+use Rattle.trade_cross.proofs.Prelude.{account_in, account_of, account_at, line_in, line_of, line_at, IsKeyed}
 use Rattle.ledger_types.specs.declared.entry.LedgerEntryBody.TheVariants as body
-use Rattle.ledger_types.specs.declared.key.LedgerKey.{LedgerKey}
 use Rattle.ledger_types.specs.declared.key.LedgerKey.TheVariants as key
-use Rattle.entry_map.specs.EntryMap.{EntryMap}
-use Rattle.entry_slots.specs.Accounts.{account_in, account_of, account_at}
-use Rattle.entry_slots.specs.Lines.{line_in, line_of, line_at}
-use Rattle.legal_rules.specs.Holdings.{IsKeyed}
 use Rattle.trade_cross.proofs.Altering.{mapped, altered_opt, AreApart, KeepsKeys, altered_at, opt_keyed, opt_elsewhere}
 use Rattle.trade_cross.proofs.Changing.{over, holding_body}
 
@@ -45,14 +35,14 @@ module _ (f : AccountEntry → AccountEntry) (g : TrustLineEntry → TrustLineEn
     pub account_then : (id : AccountId) (a : AccountEntry) → account_at m id ≡ Some a
         → account_at (altered_opt (Some (key.Account id)) (over (holding_body f g)) m) id ≡ Some (f a)
     unfolding account_at
-    account_then id a stands = ap account_of (altered_at m keyed (key.Account id) (over (holding_body f g)) keeps)
-        ∙ account_changed_of (get m (key.Account id)) a stands
+    account_then id a exists = ap account_of (altered_at m keyed (key.Account id) (over (holding_body f g)) keeps)
+        ∙ account_changed_of (get m (key.Account id)) a exists
 
     pub line_then : (id : AccountId) (x : TrustLineAsset) (t : TrustLineEntry) → line_at m id x ≡ Some t
         → line_at (altered_opt (Some (key.TrustLine id x)) (over (holding_body f g)) m) id x ≡ Some (g t)
     unfolding line_at
-    line_then id x t stands = ap line_of (altered_at m keyed (key.TrustLine id x) (over (holding_body f g)) keeps)
-        ∙ line_changed_of (get m (key.TrustLine id x)) t stands
+    line_then id x t exists = ap line_of (altered_at m keyed (key.TrustLine id x) (over (holding_body f g)) keeps)
+        ∙ line_changed_of (get m (key.TrustLine id x)) t exists
 
 -- ---- under another key
 
@@ -84,29 +74,29 @@ module _ (m : EntryMap) (keyed : IsKeyed m) (w s : Option LedgerKey) (apart : Ar
 
   pub account_first : (id : AccountId) (a : AccountEntry) → w ≡ Some (key.Account id) → account_at m id ≡ Some a
       → account_at both id ≡ Some (f a)
-  account_first id a is stands =
+  account_first id a is exists =
       account_elsewhere first first_keyed s (over (holding_body p q)) also id (apart (key.Account id) is)
       ∙ ap (λ k. account_at (altered_opt k (over (holding_body f g)) m) id) is
-      ∙ account_then f g m keyed keeps id a stands
+      ∙ account_then f g m keyed keeps id a exists
 
   pub line_first : (id : AccountId) (x : TrustLineAsset) (t : TrustLineEntry) → w ≡ Some (key.TrustLine id x)
       → line_at m id x ≡ Some t → line_at both id x ≡ Some (g t)
-  line_first id x t is stands =
+  line_first id x t is exists =
       line_elsewhere first first_keyed s (over (holding_body p q)) also id x (apart (key.TrustLine id x) is)
       ∙ ap (λ k. line_at (altered_opt k (over (holding_body f g)) m) id x) is
-      ∙ line_then f g m keyed keeps id x t stands
+      ∙ line_then f g m keyed keeps id x t exists
 
   pub account_second : (id : AccountId) (a : AccountEntry) → s ≡ Some (key.Account id) → account_at m id ≡ Some a
       → account_at both id ≡ Some (p a)
-  account_second id a is stands =
+  account_second id a is exists =
       ap (λ k. account_at (altered_opt k (over (holding_body p q)) first) id) is
       ∙ account_then p q first first_keyed also id a
-      (account_elsewhere m keyed w (over (holding_body f g)) keeps id (λ same. apart (key.Account id) same is) ∙ stands)
+      (account_elsewhere m keyed w (over (holding_body f g)) keeps id (λ same. apart (key.Account id) same is) ∙ exists)
 
   pub line_second : (id : AccountId) (x : TrustLineAsset) (t : TrustLineEntry) → s ≡ Some (key.TrustLine id x)
       → line_at m id x ≡ Some t → line_at both id x ≡ Some (q t)
-  line_second id x t is stands =
+  line_second id x t is exists =
       ap (λ k. line_at (altered_opt k (over (holding_body p q)) first) id x) is
       ∙ line_then p q first first_keyed also id x t
       (line_elsewhere m keyed w (over (holding_body f g)) keeps id x (λ same. apart (key.TrustLine id x) same is)
-      ∙ stands)
+      ∙ exists)

@@ -1,39 +1,15 @@
--- What an offer's owner can give and take, as it is seen before the offer's liabilities are released, and behind the
+-- What an offer's owner can give and take, as it is seen before the offer's liabilities are released, and after the
 -- trade.
-use Rattle.std.proofs.Common.{◌≡◌, refl, sym, ap, subst, ◌∙◌, ℕ, ◌-◌, ◌≤◌, Option, Some, None, arith}
-use Rattle.std.proofs.lemmas.Int.{ints}
-use Rattle.std.specs.Prelude.{ℤ, pos, neg_ℤ, ◌+ℤ◌, ◌-ℤ◌}
-use Rattle.ledger_types.specs.declared.ids.AccountId.{AccountId}
-use Rattle.ledger_types.specs.declared.asset.TrustLineAsset.{TrustLineAsset}
-use Rattle.ledger_types.specs.declared.price.Liabilities.{Liabilities}
-use Rattle.ledger_types.specs.declared.account.AccountEntry.{AccountEntry}
-use Rattle.ledger_types.specs.declared.trust_line.TrustLineEntry.{TrustLineEntry}
-use Rattle.ledger_types.specs.declared.offer.OfferEntry.{OfferEntry}
-use Rattle.ledger_types.specs.declared.key.LedgerKey.{LedgerKey}
+use Rattle.trade_cross.proofs.Prelude as prelude
+use prelude.{◌≡◌, refl, sym, ap, subst, ◌∙◌, ℕ, ◌-◌, ◌≤◌, Option, Some, None, arith, ints, ℤ, pos, neg_ℤ, ◌+ℤ◌, ◌-ℤ◌}
+use prelude.{AccountId, TrustLineAsset, Liabilities, AccountEntry, TrustLineEntry, OfferEntry, LedgerKey, EntryMap}
+use prelude.{account_at, account_liabilities, facts_in, line_at, line_liabilities, Amounts, available, min_balance}
+use prelude.{room, line_available, line_room, greatest_i64, risen, releasing, bound_account, bound_line, IsKeyed}
+use prelude.{bound_of, paid, stored, line_stored, Change, IsHeld, seller_gives_at, seller_takes_at, map_after_trade}
+use prelude.{giving_change, taking_change, at_least_nothing, most_given, most_taken, account_gives, account_takes}
+use prelude.{line_gives, line_takes, changed_account, changed_line, facts_give_with, facts_take_with, line_gives_with}
+use prelude.{line_takes_with, given_with, taken_with, still_most}
 use Rattle.ledger_types.specs.declared.key.LedgerKey.TheVariants as key
-use Rattle.entry_map.specs.EntryMap.{EntryMap}
-use Rattle.entry_slots.specs.Accounts.{account_at}
-use Rattle.entry_slots.specs.AccountExtensions.{account_liabilities}
-use Rattle.entry_slots.specs.AccountFacts.{facts_in}
-use Rattle.entry_slots.specs.Lines.{line_at}
-use Rattle.entry_slots.specs.LineExtensions.{line_liabilities}
-use Rattle.offer_exchange.specs.Exchange.{Amounts}
-use Rattle.reserve_rules.specs.Reserve.{available, min_balance, room, line_available, line_room, greatest_i64}
-use Rattle.legal_rules.specs.Binding.{risen, releasing, bound_account, bound_line}
-use Rattle.legal_rules.specs.Holdings.{IsKeyed}
-use Rattle.legal_rules.specs.OfferLiabilities.{bound_of}
-use Rattle.legal_rules.specs.Payments.{paid}
-use Rattle.legal_rules.proofs.Liable.{stored, line_stored}
-use Rattle.trade_cross.specs.declared.holding.Change.{Change}
-use Rattle.trade_cross.specs.Accounts.{IsHeld}
-use Rattle.trade_cross.specs.Crossing.{seller_gives_at, seller_takes_at, map_after_trade}
-use Rattle.trade_cross.specs.Plans.{giving_change, taking_change}
-use Rattle.trade_cross.specs.Holdings.{at_least_nothing, most_given, most_taken, account_gives, account_takes}
-use Rattle.trade_cross.specs.Holdings.{line_gives}
-use Rattle.trade_cross.specs.Holdings.{line_takes}
-use Rattle.trade_cross.specs.Places.{changed_account, changed_line}
-use Rattle.trade_cross.specs.Sides.{facts_give_with, facts_take_with, line_gives_with, line_takes_with, given_with}
-use Rattle.trade_cross.specs.Sides.{taken_with, still_most}
 use Rattle.trade_cross.proofs.Altering.{AreApart}
 use Rattle.trade_cross.proofs.Changing.{bound_keeps, changed_keeps}
 use Rattle.trade_cross.proofs.Left.{bound_available}
@@ -42,14 +18,11 @@ use Rattle.trade_cross.proofs.Seen.{account_first, line_first, account_second, l
 
 -- ---- numbers
 
-sold_back : (b p s : ℤ) (n : ℕ) → ((b -ℤ p -ℤ s) +ℤ pos n) ≡ (b -ℤ p -ℤ (s +ℤ neg_ℤ (pos n)))
-sold_back b p s n = omega (arith, ints)
+room_given_back : (b p s : ℤ) (n : ℕ) → ((b -ℤ p -ℤ s) +ℤ pos n) ≡ (b -ℤ p -ℤ (s +ℤ neg_ℤ (pos n)))
+room_given_back b p s n = omega (arith, ints)
 
 line_sold_back : (b s : ℤ) (n : ℕ) → ((b -ℤ s) +ℤ pos n) ≡ (b -ℤ (s +ℤ neg_ℤ (pos n)))
 line_sold_back b s n = omega (arith, ints)
-
-bought_back : (g b x : ℤ) (n : ℕ) → ((g -ℤ b -ℤ x) +ℤ pos n) ≡ (g -ℤ b -ℤ (x +ℤ neg_ℤ (pos n)))
-bought_back g b x n = omega (arith, ints)
 
 -- less a number that is there
 pub less_there : (x y : ℤ) (n : ℕ) → n ≤ at_least_nothing x → y ≡ (x -ℤ pos n)
@@ -95,35 +68,35 @@ module _ (base : ℕ) (m : EntryMap) (keyed : IsKeyed m) (o : OfferEntry)
 
   giver_released : (id : AccountId) (a : AccountEntry) → w ≡ Some (key.Account id) → account_at m id ≡ Some a
       → account_at r id ≡ Some (bound_account (neg_ℤ (pos wheat)) (pos 0) a)
-  giver_released id a is stands = ap (λ n. account_at n id) (releasing_is m keyed o apart none_moved)
+  giver_released id a is exists = ap (λ n. account_at n id) (releasing_is m keyed o apart none_moved)
       ∙ account_first m keyed w s apart (bound_account (neg_ℤ (pos wheat)) (pos 0))
       (bound_account (pos 0) (neg_ℤ (pos sheep))) (bound_line (neg_ℤ (pos wheat)) (pos 0))
       (bound_line (pos 0) (neg_ℤ (pos sheep))) (bound_keeps (neg_ℤ (pos wheat)) (pos 0))
-      (bound_keeps (pos 0) (neg_ℤ (pos sheep))) id a is stands
+      (bound_keeps (pos 0) (neg_ℤ (pos sheep))) id a is exists
 
   giver_line_released : (id : AccountId) (x : TrustLineAsset) (t : TrustLineEntry) → w ≡ Some (key.TrustLine id x)
       → line_at m id x ≡ Some t → line_at r id x ≡ Some (bound_line (neg_ℤ (pos wheat)) (pos 0) t)
-  giver_line_released id x t is stands = ap (λ n. line_at n id x) (releasing_is m keyed o apart none_moved)
+  giver_line_released id x t is exists = ap (λ n. line_at n id x) (releasing_is m keyed o apart none_moved)
       ∙ line_first m keyed w s apart (bound_account (neg_ℤ (pos wheat)) (pos 0))
       (bound_account (pos 0) (neg_ℤ (pos sheep))) (bound_line (neg_ℤ (pos wheat)) (pos 0))
       (bound_line (pos 0) (neg_ℤ (pos sheep))) (bound_keeps (neg_ℤ (pos wheat)) (pos 0))
-      (bound_keeps (pos 0) (neg_ℤ (pos sheep))) id x t is stands
+      (bound_keeps (pos 0) (neg_ℤ (pos sheep))) id x t is exists
 
   taker_released : (id : AccountId) (a : AccountEntry) → s ≡ Some (key.Account id) → account_at m id ≡ Some a
       → account_at r id ≡ Some (bound_account (pos 0) (neg_ℤ (pos sheep)) a)
-  taker_released id a is stands = ap (λ n. account_at n id) (releasing_is m keyed o apart none_moved)
+  taker_released id a is exists = ap (λ n. account_at n id) (releasing_is m keyed o apart none_moved)
       ∙ account_second m keyed w s apart (bound_account (neg_ℤ (pos wheat)) (pos 0))
       (bound_account (pos 0) (neg_ℤ (pos sheep))) (bound_line (neg_ℤ (pos wheat)) (pos 0))
       (bound_line (pos 0) (neg_ℤ (pos sheep))) (bound_keeps (neg_ℤ (pos wheat)) (pos 0))
-      (bound_keeps (pos 0) (neg_ℤ (pos sheep))) id a is stands
+      (bound_keeps (pos 0) (neg_ℤ (pos sheep))) id a is exists
 
   taker_line_released : (id : AccountId) (x : TrustLineAsset) (t : TrustLineEntry) → s ≡ Some (key.TrustLine id x)
       → line_at m id x ≡ Some t → line_at r id x ≡ Some (bound_line (pos 0) (neg_ℤ (pos sheep)) t)
-  taker_line_released id x t is stands = ap (λ n. line_at n id x) (releasing_is m keyed o apart none_moved)
+  taker_line_released id x t is exists = ap (λ n. line_at n id x) (releasing_is m keyed o apart none_moved)
       ∙ line_second m keyed w s apart (bound_account (neg_ℤ (pos wheat)) (pos 0))
       (bound_account (pos 0) (neg_ℤ (pos sheep))) (bound_line (neg_ℤ (pos wheat)) (pos 0))
       (bound_line (pos 0) (neg_ℤ (pos sheep))) (bound_keeps (neg_ℤ (pos wheat)) (pos 0))
-      (bound_keeps (pos 0) (neg_ℤ (pos sheep))) id x t is stands
+      (bound_keeps (pos 0) (neg_ℤ (pos sheep))) id x t is exists
 
   -- ---- once liabilities are released
 
@@ -132,7 +105,7 @@ module _ (base : ℕ) (m : EntryMap) (keyed : IsKeyed m) (o : OfferEntry)
   given_by (Some (key.Account id)) is held =
       ap (λ x. facts_give_with base (pos wheat) (facts_in x)) held.1
       ∙ ap at_least_nothing
-      (sold_back held.0.balance (min_balance held.0 base) (account_liabilities held.0).selling wheat
+      (room_given_back held.0.balance (min_balance held.0 base) (account_liabilities held.0).selling wheat
       ∙ sym (bound_available base (neg_ℤ (pos wheat)) (pos 0) held.0))
       ∙ sym (ap (account_gives base) (giver_released id held.0 is held.1))
   given_by (Some (key.TrustLine id x)) is held =
@@ -150,13 +123,13 @@ module _ (base : ℕ) (m : EntryMap) (keyed : IsKeyed m) (o : OfferEntry)
   taken_by None is held = refl
   taken_by (Some (key.Account id)) is held =
       ap (λ x. facts_take_with (pos sheep) (facts_in x)) held.1
-      ∙ ap at_least_nothing (bought_back greatest_i64 held.0.balance (account_liabilities held.0).buying sheep
+      ∙ ap at_least_nothing (room_given_back greatest_i64 held.0.balance (account_liabilities held.0).buying sheep
       ∙ sym (ap (λ (l : Liabilities). greatest_i64 -ℤ held.0.balance -ℤ l.buying)
       (stored (risen (pos 0) (neg_ℤ (pos sheep)) (account_liabilities held.0)) held.0.ext)))
       ∙ sym (ap account_takes (taker_released id held.0 is held.1))
   taken_by (Some (key.TrustLine id x)) is held =
       ap (line_takes_with (pos sheep)) held.1
-      ∙ ap at_least_nothing (bought_back held.0.limit held.0.balance (line_liabilities held.0).buying sheep
+      ∙ ap at_least_nothing (room_given_back held.0.limit held.0.balance (line_liabilities held.0).buying sheep
       ∙ sym (ap (λ (l : Liabilities). held.0.limit -ℤ held.0.balance -ℤ l.buying)
       (line_stored (risen (pos 0) (neg_ℤ (pos sheep)) (line_liabilities held.0)) held.0.ext)))
       ∙ sym (ap line_takes (taker_line_released id x held.0 is held.1))
@@ -165,7 +138,7 @@ module _ (base : ℕ) (m : EntryMap) (keyed : IsKeyed m) (o : OfferEntry)
   pub taken_same : IsHeld m s → taken_with (pos sheep) m s ≡ most_taken r s
   taken_same = taken_by s refl
 
-  -- ---- behind the trade
+  -- ---- after the trade
 
   module _ (a : Amounts) where
     abbrev t : EntryMap
@@ -179,35 +152,35 @@ module _ (base : ℕ) (m : EntryMap) (keyed : IsKeyed m) (o : OfferEntry)
 
     pub giver_then : (id : AccountId) (x : AccountEntry) → w ≡ Some (key.Account id) → account_at m id ≡ Some x
         → account_at t id ≡ Some (changed_account gives_change x)
-    giver_then id x is stands = ap (λ n. account_at n id) (gone_altered m keyed o apart a)
+    giver_then id x is exists = ap (λ n. account_at n id) (gone_altered m keyed o apart a)
         ∙ account_first m keyed w s apart (changed_account gives_change) (changed_account takes_change)
         (changed_line gives_change) (changed_line takes_change) (changed_keeps gives_change)
         (changed_keeps takes_change)
-        id x is stands
+        id x is exists
 
     pub giver_line_then : (id : AccountId) (y : TrustLineAsset) (x : TrustLineEntry) → w ≡ Some (key.TrustLine id y)
         → line_at m id y ≡ Some x → line_at t id y ≡ Some (changed_line gives_change x)
-    giver_line_then id y x is stands = ap (λ n. line_at n id y) (gone_altered m keyed o apart a)
+    giver_line_then id y x is exists = ap (λ n. line_at n id y) (gone_altered m keyed o apart a)
         ∙ line_first m keyed w s apart (changed_account gives_change) (changed_account takes_change)
         (changed_line gives_change) (changed_line takes_change) (changed_keeps gives_change)
         (changed_keeps takes_change)
-        id y x is stands
+        id y x is exists
 
     pub taker_then : (id : AccountId) (x : AccountEntry) → s ≡ Some (key.Account id) → account_at m id ≡ Some x
         → account_at t id ≡ Some (changed_account takes_change x)
-    taker_then id x is stands = ap (λ n. account_at n id) (gone_altered m keyed o apart a)
+    taker_then id x is exists = ap (λ n. account_at n id) (gone_altered m keyed o apart a)
         ∙ account_second m keyed w s apart (changed_account gives_change) (changed_account takes_change)
         (changed_line gives_change) (changed_line takes_change) (changed_keeps gives_change)
         (changed_keeps takes_change)
-        id x is stands
+        id x is exists
 
     pub taker_line_then : (id : AccountId) (y : TrustLineAsset) (x : TrustLineEntry) → s ≡ Some (key.TrustLine id y)
         → line_at m id y ≡ Some x → line_at t id y ≡ Some (changed_line takes_change x)
-    taker_line_then id y x is stands = ap (λ n. line_at n id y) (gone_altered m keyed o apart a)
+    taker_line_then id y x is exists = ap (λ n. line_at n id y) (gone_altered m keyed o apart a)
         ∙ line_second m keyed w s apart (changed_account gives_change) (changed_account takes_change)
         (changed_line gives_change) (changed_line takes_change) (changed_keeps gives_change)
         (changed_keeps takes_change)
-        id y x is stands
+        id y x is exists
 
     given_then_by : (k : Option LedgerKey) → w ≡ k → IsHeld m k → a.wheat ≤ most_given base r k
         → most_given base t k ≡ still_most k (most_given base r k) a.wheat

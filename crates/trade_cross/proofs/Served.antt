@@ -1,45 +1,26 @@
 -- A trade that was served by its book ended since a bound was used up.
-use Rattle.std.proofs.Common.{◌≡◌, refl, sym, ap, ◌∙◌, ℕ, ◌+◌, ◌-◌, zero, suc, Bool, true, false, ◌||◌, arith}
-use Rattle.std.proofs.lemmas.Bool.{eq-eqb, eqb-true}
-use Rattle.std.specs.Prelude.{nat_eq, if◌then◌else◌}
-use Rattle.ledger_types.specs.declared.offer.OfferEntry.{OfferEntry}
-use Rattle.entry_map.specs.EntryMap.{EntryMap}
-use Rattle.offer_exchange.specs.declared.rounding.Rounding.{Rounding}
-use Rattle.offer_exchange.specs.declared.rounding.Rounding.TheVariants.{Normal, StrictSend, StrictReceive}
-use Rattle.offer_exchange.specs.Exchange.{Amounts}
-use Rattle.trade_cross.specs.declared.crossed.CrossEnd.{CrossEnd}
-use Rattle.trade_cross.specs.declared.crossed.CrossEnd.TheVariants.{Converted}
-use Rattle.trade_cross.specs.declared.trade.Trade.{Trade}
-use Rattle.trade_cross.specs.declared.turn.Turn.{Turn}
-use Rattle.trade_cross.specs.declared.turn.Turn.TheVariants.{Ends, Meets}
-use Rattle.trade_cross.specs.Crossing.{Left, Crossing, step, turn, turn_at, is_used_up, ended, joined, at_limit}
-use Rattle.trade_cross.specs.Crossing.{left_after, crossed}
-use Rattle.trade_cross.specs.Hop.{served_by}
-use Rattle.offer_book.specs.Book.{best}
+use Rattle.trade_cross.proofs.Prelude.{◌≡◌, refl, sym, ap, ◌∙◌, ℕ, ◌+◌, ◌-◌, zero, suc, Bool, true, false, arith}
+use Rattle.trade_cross.proofs.Prelude.{eq-eqb, eqb-true, nat_eq, if◌then◌else◌, OfferEntry, EntryMap, Rounding, Normal}
+use Rattle.trade_cross.proofs.Prelude.{StrictSend, StrictReceive, Amounts, CrossEnd, Converted, Trade, Turn, Ends}
+use Rattle.trade_cross.proofs.Prelude.{Meets, Left, Crossing, step, turn, turn_at, is_used_up, ended, joined, at_limit}
+use Rattle.trade_cross.proofs.Prelude.{left_after, crossed, served_by, best, or_left, or_right}
 
 abbrev EndsServed : Rounding → Left → Crossing → Type 0
 EndsServed r left done = served_by r left done ≡ true → done.end ≡ Converted
 
 -- ---- nothing moved, and it was served: a bound is 0
 
-either_used : (a b : Bool) → b ≡ true → (a || b) ≡ true
-either_used true b is = refl
-either_used false b is = is
-
-first_used : (a b : Bool) → a ≡ true → (a || b) ≡ true
-first_used a b is = ap (λ x. x || b) is
-
-none_left : (n : ℕ) → nat_eq 0 n ≡ true → nat_eq n 0 ≡ true
-none_left n is = eq-eqb n 0 (sym (eqb-true 0 n is))
+nat_eq_zero_turned : (n : ℕ) → nat_eq 0 n ≡ true → nat_eq n 0 ≡ true
+nat_eq_zero_turned n is = eq-eqb n 0 (sym (eqb-true 0 n is))
 
 used_up : (r : Rounding) (left : Left) (m : EntryMap) (end : CrossEnd) → served_by r left (ended m end) ≡ true
     → is_used_up left ≡ true
-used_up StrictSend left m end served = first_used _ _ (none_left left.sheep_send served)
-used_up Normal left m end served = either_used (nat_eq left.sheep_send 0) _ (none_left left.wheat_receive served)
+used_up StrictSend left m end served = or_left _ _ (nat_eq_zero_turned left.sheep_send served)
+used_up Normal left m end served = or_right (nat_eq left.sheep_send 0) _ (nat_eq_zero_turned left.wheat_receive served)
 used_up StrictReceive left m end served =
-    either_used (nat_eq left.sheep_send 0) _ (none_left left.wheat_receive served)
+    or_right (nat_eq left.sheep_send 0) _ (nat_eq_zero_turned left.wheat_receive served)
 
--- ---- what moved first, and what the rest moved, come to the bound
+-- ---- what moved first, and what the rest moved, add up to the bound
 
 rest_of : (a rest bound : ℕ) → nat_eq (a + rest) bound ≡ true → nat_eq rest (bound - a) ≡ true
 rest_of a rest bound is = eq-eqb rest (bound - a) (let all = eqb-true (a + rest) bound is in omega arith)

@@ -1,49 +1,23 @@
 -- One offer that is crossed, by what its owner can give and take before its liabilities are released.
-use Rattle.std.proofs.Common.{◌≡◌, refl, sym, ap, subst, ◌∙◌, ℕ, ◌-◌, ◌≤◌, zero, suc, inl, inr, Bool, true, false}
-use Rattle.std.proofs.Common.{Option, Some, None, arith}
-use Rattle.std.proofs.lemmas.Int.{ints}
-use Rattle.std.specs.FinMap.{get}
-use Rattle.std.specs.Prelude.{ℤ, pos, neg_ℤ, ◌+ℤ◌, ◌-ℤ◌, ◌≤ℤ◌, unsigned_abs, if◌then◌else◌}
-use Rattle.ledger_types.specs.declared.ids.AccountId.{AccountId}
-use Rattle.ledger_types.specs.declared.price.Liabilities.{Liabilities}
-use Rattle.ledger_types.specs.declared.account.AccountEntry.{AccountEntry}
-use Rattle.ledger_types.specs.declared.offer.OfferEntry.{OfferEntry}
-use Rattle.ledger_types.specs.declared.entry.LedgerEntry.{LedgerEntry}
-use Rattle.ledger_types.specs.declared.key.LedgerKey.{LedgerKey}
+use Rattle.trade_cross.proofs.Prelude as prelude
+use prelude.{◌≡◌, refl, sym, ap, subst, ◌∙◌, ℕ, ◌-◌, ◌≤◌, zero, suc, inl, inr, Bool, true, false, Option, Some, None}
+use prelude.{arith, ints, get, ℤ, pos, neg_ℤ, ◌+ℤ◌, ◌-ℤ◌, ◌≤ℤ◌, unsigned_abs, if◌then◌else◌, AccountId, Liabilities}
+use prelude.{AccountEntry, OfferEntry, LedgerEntry, LedgerKey, EntryMap, account_of, account_at, account_liabilities}
+use prelude.{line_of, line_at, offer_at, with_offer, map_after_removing, Rounding, Amounts, Bounds, exchanged}
+use prelude.{wheat_stays, available, min_balance, greatest_i64, risen, releasing, binding, View, bound_of}
+use prelude.{IsOwedRightly, Owed, IsLegalOwing, IsOfferInRange, account_legal, minimum_not_below, stored, line_legal}
+use prelude.{IsHeld, Left, seller_gives_at, seller_takes_at, amount_at, meeting, map_after_trade, kept_by, atom_of}
+use prelude.{with_amount, offer_key, map_after_rest, step_by, step, at_least_nothing, account_gives, most_given}
+use prelude.{most_taken, changing, changed_account, DoesChangeFit, giving_change, taking_change, map_after_once}
+use prelude.{one_not_at_most_zero}
 use Rattle.ledger_types.specs.declared.key.LedgerKey.TheVariants as key
-use Rattle.entry_map.specs.EntryMap.{EntryMap}
-use Rattle.entry_slots.specs.Accounts.{account_of, account_at}
-use Rattle.entry_slots.specs.AccountExtensions.{account_liabilities}
-use Rattle.entry_slots.specs.Lines.{line_of, line_at}
-use Rattle.entry_slots.specs.Offers.{offer_at, with_offer}
-use Rattle.sponsor_rules.specs.Removing.{map_after_removing}
-use Rattle.offer_exchange.specs.declared.rounding.Rounding.{Rounding}
-use Rattle.offer_exchange.specs.Exchange.{Amounts, Bounds, exchanged, wheat_stays}
-use Rattle.reserve_rules.specs.Reserve.{available, min_balance, greatest_i64}
-use Rattle.legal_rules.specs.Binding.{risen, releasing, binding}
-use Rattle.legal_rules.specs.Books.{View}
-use Rattle.legal_rules.specs.OfferLiabilities.{bound_of}
-use Rattle.legal_rules.specs.OneMore.{IsOwedRightly}
-use Rattle.legal_rules.specs.Owing.{Owed, IsLegalOwing}
-use Rattle.legal_rules.specs.Ranges.{IsOfferInRange}
-use Rattle.legal_rules.proofs.Bounded.{account_legal}
-use Rattle.legal_rules.proofs.Covered.{minimum_not_below}
-use Rattle.legal_rules.proofs.Liable.{stored}
-use Rattle.legal_rules.proofs.LinesLeft.{line_legal}
-use Rattle.trade_cross.specs.Accounts.{IsHeld}
-use Rattle.trade_cross.specs.Crossing.{Left, seller_gives_at, seller_takes_at, amount_at, meeting, map_after_trade}
-use Rattle.trade_cross.specs.CrossingLaws.{kept_by}
-use Rattle.trade_cross.specs.Crossing.{atom_of, with_amount, offer_key, map_after_rest, step_by, step}
-use Rattle.trade_cross.specs.Holdings.{at_least_nothing, account_gives, most_given, most_taken}
-use Rattle.trade_cross.specs.Places.{changing, changed_account, DoesChangeFit}
-use Rattle.trade_cross.specs.Plans.{giving_change, taking_change, map_after_once}
 use Rattle.trade_cross.proofs.Altering.{AreApart, opt_elsewhere}
 use Rattle.trade_cross.proofs.Binding.{bindable_held}
 use Rattle.trade_cross.proofs.Changing.{bound_entry, bound_keeps, bound_altered}
 use Rattle.trade_cross.proofs.Extended.{IsExtended, sells_extended, buys_extended}
 use Rattle.trade_cross.proofs.Fits.{AreAllInRange, first_fits, second_fits}
 use Rattle.trade_cross.proofs.HoldersApart.{holders_apart, not_an_offer}
-use Rattle.trade_cross.proofs.Once.{gone_is, rest_is, once_stands}
+use Rattle.trade_cross.proofs.Once.{gone_is, rest_is, once_exists}
 use Rattle.trade_cross.proofs.Passing.{holder_own}
 use Rattle.trade_cross.proofs.Paying.{within}
 use Rattle.trade_cross.proofs.SeenSides.{giver_then}
@@ -55,9 +29,9 @@ use Rattle.trade_cross.proofs.StepLegal.{in_bounds}
 pub all_in_range : (v : View) (id_pool : ℕ) (owed : Owed) (sum : ℤ) (m : EntryMap) → IsLegalOwing v id_pool owed sum m
     → AreAllInRange m
 all_in_range v id_pool owed sum m legal = record {
-  accounts = λ id a stands. (account_legal v id_pool owed sum m id a legal stands).range.range;
-  lines = λ id x t stands.
-      let its = line_legal v id_pool owed sum m id x t legal stands in (its.range.range, its.range.greatest);
+  accounts = λ id a exists. (account_legal v id_pool owed sum m id a legal exists).range.range;
+  lines = λ id x t exists.
+      let its = line_legal v id_pool owed sum m id x t legal exists in (its.range.range, its.range.greatest);
 }
 
 same_range : (m n : EntryMap) → m ≡ n → AreAllInRange m → AreAllInRange n
@@ -65,9 +39,6 @@ same_range m n is range = subst AreAllInRange is range
 
 falls : (n : ℕ) → pos 1 ≤ℤ (pos 0 -ℤ pos n) → ⊥
 falls n more = omega (arith, ints)
-
-rises_not : pos 1 ≤ℤ pos 0 → ⊥
-rises_not more = omega (arith, ints)
 
 sold_within : (b p x s : ℤ) (was now : ℕ) (g : ℤ) → pos 0 ≤ℤ p → (b +ℤ x) ≤ℤ g → pos 0 ≤ℤ x
     → pos now ≤ℤ (b -ℤ p -ℤ (s +ℤ (pos 0 -ℤ pos was))) → (s +ℤ (pos now -ℤ pos was)) ≤ℤ g
@@ -77,7 +48,7 @@ none_sold : (was now : ℕ) → now ≡ 0 → pos 1 ≤ℤ (pos now -ℤ pos was
 none_sold was now none more = omega (arith, ints)
 
 module _ (v : View) (id_pool base : ℕ) (owed : Owed) (right : IsOwedRightly owed) (o : OfferEntry) (sum : ℤ)
-    (m : EntryMap) (legal : IsLegalOwing v id_pool owed sum m) (stands : offer_at m o.seller_id o.offer_id ≡ Some o)
+    (m : EntryMap) (legal : IsLegalOwing v id_pool owed sum m) (exists : offer_at m o.seller_id o.offer_id ≡ Some o)
   where
     abbrev w : Option LedgerKey
     w = seller_gives_at o
@@ -89,7 +60,7 @@ module _ (v : View) (id_pool base : ℕ) (owed : Owed) (right : IsOwedRightly ow
     r = releasing o m
 
     open_r : IsOpen v id_pool owed sum r o
-    open_r = release_open v id_pool base owed right o sum m legal stands
+    open_r = release_open v id_pool base owed right o sum m legal exists
 
     pub range : IsOfferInRange id_pool o
     range = its_range v id_pool base owed right o sum r open_r
@@ -104,7 +75,7 @@ module _ (v : View) (id_pool base : ℕ) (owed : Owed) (right : IsOwedRightly ow
     less_sheep = neg_ℤ (pos (bound_of o).sheep)
 
     pub gives_held : IsHeld m w
-    gives_held = bindable_held m w less_wheat (pos 0) (lets v id_pool base owed right o sum m legal stands).0
+    gives_held = bindable_held m w less_wheat (pos 0) (lets v id_pool base owed right o sum m legal exists).0
 
     abbrev unsold : EntryMap
     unsold = binding w less_wheat (pos 0) m
@@ -126,14 +97,14 @@ module _ (v : View) (id_pool base : ℕ) (owed : Owed) (right : IsOwedRightly ow
 
     pub takes_held : IsHeld m s
     takes_held = held_by s refl
-        (bindable_held unsold s (pos 0) less_sheep (lets v id_pool base owed right o sum m legal stands).1)
+        (bindable_held unsold s (pos 0) less_sheep (lets v id_pool base owed right o sum m legal exists).1)
 
     sells : (x : LedgerKey) → w ≡ Some x → (e : LedgerEntry) → get m x ≡ Some e → IsExtended e.body
-    sells = sells_extended m (bound_of o).wheat range.wheat w (lets v id_pool base owed right o sum m legal stands).0
+    sells = sells_extended m (bound_of o).wheat range.wheat w (lets v id_pool base owed right o sum m legal exists).0
 
     buys : (x : LedgerKey) → s ≡ Some x → (e : LedgerEntry) → get m x ≡ Some e → IsExtended e.body
     buys x is e there = buys_extended unsold (bound_of o).sheep range.sheep s
-        (lets v id_pool base owed right o sum m legal stands).1 x is e (unsold_same x is ∙ there)
+        (lets v id_pool base owed right o sum m legal exists).1 x is e (unsold_same x is ∙ there)
 
     -- ---- the trade
 
@@ -150,7 +121,7 @@ module _ (v : View) (id_pool base : ℕ) (owed : Owed) (right : IsOwedRightly ow
       module _ (amount : ℕ) where
         rest_by : (rest : ℕ) → amount_at base t o amount ≡ rest → map_after_rest o rest t ≡ map_after_once o a rest m
         rest_by zero is = ap (map_after_removing (offer_key o)) (gone_is m legal.keyed o apart a)
-        rest_by (suc j) is = rest_is m legal.keyed o apart a j open_t.stands sells buys
+        rest_by (suc j) is = rest_is m legal.keyed o apart a j open_t.exists sells buys
             (not_an_offer o.seller_id o.selling o) (not_an_offer o.seller_id o.buying o)
 
       gone_range : AreAllInRange (once 0)
@@ -164,12 +135,12 @@ module _ (v : View) (id_pool base : ℕ) (owed : Owed) (right : IsOwedRightly ow
         after = with_offer (once (suc j)) o.seller_id o.offer_id (λ was. new)
 
         after_range : AreAllInRange after
-        after_range = same_range _ after (rest_is m legal.keyed o apart a j open_t.stands sells buys
+        after_range = same_range _ after (rest_is m legal.keyed o apart a j open_t.exists sells buys
             (not_an_offer o.seller_id o.selling o) (not_an_offer o.seller_id o.buying o))
             (all_in_range v id_pool owed _ _ (offer_rests v id_pool base owed right o _ t open_t j amount is))
 
         still : offer_at (once (suc j)) o.seller_id o.offer_id ≡ Some o
-        still = once_stands m legal.keyed o apart a j open_t.stands sells buys
+        still = once_exists m legal.keyed o apart a j open_t.exists sells buys
             (not_an_offer o.seller_id o.selling o) (not_an_offer o.seller_id o.buying o)
 
         once_range : AreAllInRange (once (suc j))
@@ -193,7 +164,7 @@ module _ (v : View) (id_pool base : ℕ) (owed : Owed) (right : IsOwedRightly ow
             let enough : (bound_of new).wheat ≤ at_least_nothing (available then_x base) =
             subst (λ q. (bound_of new).wheat ≤ account_gives base q) then_at
             (subst (λ k. (bound_of new).wheat ≤ most_given base t k) at
-            (subst (λ n. (bound_of new).wheat ≤ n) (same_given t o new open_t.stands refl refl base w)
+            (subst (λ n. (bound_of new).wheat ≤ n) (same_given t o new open_t.exists refl refl base w)
             (sells_fit v id_pool base owed right o _ t open_t j amount is))) in
             elim (within (available then_x base) (bound_of new).wheat enough) [
               | inl none ↦ absurd (none_sold (bound_of o).wheat (bound_of new).wheat none more)
@@ -217,7 +188,7 @@ module _ (v : View) (id_pool base : ℕ) (owed : Owed) (right : IsOwedRightly ow
         second_fits m legal.keyed o.seller_id w s (holder_own o.seller_id o.selling)
             (holder_own o.seller_id o.buying) apart
             (giving_change o a 0) (taking_change o a 0) gone_range
-            (λ id x at there more. absurd (rises_not more)),
+            (λ id x at there more. absurd (one_not_at_most_zero more)),
       )
       fits_by amount (suc j) false is = absurd (cc)
       fits_by amount (suc j) true is = (
@@ -227,7 +198,7 @@ module _ (v : View) (id_pool base : ℕ) (owed : Owed) (right : IsOwedRightly ow
         second_fits m legal.keyed o.seller_id w s (holder_own o.seller_id o.selling)
             (holder_own o.seller_id o.buying) apart
             (giving_change o a (suc j)) (taking_change o a (suc j)) (once_range amount j is)
-            (λ id x at there more. absurd (rises_not more)),
+            (λ id x at there more. absurd (one_not_at_most_zero more)),
       )
 
     -- ---- the step
@@ -243,10 +214,10 @@ module _ (v : View) (id_pool base : ℕ) (owed : Owed) (right : IsOwedRightly ow
       stays = wheat_stays (unsigned_abs o.price.n) (unsigned_abs o.price.d) b
 
       pub has : a.wheat ≤ most_given base r w
-      has = enough v id_pool base owed right o sum m legal stands rounding left
+      has = enough v id_pool base owed right o sum m legal exists rounding left
 
       pub takes : a.sheep ≤ most_taken r s
-      takes = (in_bounds v id_pool base owed right o sum m legal stands rounding left).sheep_receive
+      takes = (in_bounds v id_pool base owed right o sum m legal exists rounding left).sheep_receive
 
       abbrev pub amount : ℕ
       amount = b.wheat_send - a.wheat

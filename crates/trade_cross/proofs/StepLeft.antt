@@ -1,32 +1,15 @@
 -- What one crossed offer leaves of the accounts.
-use Rattle.std.proofs.Common.{◌≡◌, ◌≢◌, refl, sym, subst, ℕ, ◌-◌, ◌≤◌, zero, suc, Bool, true, false}
-use Rattle.std.proofs.Common.{Some, arith}
-use Rattle.std.proofs.lemmas.Int.{ints}
-use Rattle.std.specs.Prelude.{ℤ, pos, neg_ℤ, ◌+ℤ◌, unsigned_abs}
-use Rattle.ledger_types.specs.declared.ids.AccountId.{AccountId}
-use Rattle.ledger_types.specs.declared.offer.OfferEntry.{OfferEntry}
-use Rattle.entry_map.specs.EntryMap.{EntryMap}
-use Rattle.entry_slots.specs.Offers.{offer_at, with_offer}
-use Rattle.offer_exchange.specs.declared.rounding.Rounding.{Rounding}
-use Rattle.offer_exchange.specs.Exchange.{Bounds, Amounts, wheat_stays, exchanged}
-use Rattle.sponsor_rules.specs.Removing.{map_after_removing}
-use Rattle.legal_rules.specs.OfferLiabilities.{bound_of}
-use Rattle.legal_rules.specs.Binding.{binding, acquiring, releasing}
-use Rattle.legal_rules.specs.Books.{View}
-use Rattle.legal_rules.specs.Owing.{Owed, IsLegalOwing}
-use Rattle.trade_cross.specs.Holdings.{most_given, most_taken, paying}
-use Rattle.trade_cross.specs.Crossing.{atom_of, Left, seller_gives_at, seller_takes_at, amount_at, meeting}
-use Rattle.trade_cross.specs.Crossing.{map_after_trade}
-use Rattle.trade_cross.specs.Crossing.{with_amount, offer_key, map_after_rest, step_by, step}
-use Rattle.legal_rules.specs.OneMore.{IsOwedRightly}
+use Rattle.trade_cross.proofs.Prelude as prelude
+use prelude.{◌≡◌, ◌≢◌, refl, sym, subst, ℕ, ◌-◌, ◌≤◌, zero, suc, Bool, true, false, Some, arith, ints, ℤ, pos, neg_ℤ}
+use prelude.{◌+ℤ◌, unsigned_abs, AccountId, OfferEntry, EntryMap, offer_at, with_offer, Rounding, Bounds, Amounts}
+use prelude.{wheat_stays, exchanged, map_after_removing, bound_of, binding, acquiring, releasing, View, Owed}
+use prelude.{IsLegalOwing, most_given, most_taken, paying, atom_of, Left, seller_gives_at, seller_takes_at, amount_at}
+use prelude.{meeting, map_after_trade, with_amount, offer_key, map_after_rest, step_by, step, IsOwedRightly, Passes}
+use prelude.{more_by, IsKeyed, Increase, none_more, both_more, more_at, Leaves, leaves_both, leaves_as, keeps_both}
 use Rattle.trade_cross.proofs.Left.{giving_left, taking_left, releasing_left, selling_left, buying_left}
 use Rattle.trade_cross.proofs.Left.{had_one, removing_left, changing_left}
 use Rattle.trade_cross.proofs.Passing.{passes_on, paying_passes, binding_passes, offer_passes, removing_passes}
 use Rattle.trade_cross.proofs.Passing.{holder_own}
-use Rattle.trade_cross.specs.Accounts.{Passes}
-use Rattle.trade_cross.specs.CrossingLaws.{more_by}
-use Rattle.legal_rules.specs.Holdings.{IsKeyed, Increase, none_more, both_more, more_at}
-use Rattle.legal_rules.proofs.Leaving.{Leaves, leaves_both, leaves_as, keeps_both}
 use Rattle.trade_cross.proofs.StepLegal.{IsOpen, its_entry, there, settled_then, owed_then}
 use Rattle.trade_cross.proofs.StepLegal.{legal_now, sells, sells_fit, legal_bound, buys}
 use Rattle.trade_cross.proofs.StepLegal.{gives, legal_given, takes, trade_open, lets, legal_unsold}
@@ -60,7 +43,7 @@ module _ (v : View) (id_pool base : ℕ) (owed : Owed) (right : IsOwedRightly ow
       bound_keyed = (legal_bound v id_pool base owed right o sum m open_ j amount is).keyed
 
       rests_left : Leaves base none_more m (acquiring (with_amount (suc j) o) after)
-      rests_left = keeps_both base m after _ (changing_left base m o (with_amount (suc j) o) open_.stands refl refl
+      rests_left = keeps_both base m after _ (changing_left base m o (with_amount (suc j) o) open_.exists refl refl
           after_keyed)
           (keeps_both base after bound _
           (selling_left base after after_keyed (seller_gives_at o) (bound_of (with_amount (suc j) o)).wheat
@@ -70,7 +53,7 @@ module _ (v : View) (id_pool base : ℕ) (owed : Owed) (right : IsOwedRightly ow
           (buys v id_pool base owed right o sum m open_ j amount is)))
 
       rests_pass : (x : AccountId) → x ≢ o.seller_id → Passes base x m (acquiring (with_amount (suc j) o) after)
-      rests_pass x apart = passes_on base x m after _ (offer_passes base x m o (with_amount (suc j) o) open_.stands refl
+      rests_pass x apart = passes_on base x m after _ (offer_passes base x m o (with_amount (suc j) o) open_.exists refl
           refl)
           (passes_on base x after bound _
           (binding_passes base x o.seller_id apart after after_keyed (seller_gives_at o) _ (pos 0)
@@ -127,26 +110,26 @@ module _ (v : View) (id_pool base : ℕ) (owed : Owed) (right : IsOwedRightly ow
   -- ---- what is released, and the step
 
   module _ (sum : ℤ) (m : EntryMap) (legal : IsLegalOwing v id_pool owed sum m)
-      (stands : offer_at m o.seller_id o.offer_id ≡ Some o) where
+      (exists : offer_at m o.seller_id o.offer_id ≡ Some o) where
     abbrev less : EntryMap
     less = binding (seller_gives_at o) (neg_ℤ (pos (bound_of o).wheat)) (pos 0) m
 
     less_keyed : IsKeyed less
-    less_keyed = (legal_unsold v id_pool base owed right o sum m legal stands).keyed
+    less_keyed = (legal_unsold v id_pool base owed right o sum m legal exists).keyed
 
     pub release_left : Leaves base none_more m (releasing o m)
     release_left = keeps_both base m less (releasing o m)
         (releasing_left base m legal.keyed (seller_gives_at o) (bound_of o).wheat
-        (lets v id_pool base owed right o sum m legal stands).0)
+        (lets v id_pool base owed right o sum m legal exists).0)
         (buying_left base less less_keyed (seller_takes_at o) (neg_ℤ (pos (bound_of o).sheep))
-        (lets v id_pool base owed right o sum m legal stands).1)
+        (lets v id_pool base owed right o sum m legal exists).1)
 
     release_passes : (x : AccountId) → x ≢ o.seller_id → Passes base x m (releasing o m)
     release_passes x apart = passes_on base x m less (releasing o m)
         (binding_passes base x o.seller_id apart m legal.keyed (seller_gives_at o) _ (pos 0)
-        (holder_own o.seller_id o.selling) (lets v id_pool base owed right o sum m legal stands).0)
+        (holder_own o.seller_id o.selling) (lets v id_pool base owed right o sum m legal exists).0)
         (binding_passes base x o.seller_id apart less less_keyed (seller_takes_at o) (pos 0) _
-        (holder_own o.seller_id o.buying) (lets v id_pool base owed right o sum m legal stands).1)
+        (holder_own o.seller_id o.buying) (lets v id_pool base owed right o sum m legal exists).1)
 
     in_the_middle : (d : ℤ) → ((pos 0 +ℤ d) +ℤ pos 0) ≡ d
     in_the_middle d = omega (arith, ints)
@@ -156,7 +139,7 @@ module _ (v : View) (id_pool base : ℕ) (owed : Owed) (right : IsOwedRightly ow
       r = releasing o m
 
       abbrev open_ : IsOpen v id_pool owed sum r o
-      open_ = release_open v id_pool base owed right o sum m legal stands
+      open_ = release_open v id_pool base owed right o sum m legal exists
 
       abbrev b : Bounds
       b = meeting base r o left
@@ -165,10 +148,10 @@ module _ (v : View) (id_pool base : ℕ) (owed : Owed) (right : IsOwedRightly ow
       a = exchanged rounding (unsigned_abs o.price.n) (unsigned_abs o.price.d) b
 
       abbrev has : a.wheat ≤ most_given base r (seller_gives_at o)
-      has = enough v id_pool base owed right o sum m legal stands rounding left
+      has = enough v id_pool base owed right o sum m legal exists rounding left
 
       abbrev fits : a.sheep ≤ most_taken r (seller_takes_at o)
-      fits = (in_bounds v id_pool base owed right o sum m legal stands rounding left).sheep_receive
+      fits = (in_bounds v id_pool base owed right o sum m legal exists rounding left).sheep_receive
 
       abbrev traded_map : EntryMap
       traded_map = map_after_trade o a r

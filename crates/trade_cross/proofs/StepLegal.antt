@@ -1,91 +1,47 @@
 -- One offer that is crossed keeps a state legal.
-use Rattle.std.proofs.Common.{◌≡◌, ◌≢◌, refl, sym, ap, subst, ◌∙◌, ℕ, ◌-◌, ◌≤◌, zero, suc, Bool, true, false}
-use Rattle.std.proofs.Common.{Option, Some, None, arith}
-use Rattle.std.proofs.lemmas.Int.{ints}
+use Rattle.trade_cross.proofs.Prelude as prelude
+use prelude.{◌≡◌, ◌≢◌, refl, sym, ap, subst, ◌∙◌, ℕ, ◌-◌, ◌≤◌, zero, suc, Bool, true, false, Option, Some, None, arith}
+use prelude.{ints, ℤ, pos, neg_ℤ, ◌+ℤ◌, ◌≤ℤ◌, unsigned_abs, min, get, AccountId, TrustLineAsset, OfferEntry}
+use prelude.{LedgerEntry, LedgerKey, key_of_body, EntryMap, account_of, account_at, line_of, line_at, offer_of}
+use prelude.{offer_at, with_offer, map_after_removing, Rounding, Normal, Bounds, Amounts, unlimited, offered}
+use prelude.{wheat_stays, exchanged, adjusted, liabilities, bound_of, is_key, binding, acquiring, releasing, CanBind}
+use prelude.{CanBindBoth, Kind, Subentries, Sponsoring, Sponsored, View, AreReservesSettled, trade_aggregates, Owed}
+use prelude.{plus, less, beside_reserves, weighed, IsEntryLegal, IsLegalOwing, IsOfferInRange, acquiring_legal}
+use prelude.{binding_legal, unbound_if, offer_changed, offer_entry, with_offer_is, with_offer_body, IsOfferEntry}
+use prelude.{releasing_legal, can_release, legal_as, most_given, most_taken, paying, account_gives, account_takes}
+use prelude.{line_gives, line_takes, Left, seller_gives_at, seller_takes_at, amount_at, meeting, map_after_trade}
+use prelude.{with_amount, offer_key, map_after_rest, step_by, step, atom_of, IsOwedRightly, kept_at, kept_by, IsHeld}
+use prelude.{put_elsewhere, add_assoc, add_neg_zero, natural_at_most_trans, sub_if_zeros, unsigned_abs_positive}
 use Rattle.std.proofs.Math.Nat.{min-le_right}
-use Rattle.std.specs.Prelude.{ℤ, pos, neg_ℤ, ◌+ℤ◌, ◌-ℤ◌, ◌≤ℤ◌, unsigned_abs, min, if◌then◌else◌}
-use Rattle.std.specs.FinMap.{get}
-use Rattle.ledger_types.specs.declared.ids.AccountId.{AccountId}
-use Rattle.ledger_types.specs.declared.asset.TrustLineAsset.{TrustLineAsset}
-use Rattle.ledger_types.specs.declared.offer.OfferEntry.{OfferEntry}
-use Rattle.ledger_types.specs.declared.entry.LedgerEntry.{LedgerEntry}
 use Rattle.ledger_types.specs.declared.entry.LedgerEntryBody.TheVariants as body
-use Rattle.ledger_types.specs.declared.key.LedgerKey.{LedgerKey}
 use Rattle.ledger_types.specs.declared.key.LedgerKey.TheVariants as key
-use Rattle.ledger_types.specs.Keys.{key_of_body}
-use Rattle.entry_map.specs.EntryMap.{EntryMap}
-use Rattle.entry_slots.specs.Accounts.{account_of, account_at}
-use Rattle.entry_slots.specs.Lines.{line_of, line_at}
-use Rattle.entry_slots.specs.Offers.{offer_of, offer_at, with_offer}
-use Rattle.legal_rules.proofs.entry_sums_proofs.Lookups.{put_elsewhere}
-use Rattle.sponsor_rules.specs.Removing.{map_after_removing}
-use Rattle.offer_exchange.specs.declared.rounding.Rounding.{Rounding}
-use Rattle.offer_exchange.specs.declared.rounding.Rounding.TheVariants.{Normal}
-use Rattle.offer_exchange.specs.Exchange.{Bounds, Amounts, unlimited, offered, wheat_stays}
-use Rattle.offer_exchange.specs.Exchange.{exchanged, adjusted, liabilities}
 use Rattle.offer_exchange.specs.Laws.{AreWithin, IsBound}
 use Rattle.offer_exchange.proofs.Within.{exchanged_within}
 use Rattle.offer_exchange.proofs.Adjusting.{adjusted_bound}
-use Rattle.legal_rules.specs.OfferLiabilities.{bound_of}
-use Rattle.legal_rules.specs.EntryKeys.{is_key}
-use Rattle.legal_rules.specs.Binding.{binding, acquiring, releasing, CanBind, CanBindBoth}
-use Rattle.legal_rules.specs.Books.{Kind, Subentries, Sponsoring, Sponsored, View}
-use Rattle.legal_rules.specs.EntryLaws.{AreReservesSettled}
-use Rattle.legal_rules.specs.OfferLaws.{trade_books}
-use Rattle.legal_rules.specs.Owing.{Owed, plus, less, beside_reserves, weighed, IsEntryLegal, IsLegalOwing}
-use Rattle.legal_rules.specs.Ranges.{IsOfferInRange}
 use Rattle.legal_rules.proofs.Kept.{subentry_removed_so}
-use Rattle.legal_rules.proofs.OffersKept.{acquiring_legal, binding_legal, unbound_if, offer_changed, offer_entry}
-use Rattle.legal_rules.proofs.OffersKept.{with_offer_is, with_offer_body}
-use Rattle.legal_rules.proofs.OffersKept.{IsOfferEntry}
-use Rattle.legal_rules.proofs.Releasing.{releasing_legal, can_release}
-use Rattle.legal_rules.proofs.Steps.{legal_as}
-use Rattle.trade_cross.specs.Holdings.{most_given, most_taken, paying, account_gives, account_takes, line_gives}
-use Rattle.trade_cross.specs.Holdings.{line_takes}
-use Rattle.trade_cross.specs.Crossing.{Left, seller_gives_at, seller_takes_at, amount_at, meeting, map_after_trade}
-use Rattle.trade_cross.specs.Crossing.{with_amount, offer_key, map_after_rest, step_by, step, atom_of}
-use Rattle.legal_rules.specs.OneMore.{IsOwedRightly}
-use Rattle.trade_cross.specs.CrossingLaws.{kept_at, kept_by}
-use Rattle.trade_cross.specs.Accounts.{IsHeld}
 use Rattle.trade_cross.proofs.Paying.{CanPay, paying_legal, can_give, can_take}
 use Rattle.trade_cross.proofs.Binding.{held_bound, held_paid, offer_beside, bindable_held, giving_takes, selling_takes}
 use Rattle.trade_cross.proofs.Binding.{can_sell, can_buy, given_fits, taken_fits}
 
--- ---- numbers
-
-pub at_most : (x y z : ℕ) → x ≤ y → y ≤ z → x ≤ z
-at_most x y z le also = omega arith
-
-pub abs_some : (z : ℤ) → pos 1 ≤ℤ z → 1 ≤ unsigned_abs z
-abs_some (pos n) le = omega (arith, ints)
-abs_some other le = absurd (omega (arith, ints))
-
-grouped : (x a b : ℤ) → ((x +ℤ a) +ℤ b) ≡ (x +ℤ (a +ℤ b))
-grouped x a b = omega (arith, ints)
-
 -- ---- what an entry of an offer counts beside its reserve
 
-stated_none : (t : Bool) (x : ℤ) → (x -ℤ (if t then pos 0 else pos 0)) ≡ x
-stated_none true x = omega (arith, ints)
-stated_none false x = omega (arith, ints)
-
-pub offer_books : (v : View) (e : LedgerEntry) (o : OfferEntry) (kind : Kind) (k : LedgerKey)
-    → beside_reserves (weighed v (with_offer_body e o)) kind k ≡ trade_books o kind k
-offer_books v e o Subentries k = refl
-offer_books v e o Sponsoring k = refl
-offer_books v e o Sponsored k = refl
-offer_books v e o kind k = stated_none (is_key (key_of_body (body.Offer o)) k) _
+pub offer_aggregates : (v : View) (e : LedgerEntry) (o : OfferEntry) (kind : Kind) (k : LedgerKey)
+    → beside_reserves (weighed v (with_offer_body e o)) kind k ≡ trade_aggregates o kind k
+offer_aggregates v e o Subentries k = refl
+offer_aggregates v e o Sponsoring k = refl
+offer_aggregates v e o Sponsored k = refl
+offer_aggregates v e o kind k = sub_if_zeros (is_key (key_of_body (body.Offer o)) k) _
 
 -- ---- an offer that is changed in its place
 
-module _ (m : EntryMap) (o new : OfferEntry) (stands : offer_at m o.seller_id o.offer_id ≡ Some o)
+module _ (m : EntryMap) (o new : OfferEntry) (exists : offer_at m o.seller_id o.offer_id ≡ Some o)
     (seller : new.seller_id ≡ o.seller_id) (id : new.offer_id ≡ o.offer_id) where
   abbrev changed : EntryMap
   changed = with_offer m o.seller_id o.offer_id (λ was. new)
 
   pub offer_keeps : (k : LedgerKey) → k ≢ offer_key o → get changed k ≡ get m k
   offer_keeps k apart =
-      let found = offer_entry m o.seller_id o.offer_id o stands in
+      let found = offer_entry m o.seller_id o.offer_id o exists in
       ap (λ x. get x k) (with_offer_is m o.seller_id o.offer_id (λ was. new) o found.0 found.1)
       ∙ put_elsewhere m (with_offer_body found.0 new) k
       (λ same. apart (same ∙ (λ i. key.Offer (seller i) (id i))))
@@ -127,9 +83,6 @@ not_more x le = omega (arith, ints)
 taken_off : (x t b : ℤ) → b ≡ t → ((x +ℤ t) +ℤ neg_ℤ b) ≡ x
 taken_off x t b is = omega (arith, ints)
 
-nothing_off : (x : ℤ) → (x +ℤ neg_ℤ (pos 0)) ≡ x
-nothing_off x = omega (arith, ints)
-
 in_place : (x t u : ℤ) → (((x +ℤ t) +ℤ (neg_ℤ t +ℤ u)) +ℤ neg_ℤ u) ≡ x
 in_place x t u = omega (arith, ints)
 
@@ -139,16 +92,16 @@ unfolding adjusted
 adjusted_sent n d send receive n_some d_some =
     (exchanged_within Normal n d (offered send receive) n_some d_some).wheat_send
 
--- what holds where the liabilities of an offer that stands are released
+-- what holds where the liabilities of an offer that exists are released
 pub record IsOpen (v : View) (id_pool : ℕ) (owed : Owed) (sum : ℤ) (m : EntryMap) (o : OfferEntry) : Type 0 where
-  pub legal : IsLegalOwing v id_pool (plus owed (trade_books o)) sum m
-  pub stands : offer_at m o.seller_id o.offer_id ≡ Some o
+  pub legal : IsLegalOwing v id_pool (plus owed (trade_aggregates o)) sum m
+  pub exists : offer_at m o.seller_id o.offer_id ≡ Some o
   pub gives : IsHeld m (seller_gives_at o)
   pub takes : IsHeld m (seller_takes_at o)
 
 module _ (v : View) (id_pool base : ℕ) (owed : Owed) (right : IsOwedRightly owed) (o : OfferEntry) where
   abbrev pub owed_then : Owed
-  owed_then = plus owed (trade_books o)
+  owed_then = plus owed (trade_aggregates o)
 
   pub covered_then : (k : LedgerKey) → owed_then Subentries k ≤ℤ owed_then Sponsored k
   covered_then k = plus_both (owed Subentries k) (owed Sponsored k) (right.covered k)
@@ -162,7 +115,7 @@ module _ (v : View) (id_pool base : ℕ) (owed : Owed) (right : IsOwedRightly ow
 
   module _ (sum : ℤ) (m : EntryMap) (open_ : IsOpen v id_pool owed sum m o) where
     pub its_entry : (e : LedgerEntry) × IsOfferEntry m o.seller_id o.offer_id o e
-    its_entry = offer_entry m o.seller_id o.offer_id o open_.stands
+    its_entry = offer_entry m o.seller_id o.offer_id o open_.exists
 
     abbrev pub e : LedgerEntry
     e = with_offer_body its_entry.0 o
@@ -178,8 +131,8 @@ module _ (v : View) (id_pool base : ℕ) (owed : Owed) (right : IsOwedRightly ow
     offer_gone = legal_as v (IsEntryLegal id_pool) _ owed _ sum _
         (subentry_removed_so v id_pool owed_then sum o.seller_id 1
         (offer_key o) e m open_.legal settled_then there refl)
-        (λ kind k. taken_off (owed kind k) (trade_books o kind k) _ (offer_books v its_entry.0 o kind k))
-        (nothing_off sum)
+        (λ kind k. taken_off (owed kind k) (trade_aggregates o kind k) _ (offer_aggregates v its_entry.0 o kind k))
+        (add_neg_zero sum)
 
     module _ (j amount : ℕ) (is : amount_at base m o amount ≡ suc j) where
       abbrev pub new : OfferEntry
@@ -201,8 +154,8 @@ module _ (v : View) (id_pool base : ℕ) (owed : Owed) (right : IsOwedRightly ow
       one = subst (λ a. 1 ≤ a) (sym is) (omega arith)
 
       binds : IsBound n d send receive (adjusted n d send receive)
-      binds = adjusted_bound n d send receive (abs_some o.price.n its_range.n) (abs_some o.price.d its_range.d)
-          (at_most send (most_given base m (seller_gives_at o)) unlimited
+      binds = adjusted_bound n d send receive (unsigned_abs_positive o.price.n its_range.n) (unsigned_abs_positive o.price.d its_range.d)
+          (natural_at_most_trans send (most_given base m (seller_gives_at o)) unlimited
           (min-le_right amount (most_given base m (seller_gives_at o)))
           (given_fits v id_pool base owed_then sum m open_.legal covered_then (seller_gives_at o) open_.gives))
           (taken_fits v id_pool base owed_then sum m open_.legal (seller_takes_at o) open_.takes)
@@ -235,22 +188,22 @@ module _ (v : View) (id_pool base : ℕ) (owed : Owed) (right : IsOwedRightly ow
       now = with_offer m o.seller_id o.offer_id (λ was. new)
 
       abbrev pub owed_now : Owed
-      owed_now = plus owed_then (plus (less (trade_books o)) (trade_books new))
+      owed_now = plus owed_then (plus (less (trade_aggregates o)) (trade_aggregates new))
 
       pub legal_now : IsLegalOwing v id_pool owed_now sum now
-      legal_now = offer_changed v id_pool owed_then sum o new m open_.legal open_.stands refl refl new_range
+      legal_now = offer_changed v id_pool owed_then sum o new m open_.legal open_.exists refl refl new_range
 
       pub sells_fit : (bound_of new).wheat ≤ most_given base now (seller_gives_at o)
       sells_fit = subst (λ x. x ≤ most_given base now (seller_gives_at o)) (sym wheat_is)
-          (subst (λ x. adjusted n d send receive ≤ x) (sym (same_given m o new open_.stands refl refl base
+          (subst (λ x. adjusted n d send receive ≤ x) (sym (same_given m o new open_.exists refl refl base
           (seller_gives_at o)))
-          (at_most (adjusted n d send receive) send _
+          (natural_at_most_trans (adjusted n d send receive) send _
           (subst (λ x. x ≤ send) binds.all_selling binds.selling)
           (min-le_right amount (most_given base m (seller_gives_at o)))))
 
       pub sells : CanBind now (seller_gives_at o) (pos (bound_of new).wheat) (pos 0)
       sells = can_sell v id_pool base owed_now sum now legal_now (bound_of new).wheat (seller_gives_at o)
-          (same_held m o new open_.stands refl refl (seller_gives_at o) open_.gives) sells_fit
+          (same_held m o new open_.exists refl refl (seller_gives_at o) open_.gives) sells_fit
 
       abbrev pub bound_now : EntryMap
       bound_now = binding (seller_gives_at o) (pos (bound_of new).wheat) (pos 0) now
@@ -265,18 +218,18 @@ module _ (v : View) (id_pool base : ℕ) (owed : Owed) (right : IsOwedRightly ow
       buys = can_buy v id_pool base _ sum bound_now legal_bound (bound_of new).sheep (seller_takes_at o)
           (held_bound now legal_now.keyed (seller_gives_at o) (pos (bound_of new).wheat) (pos 0) sells
           (seller_takes_at o)
-          (same_held m o new open_.stands refl refl (seller_takes_at o) open_.takes))
-          (at_most (bound_of new).sheep (most_taken now (seller_takes_at o)) _
+          (same_held m o new open_.exists refl refl (seller_takes_at o) open_.takes))
+          (natural_at_most_trans (bound_of new).sheep (most_taken now (seller_takes_at o)) _
           (subst (λ x. x ≤ most_taken now (seller_takes_at o)) (sym sheep_is)
           (subst (λ x. (liabilities n d (adjusted n d send receive)).sheep ≤ x)
-          (sym (same_taken m o new open_.stands refl refl (seller_takes_at o))) binds.buying))
+          (sym (same_taken m o new open_.exists refl refl (seller_takes_at o))) binds.buying))
           (selling_takes now legal_now.keyed (seller_gives_at o) (pos (bound_of new).wheat) sells (seller_takes_at o)))
 
       -- an offer that stays binds what it is adjusted to
       pub offer_rests : IsLegalOwing v id_pool owed sum (acquiring new now)
       offer_rests = legal_as v (IsEntryLegal id_pool) _ owed _ sum _
           (acquiring_legal v id_pool owed_now sum new now legal_now (sells, buys))
-          (λ kind k. in_place (owed kind k) (trade_books o kind k) (trade_books new kind k)) refl
+          (λ kind k. in_place (owed kind k) (trade_aggregates o kind k) (trade_aggregates new kind k)) refl
 
     rest_by : (amount rest : ℕ) → amount_at base m o amount ≡ rest
         → IsLegalOwing v id_pool owed sum (map_after_rest o rest m)
@@ -310,7 +263,7 @@ module _ (v : View) (id_pool base : ℕ) (owed : Owed) (right : IsOwedRightly ow
     pub takes : CanPay given (seller_takes_at o) (pos a.sheep)
     takes = can_take v id_pool base owed_then sum_given given legal_given a.sheep (seller_takes_at o)
         (held_paid m open_.legal.keyed (seller_gives_at o) (neg_ℤ (pos a.wheat)) gives (seller_takes_at o) open_.takes)
-        (at_most a.sheep (most_taken m (seller_takes_at o)) _ fits
+        (natural_at_most_trans a.sheep (most_taken m (seller_takes_at o)) _ fits
         (giving_takes m open_.legal.keyed (seller_gives_at o) a.wheat gives (seller_takes_at o)))
 
     abbrev pub traded : EntryMap
@@ -320,18 +273,18 @@ module _ (v : View) (id_pool base : ℕ) (owed : Owed) (right : IsOwedRightly ow
     still = offer_beside given legal_given.keyed (seller_takes_at o) (pos a.sheep) takes o.seller_id o.offer_id
         ∙ offer_beside m open_.legal.keyed (seller_gives_at o) (neg_ℤ (pos a.wheat)) gives o.seller_id o.offer_id
 
-    still_stands : offer_at traded o.seller_id o.offer_id ≡ Some o
+    still_exists : offer_at traded o.seller_id o.offer_id ≡ Some o
     unfolding offer_at
-    still_stands = ap offer_of still ∙ open_.stands
+    still_exists = ap offer_of still ∙ open_.exists
 
     pub trade_open : IsOpen v id_pool owed (sum +ℤ kept_by v.asset (atom_of o a)) traded o
     trade_open = record {
       legal = legal_as v (IsEntryLegal id_pool) owed_then owed_then _ _ traded
           (paying_legal v id_pool owed_then sum_given given legal_given o.seller_id o.buying (pos a.sheep) takes)
           (λ kind k. refl)
-          (grouped sum (kept_at v.asset (seller_gives_at o) o.selling (neg_ℤ (pos a.wheat)))
+          (add_assoc sum (kept_at v.asset (seller_gives_at o) o.selling (neg_ℤ (pos a.wheat)))
           (kept_at v.asset (seller_takes_at o) o.buying (pos a.sheep)));
-      stands = still_stands;
+      exists = still_exists;
       gives = held_paid given legal_given.keyed (seller_takes_at o) (pos a.sheep) takes (seller_gives_at o)
           (held_paid m open_.legal.keyed (seller_gives_at o) (neg_ℤ (pos a.wheat)) gives
           (seller_gives_at o) open_.gives);
@@ -343,13 +296,13 @@ module _ (v : View) (id_pool base : ℕ) (owed : Owed) (right : IsOwedRightly ow
   -- ---- what is released
 
   module _ (sum : ℤ) (m : EntryMap) (legal : IsLegalOwing v id_pool owed sum m)
-      (stands : offer_at m o.seller_id o.offer_id ≡ Some o) where
+      (exists : offer_at m o.seller_id o.offer_id ≡ Some o) where
     found : (e : LedgerEntry) × IsOfferEntry m o.seller_id o.offer_id o e
-    found = offer_entry m o.seller_id o.offer_id o stands
+    found = offer_entry m o.seller_id o.offer_id o exists
 
     pub released : IsLegalOwing v id_pool owed_then sum (releasing o m)
         × (offer_at (releasing o m) o.seller_id o.offer_id ≡ Some o)
-    released = releasing_legal v id_pool owed sum o m legal right.trades stands
+    released = releasing_legal v id_pool owed sum o m legal right.trades exists
 
     pub lets : CanBindBoth o (neg_ℤ (pos (bound_of o).wheat)) (neg_ℤ (pos (bound_of o).sheep)) m
     lets = can_release v id_pool owed sum o m legal right.trades found.0
@@ -370,7 +323,7 @@ module _ (v : View) (id_pool base : ℕ) (owed : Owed) (right : IsOwedRightly ow
     pub release_open : IsOpen v id_pool owed sum (releasing o m) o
     release_open = record {
       legal = released.0;
-      stands = released.1;
+      exists = released.1;
       gives = still_held (seller_gives_at o)
           (held_bound m legal.keyed (seller_gives_at o) (neg_ℤ (pos (bound_of o).wheat)) (pos 0) lets.0
           (seller_gives_at o)
@@ -401,16 +354,16 @@ module _ (v : View) (id_pool base : ℕ) (owed : Owed) (right : IsOwedRightly ow
       offer_range = its_range sum r release_open
 
       pub in_bounds : AreWithin b a
-      in_bounds = exchanged_within rounding price_n price_d b (abs_some o.price.n offer_range.n)
-          (abs_some o.price.d offer_range.d)
+      in_bounds = exchanged_within rounding price_n price_d b (unsigned_abs_positive o.price.n offer_range.n)
+          (unsigned_abs_positive o.price.d offer_range.d)
 
       pub enough : a.wheat ≤ most_given base r (seller_gives_at o)
-      enough = at_most a.wheat b.wheat_send _ in_bounds.wheat_send
-          (at_most b.wheat_send (min (unsigned_abs o.amount) (most_given base r (seller_gives_at o))) _
-          (adjusted_sent price_n price_d _ _ (abs_some o.price.n offer_range.n) (abs_some o.price.d offer_range.d))
+      enough = natural_at_most_trans a.wheat b.wheat_send _ in_bounds.wheat_send
+          (natural_at_most_trans b.wheat_send (min (unsigned_abs o.amount) (most_given base r (seller_gives_at o))) _
+          (adjusted_sent price_n price_d _ _ (unsigned_abs_positive o.price.n offer_range.n) (unsigned_abs_positive o.price.d offer_range.d))
           (min-le_right (unsigned_abs o.amount) (most_given base r (seller_gives_at o))))
 
-      -- One offer that is crossed keeps the state legal, with what books owe.
+      -- One offer that is crossed keeps the state legal, with what aggregates owe.
       pub step_legal : IsLegalOwing v id_pool owed
           (sum +ℤ kept_by v.asset (atom_of o (step base rounding left o m).amounts))
           (step base rounding left o m).entries

@@ -1,38 +1,19 @@
 -- That what the calls work out, by what an offer's owner can give and take, is the step.
-use Rattle.std.proofs.Common.{◌≡◌, refl, sym, ap, subst, ◌∙◌, ℕ, ◌-◌, ◌≤◌, Bool, true, false, Option, Some, None, arith}
-use Rattle.std.proofs.lemmas.Int.{ints}
-use Rattle.std.specs.Prelude.{ℤ, pos, ◌≤ℤ◌, unsigned_abs, min, if◌then◌else◌}
-use Rattle.ledger_types.specs.declared.price.Liabilities.{Liabilities}
-use Rattle.ledger_types.specs.declared.ids.AccountId.{AccountId}
-use Rattle.ledger_types.specs.declared.offer.OfferEntry.{OfferEntry}
-use Rattle.ledger_types.specs.declared.key.LedgerKey.{LedgerKey}
+use Rattle.trade_cross.proofs.Prelude as prelude
+use prelude.{◌≡◌, refl, sym, ap, subst, ◌∙◌, ℕ, ◌-◌, ◌≤◌, Bool, true, false, Option, Some, None, arith, ints, ℤ, pos}
+use prelude.{◌≤ℤ◌, unsigned_abs, min, if◌then◌else◌, Liabilities, AccountId, OfferEntry, LedgerKey, EntryMap, offer_at}
+use prelude.{Rounding, Amounts, Bounds, adjusted, exchanged, wheat_stays, unlimited, IsPriced, releasing, View}
+use prelude.{bound_of, IsOwedRightly, Owed, IsLegalOwing, Plan, IsHeld, seller_gives_at, seller_takes_at, meeting}
+use prelude.{map_after_trade, step, step_by, most_given, most_taken, location_key, changing, DoesChangeFit, left_in}
+use prelude.{price_n, price_d, bounds_of, rest_by, rest_of, IsPlan, giving_change, taking_change, map_with_rest}
+use prelude.{moved_by, gives_in, takes_in, map_of, IsCarried, given_with, taken_with, still_under, IsInRangeAt}
+use prelude.{IsBoundOf, AreSidesReady, AreSidesOf, IsMoved, nonnegative_from_natural, unsigned_abs_natural}
 use Rattle.ledger_types.specs.declared.key.LedgerKey.TheVariants as key
-use Rattle.entry_map.specs.EntryMap.{EntryMap}
-use Rattle.entry_slots.specs.Offers.{offer_at}
-use Rattle.offer_exchange.specs.declared.rounding.Rounding.{Rounding}
-use Rattle.offer_exchange.specs.Exchange.{Amounts, Bounds, adjusted, exchanged, wheat_stays, unlimited}
-use Rattle.ledger_types.specs.Prices.{IsPriced}
-use Rattle.legal_rules.specs.Binding.{releasing}
-use Rattle.legal_rules.specs.Books.{View}
-use Rattle.legal_rules.specs.OfferLiabilities.{bound_of}
-use Rattle.legal_rules.specs.OneMore.{IsOwedRightly}
-use Rattle.legal_rules.specs.Owing.{Owed, IsLegalOwing}
-use Rattle.trade_cross.specs.declared.place.Place.{Place}
-use Rattle.trade_cross.specs.declared.place.Place.TheVariants as place
+use Rattle.trade_cross.specs.declared.location.Location.{Location}
+use Rattle.trade_cross.specs.declared.location.Location.TheVariants as location
 use Rattle.trade_cross.specs.declared.plan.Left.{Left as LeftOfCall}
-use Rattle.trade_cross.specs.declared.plan.Plan.{Plan}
 use Rattle.trade_cross.specs.declared.plan.Sides.{Sides}
-use Rattle.trade_cross.specs.Accounts.{IsHeld}
-use Rattle.trade_cross.specs.Crossing.{seller_gives_at, seller_takes_at, meeting, map_after_trade, step}
-use Rattle.trade_cross.specs.Crossing.{step_by}
-use Rattle.trade_cross.specs.Holdings.{most_given, most_taken}
-use Rattle.trade_cross.specs.Places.{place_key, changing, DoesChangeFit}
-use Rattle.trade_cross.specs.Plans.{left_in, price_n, price_d, bounds_of, amounts_of, rest_by, rest_of, still_most}
-use Rattle.trade_cross.specs.Plans.{IsPlan}
-use Rattle.trade_cross.specs.Plans.{giving_change, taking_change, map_with_rest, moved_by, gives_in, takes_in}
-use Rattle.trade_cross.specs.Plans.{map_of, IsCarried}
-use Rattle.trade_cross.specs.Sides.{given_with, taken_with, still_most as still_under, IsInRangeAt}
-use Rattle.trade_cross.specs.Steps.{IsBoundOf, AreSidesReady, AreSidesOf, IsMoved}
+use Rattle.trade_cross.specs.Plans.{amounts_of, still_most}
 use Rattle.trade_cross.proofs.Binding.{given_fits, taken_fits}
 use Rattle.trade_cross.proofs.Fits.{AreAllInRange}
 use Rattle.trade_cross.proofs.SeenSides.{given_same, taken_same, given_then, taken_then}
@@ -46,20 +27,14 @@ in_range_at m all (Some (key.Account id)) = all.accounts id
 in_range_at m all (Some (key.TrustLine id x)) = λ t there. (all.lines id x t there).0
 in_range_at m all (Some other) = tt
 
-still_is : (owner : AccountId) (p : Place) (most moved : ℕ)
-    → still_most p most moved ≡ still_under (place_key owner p) most moved
-still_is owner place.Account most moved = refl
-still_is owner (place.Line held) most moved = refl
-still_is owner place.Nowhere most moved = refl
-
-natural : (z : ℤ) (n : ℕ) → z ≡ pos n → unsigned_abs z ≡ n
-natural z n is = ap unsigned_abs is
-
-low_natural : (z : ℤ) (n : ℕ) → z ≡ pos n → pos 0 ≤ℤ z
-low_natural z n is = omega (arith, ints)
+still_is : (owner : AccountId) (p : Location) (most moved : ℕ)
+    → still_most p most moved ≡ still_under (location_key owner p) most moved
+still_is owner location.Account most moved = refl
+still_is owner (location.Line held) most moved = refl
+still_is owner location.Nowhere most moved = refl
 
 module _ (v : View) (id_pool base : ℕ) (owed : Owed) (right : IsOwedRightly owed) (o : OfferEntry) (sum : ℤ)
-    (m : EntryMap) (legal : IsLegalOwing v id_pool owed sum m) (stands : offer_at m o.seller_id o.offer_id ≡ Some o)
+    (m : EntryMap) (legal : IsLegalOwing v id_pool owed sum m) (exists : offer_at m o.seller_id o.offer_id ≡ Some o)
   where
     abbrev w : Option LedgerKey
     w = seller_gives_at o
@@ -71,25 +46,25 @@ module _ (v : View) (id_pool base : ℕ) (owed : Owed) (right : IsOwedRightly ow
     r = releasing o m
 
     open_r : IsOpen v id_pool owed sum r o
-    open_r = release_open v id_pool base owed right o sum m legal stands
+    open_r = release_open v id_pool base owed right o sum m legal exists
 
     w_held : IsHeld m w
-    w_held = gives_held v id_pool base owed right o sum m legal stands
+    w_held = gives_held v id_pool base owed right o sum m legal exists
 
     s_held : IsHeld m s
-    s_held = takes_held v id_pool base owed right o sum m legal stands
+    s_held = takes_held v id_pool base owed right o sum m legal exists
 
     same_w : given_with base (pos (bound_of o).wheat) m w ≡ most_given base r w
-    same_w = given_same base m legal.keyed o (apart v id_pool base owed right o sum m legal stands) w_held
+    same_w = given_same base m legal.keyed o (apart v id_pool base owed right o sum m legal exists) w_held
 
     same_s : taken_with (pos (bound_of o).sheep) m s ≡ most_taken r s
-    same_s = taken_same base m legal.keyed o (apart v id_pool base owed right o sum m legal stands) s_held
+    same_s = taken_same base m legal.keyed o (apart v id_pool base owed right o sum m legal exists) s_held
 
     pub priced : IsPriced o.price
-    priced = let its = range v id_pool base owed right o sum m legal stands in record { n = its.n; d = its.d }
+    priced = let its = range v id_pool base owed right o sum m legal exists in record { n = its.n; d = its.d }
 
     pub amount_low : pos 0 ≤ℤ o.amount
-    amount_low = let its = range v id_pool base owed right o sum m legal stands in let some = its.amount in
+    amount_low = let its = range v id_pool base owed right o sum m legal exists in let some = its.amount in
         omega (arith, ints)
 
     pub sides_ready : AreSidesReady base m o
@@ -115,10 +90,10 @@ module _ (v : View) (id_pool base : ℕ) (owed : Owed) (right : IsOwedRightly ow
       t = map_after_trade o a r
 
       gives_is : unsigned_abs sides.gives ≡ most_given base r w
-      gives_is = natural sides.gives _ are.gives ∙ same_w
+      gives_is = unsigned_abs_natural sides.gives _ are.gives ∙ same_w
 
       takes_is : unsigned_abs sides.takes ≡ most_taken r s
-      takes_is = natural sides.takes _ are.takes ∙ same_s
+      takes_is = unsigned_abs_natural sides.takes _ are.takes ∙ same_s
 
       bounds_is : bounds_of o sides left ≡ b
       bounds_is = λ i. record {
@@ -144,18 +119,18 @@ module _ (v : View) (id_pool base : ℕ) (owed : Owed) (right : IsOwedRightly ow
       gives_then =
           still_is o.seller_id sides.gives_at (unsigned_abs sides.gives) a.wheat
           ∙ (λ i. still_under (are.gives_at i) (gives_is i) a.wheat)
-          ∙ sym (given_then base m legal.keyed o (apart v id_pool base owed right o sum m legal stands) a w_held
-          (has v id_pool base owed right o sum m legal stands rounding (left_in left)))
+          ∙ sym (given_then base m legal.keyed o (apart v id_pool base owed right o sum m legal exists) a w_held
+          (has v id_pool base owed right o sum m legal exists rounding (left_in left)))
 
       takes_then : still_most sides.takes_at (unsigned_abs sides.takes) a.sheep ≡ most_taken t s
       takes_then =
           still_is o.seller_id sides.takes_at (unsigned_abs sides.takes) a.sheep
           ∙ (λ i. still_under (are.takes_at i) (takes_is i) a.sheep)
-          ∙ sym (taken_then base m legal.keyed o (apart v id_pool base owed right o sum m legal stands) a s_held
-          (takes v id_pool base owed right o sum m legal stands rounding (left_in left)))
+          ∙ sym (taken_then base m legal.keyed o (apart v id_pool base owed right o sum m legal exists) a s_held
+          (takes v id_pool base owed right o sum m legal exists rounding (left_in left)))
 
       abbrev its_rest : ℕ
-      its_rest = rest v id_pool base owed right o sum m legal stands rounding (left_in left)
+      its_rest = rest v id_pool base owed right o sum m legal exists rounding (left_in left)
 
       rest_then : rest_of rounding o sides left ≡ its_rest
       rest_then =
@@ -168,10 +143,10 @@ module _ (v : View) (id_pool base : ℕ) (owed : Owed) (right : IsOwedRightly ow
       rest_is = is.rest ∙ ap pos rest_then
 
       moved_is : moved_by plan ≡ a
-      moved_is = λ i. record { wheat = natural plan.wheat _ wheat_is i; sheep = natural plan.sheep _ sheep_is i }
+      moved_is = λ i. record { wheat = unsigned_abs_natural plan.wheat _ wheat_is i; sheep = unsigned_abs_natural plan.sheep _ sheep_is i }
 
       rest_abs : unsigned_abs plan.rest ≡ its_rest
-      rest_abs = natural plan.rest _ rest_is
+      rest_abs = unsigned_abs_natural plan.rest _ rest_is
 
       gives_change : gives_in o plan ≡ giving_change o a its_rest
       gives_change = λ i. giving_change o (moved_is i) (rest_abs i)
@@ -181,15 +156,15 @@ module _ (v : View) (id_pool base : ℕ) (owed : Owed) (right : IsOwedRightly ow
 
       abbrev fit : DoesChangeFit m w (giving_change o a its_rest)
           × DoesChangeFit (changing w (giving_change o a its_rest) m) s (taking_change o a its_rest)
-      fit = changes_fit v id_pool base owed right o sum m legal stands rounding (left_in left)
+      fit = changes_fit v id_pool base owed right o sum m legal exists rounding (left_in left)
 
-      pub gives_fit : DoesChangeFit m (place_key o.seller_id sides.gives_at) (gives_in o plan)
+      pub gives_fit : DoesChangeFit m (location_key o.seller_id sides.gives_at) (gives_in o plan)
       gives_fit = subst (λ k. DoesChangeFit m k (gives_in o plan)) (sym are.gives_at)
           (subst (λ c. DoesChangeFit m w c) (sym gives_change) fit.0)
 
-      pub takes_fit : DoesChangeFit (changing (place_key o.seller_id sides.gives_at) (gives_in o plan) m)
-          (place_key o.seller_id sides.takes_at) (takes_in o plan)
-      takes_fit = subst (λ k. DoesChangeFit (changing k (gives_in o plan) m) (place_key o.seller_id sides.takes_at)
+      pub takes_fit : DoesChangeFit (changing (location_key o.seller_id sides.gives_at) (gives_in o plan) m)
+          (location_key o.seller_id sides.takes_at) (takes_in o plan)
+      takes_fit = subst (λ k. DoesChangeFit (changing k (gives_in o plan) m) (location_key o.seller_id sides.takes_at)
           (takes_in o plan)) (sym are.gives_at)
           (subst (λ k. DoesChangeFit (changing w (gives_in o plan) m) k (takes_in o plan)) (sym are.takes_at)
           (subst (λ c. DoesChangeFit (changing w c m) s (takes_in o plan)) (sym gives_change)
@@ -197,9 +172,9 @@ module _ (v : View) (id_pool base : ℕ) (owed : Owed) (right : IsOwedRightly ow
 
       pub carried : (bound : Liabilities) → IsBoundOf o bound → IsCarried o bound plan
       carried bound bound_is = record {
-        wheat = low_natural plan.wheat _ wheat_is;
-        sheep = low_natural plan.sheep _ sheep_is;
-        rest = low_natural plan.rest _ rest_is;
+        wheat = nonnegative_from_natural plan.wheat _ wheat_is;
+        sheep = nonnegative_from_natural plan.sheep _ sheep_is;
+        rest = nonnegative_from_natural plan.rest _ rest_is;
         selling = bound_is.selling;
         buying = bound_is.buying;
       }
@@ -209,7 +184,7 @@ module _ (v : View) (id_pool base : ℕ) (owed : Owed) (right : IsOwedRightly ow
       entries_are =
           (λ i. map_with_rest o (rest_abs i) (changing (are.takes_at i) (takes_change i)
           (changing (are.gives_at i) (gives_change i) m)))
-          ∙ sym (step_is v id_pool base owed right o sum m legal stands rounding (left_in left))
+          ∙ sym (step_is v id_pool base owed right o sum m legal exists rounding (left_in left))
 
       amounts_of_step : (x : Bool) → (step_by base o b a x t).amounts ≡ a
       amounts_of_step true = refl

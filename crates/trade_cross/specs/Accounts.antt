@@ -15,7 +15,7 @@ use Rattle.reserve_rules.specs.Reserve.{available}
 
 -- ---- what accounts hold
 
--- an account or a line stands under the key, a line with an authorisation to keep liabilities; none is needed where
+-- an account or a line exists under the key, a line with an authorisation to keep liabilities; none is needed where
 -- nothing is named
 abbrev pub IsHeld : EntryMap → Option LedgerKey → Type 0
 IsHeld m None = Unit {0}
@@ -31,7 +31,7 @@ Related R None None = Unit {0}
 Related R (Some a) (Some b) = R a b
 Related R a b = ⊥
 
--- the same means, and no less available
+-- the same balance and liabilities, and no less available
 pub record IsEased (base : ℕ) (a b : AccountEntry) : Type 0 where
   pub balance : b.balance ≡ a.balance
   pub liabilities : account_liabilities b ≡ account_liabilities a

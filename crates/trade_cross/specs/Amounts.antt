@@ -7,7 +7,7 @@ use Rattle.legal_rules.specs.Binding.{binding}
 use Rattle.legal_rules.specs.OfferLiabilities.{bound_of}
 use Rattle.trade_cross.specs.Crossing.{seller_gives_at, seller_takes_at}
 use Rattle.trade_cross.specs.declared.holding.Change.{Change}
-use Rattle.trade_cross.specs.Places.{DoesChangeFit}
+use Rattle.trade_cross.specs.Locations.{DoesChangeFit}
 
 abbrev pub payment : ℤ → Change
 payment n = record { balance = n; selling = pos 0; buying = pos 0 }
@@ -15,7 +15,7 @@ payment n = record { balance = n; selling = pos 0; buying = pos 0 }
 abbrev pub bond : (selling buying : ℤ) → Change
 bond selling buying = record { balance = pos 0; selling = selling; buying = buying }
 
--- so much more, which may be below 0, fits what stands under the key of an account or a line
+-- so much more, which may be below 0, fits what is under the key of an account or a line
 abbrev pub DoesPaymentFit : EntryMap → Option LedgerKey → ℤ → Type 0
 DoesPaymentFit m k n = DoesChangeFit m k (payment n)
 

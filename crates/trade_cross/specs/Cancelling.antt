@@ -5,7 +5,7 @@ use Rattle.entry_map.specs.EntryMap.{EntryMap}
 use Rattle.entry_slots.specs.Offers.{offer_at}
 use Rattle.sponsor_rules.specs.Removing.{map_after_removing}
 use Rattle.legal_rules.specs.Binding.{releasing}
-use Rattle.legal_rules.specs.Books.{View}
+use Rattle.legal_rules.specs.Aggregates.{View}
 use Rattle.legal_rules.specs.OneMore.{IsOwedRightly}
 use Rattle.legal_rules.specs.Owing.{Owed, IsLegalOwing}
 use Rattle.trade_cross.specs.Crossing.{offer_key}
@@ -14,7 +14,7 @@ use Rattle.trade_cross.specs.Crossing.{offer_key}
 abbrev pub map_after_cancelling : OfferEntry → EntryMap → EntryMap
 map_after_cancelling o m = map_after_removing (offer_key o) (releasing o m)
 
--- An offer that stands is removed, and what is left is as legal as before.
+-- An offer that exists is removed, and what is left is as legal as before.
 abbrev pub CancelledOffersKeep : Type 0
 CancelledOffersKeep =
     (v : View) (id_pool base : ℕ) (owed : Owed) (sum : ℤ) (o : OfferEntry) (m : EntryMap)

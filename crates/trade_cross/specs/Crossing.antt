@@ -76,7 +76,7 @@ map_after_rest o zero m = map_after_removing (offer_key o) m
 map_after_rest o (suc n) m =
     acquiring (with_amount (suc n) o) (with_offer m o.seller_id o.offer_id (λ was. with_amount (suc n) o))
 
--- what one crossed offer comes to
+-- what one crossed offer yields
 pub record Step : Type 0 where
   pub amounts : Amounts
   pub stays : Bool
@@ -121,7 +121,7 @@ is_used_up left = nat_eq left.sheep_send 0 || nat_eq left.wheat_receive 0
 unfoldable pub turn : Trade → Left → EntryMap → Turn
 turn trade left m = if is_used_up left then Ends Converted else turn_at trade (best m trade.wheat trade.sheep)
 
--- what a trade comes to: what was sent and received, each offer that was crossed, the end, and the map, in which the
+-- what a trade yields: what was sent and received, each offer that was crossed, the end, and the map, in which the
 -- taker's own entries are as they were
 pub record Crossing : Type 0 where
   pub sheep : ℕ

@@ -1,4 +1,4 @@
--- That crossing keeps a state legal, also where one offer of the taker more is counted than stands, and what it moves.
+-- That crossing keeps a state legal, also where one offer of the taker more is counted than exists, and what it moves.
 use Rattle.std.specs.Prelude.{◌≡◌, ◌≢◌, ℕ, ◌≤◌, All, ℤ, pos, neg_ℤ, ◌+ℤ◌, ◌≤ℤ◌, List, [], ◌∷◌, Option, Some, None}
 use Rattle.ledger_types.specs.declared.ids.AccountId.{AccountId}
 use Rattle.ledger_types.specs.declared.asset.Asset.{Asset}
@@ -8,7 +8,7 @@ use Rattle.ledger_types.specs.declared.key.LedgerKey.{LedgerKey}
 use Rattle.ledger_types.specs.declared.key.LedgerKey.TheVariants as key
 use Rattle.entry_map.specs.EntryMap.{EntryMap}
 use Rattle.entry_slots.specs.Accounts.{account_at, HasAccount}
-use Rattle.legal_rules.specs.Books.{View}
+use Rattle.legal_rules.specs.Aggregates.{View}
 use Rattle.legal_rules.specs.Holdings.{Increase, none_more, both_more, more_at, HoldsMore, IsAfter}
 use Rattle.legal_rules.specs.OneMore.{IsOwedRightly}
 use Rattle.legal_rules.specs.Owing.{Owed, IsLegalOwing}
@@ -71,7 +71,7 @@ IsOfTrade trade (atom.OrderBook seller id sold amount_sold bought amount_bought)
     × (pos 0 ≤ℤ amount_bought)
 IsOfTrade trade other = ⊥
 
--- the atoms are of the trade, and come to what it says
+-- the atoms are of the trade, and add up to what it says
 pub record AreTraded (trade : Trade) (done : Crossing) : Type 0 where
   pub sheep : bought_in done.atoms ≡ pos done.sheep
   pub wheat : sold_in done.atoms ≡ pos done.wheat
@@ -88,14 +88,14 @@ pub record IsCrossed (v : View) (id_pool base : ℕ) (owed : Owed) (sum : ℤ) (
   pub wheat : done.wheat ≤ left.wheat_receive
   -- what sellers hold more and less
   pub holds : HoldsMore (more_in done.atoms) m done.entries
-  -- each account has no less available than before, unless that is at least nothing, and who stood stands
+  -- each account has no less available than before, unless that is at least nothing, and who existed still exists
   pub accounts : (id : AccountId) → IsAfter base (account_at m id) (account_at done.entries id)
-  pub stand : (id : AccountId) → HasAccount m id → HasAccount done.entries id
+  pub exist : (id : AccountId) → HasAccount m id → HasAccount done.entries id
   -- the taker has what it had, and no offer comes
   pub passes : Passes base trade.taker m done.entries
   pub atoms : AreTraded trade done
 
--- for all that books may owe
+-- for all that aggregates may owe
 abbrev pub CrossingKeeps : Type 0
 CrossingKeeps =
     (v : View) (id_pool base : ℕ) (owed : Owed) (sum : ℤ) (trade : Trade) (crossings : ℕ) (left : Left) (m : EntryMap)

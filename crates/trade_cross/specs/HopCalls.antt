@@ -28,9 +28,9 @@ is_served_in other trade done = nat_eq (unsigned_abs done.wheat) (unsigned_abs t
 abbrev pub is_served_by : Trade → Crossed → Bool
 is_served_by trade done = is_served_in trade.rounding trade done
 
--- whether the trade was served by whatever it came to
-abbrev pub TellsServed : Bool → Trade → Crossed → Type 0
-TellsServed served trade answer = (done : Crossing) → IsCrossing answer done → served ≡ is_served trade done
+-- whether the trade was served by whatever it yielded
+abbrev pub ShowsServed : Bool → Trade → Crossed → Type 0
+ShowsServed served trade answer = (done : Crossing) → IsCrossing answer done → served ≡ is_served trade done
 
 -- more is received by the book than by the pool, or less is sent
 abbrev pub is_cheaper_by : Rounding → Crossed → Swap → Bool
@@ -60,26 +60,26 @@ IsSwapOf x y (Some swap) (Some a) =
 IsSwapOf x y one other = ⊥
 
 -- all that can be sent is sent
-abbrev pub TellsGiven : Option Swap → (x y put : ℤ) → Type 0
-TellsGiven swap x y put =
+abbrev pub ShowsGiven : Option Swap → (x y put : ℤ) → Type 0
+ShowsGiven swap x y put =
     IsSwapOf x y swap
     (swap_by StrictSend (unsigned_abs x) (unsigned_abs y)
     (record { sheep_send = unsigned_abs put; wheat_receive = 0 }))
 
 -- all that can be received is received
-abbrev pub TellsTaken : Option Swap → (x y want : ℤ) → Type 0
-TellsTaken swap x y want =
+abbrev pub ShowsTaken : Option Swap → (x y want : ℤ) → Type 0
+ShowsTaken swap x y want =
     IsSwapOf x y swap
     (swap_by StrictReceive (unsigned_abs x) (unsigned_abs y)
     (record { sheep_send = 0; wheat_receive = unsigned_abs want }))
 
-abbrev pub TellsSwap : Option Swap → (x y : ℤ) → Trade → Type 0
-TellsSwap swap x y trade =
+abbrev pub ShowsSwap : Option Swap → (x y : ℤ) → Trade → Type 0
+ShowsSwap swap x y trade =
     IsSwapOf x y swap (swap_by trade.rounding (unsigned_abs x) (unsigned_abs y) (left_of trade))
 
 -- the same by the reserves of a pool
-abbrev pub TellsPoolSwap : Option Swap → Trade → LiquidityPoolEntry → Type 0
-TellsPoolSwap swap trade pool =
+abbrev pub ShowsPoolSwap : Option Swap → Trade → LiquidityPoolEntry → Type 0
+ShowsPoolSwap swap trade pool =
     IsSwapOf (sheep_reserve trade pool) (wheat_reserve trade pool) swap
     (swap_by trade.rounding (sheep_in trade pool) (wheat_in trade pool) (left_of trade))
 
@@ -93,6 +93,6 @@ pub record IsServing (ctx : Ctx) (trade : Trade) (m : EntryMap) (serving : Servi
   pub swap : swap_of ctx trade m ≡ Some (amounts_of serving.swap)
   pub fits : DoesPoolFit trade serving.swap serving.slot.pool
 
-abbrev pub TellsServing : Option Serving → Ctx → Trade → EntryMap → Type 0
-TellsServing None ctx trade m = swap_of ctx trade m ≡ None
-TellsServing (Some serving) ctx trade m = IsServing ctx trade m serving
+abbrev pub ShowsServing : Option Serving → Ctx → Trade → EntryMap → Type 0
+ShowsServing None ctx trade m = swap_of ctx trade m ≡ None
+ShowsServing (Some serving) ctx trade m = IsServing ctx trade m serving

@@ -11,7 +11,7 @@ use Rattle.offer_exchange.specs.declared.rounding.Rounding.{Rounding}
 use Rattle.offer_exchange.specs.declared.rounding.Rounding.TheVariants.{StrictSend}
 use Rattle.offer_exchange.specs.Exchange.{unlimited}
 use Rattle.sponsor_rules.specs.declared.context.Ctx.{Ctx}
-use Rattle.legal_rules.specs.Books.{View}
+use Rattle.legal_rules.specs.Aggregates.{View}
 use Rattle.legal_rules.specs.Holdings.{HoldsMore, IsAfter}
 use Rattle.legal_rules.specs.OneMore.{IsOwedRightly}
 use Rattle.legal_rules.specs.Owing.{Owed, IsLegalOwing}
@@ -51,7 +51,7 @@ IsOfHop trade (atom.LiquidityPool pool sold amount_sold bought amount_bought) =
     × (pos 0 ≤ℤ amount_bought)
 IsOfHop trade other = IsOfTrade trade other
 
--- the atoms are of the hop, and come to what it says
+-- the atoms are of the hop, and add up to what it says
 pub record AreHopped (trade : Trade) (done : Crossing) : Type 0 where
   pub sheep : bought_in done.atoms ≡ pos done.sheep
   pub wheat : sold_in done.atoms ≡ pos done.wheat
@@ -69,14 +69,14 @@ pub record IsHopped (v : View) (id_pool base : ℕ) (owed : Owed) (sum : ℤ) (t
   pub wheat : DoPoolReservesFit trade m → done.wheat ≤ (left_of trade).wheat_receive
   -- what sellers and pools hold more and less
   pub holds : HoldsMore (more_in done.atoms) m done.entries
-  -- each account has no less available than before, unless that is at least nothing, and who stood stands
+  -- each account has no less available than before, unless that is at least nothing, and who existed still exists
   pub accounts : (id : AccountId) → IsAfter base (account_at m id) (account_at done.entries id)
-  pub stand : (id : AccountId) → HasAccount m id → HasAccount done.entries id
+  pub exist : (id : AccountId) → HasAccount m id → HasAccount done.entries id
   pub atoms : AreHopped trade done
   -- it was served: no other end came before
   pub end : is_served trade done ≡ true → done.end ≡ Converted
 
--- for all that books may owe
+-- for all that aggregates may owe
 abbrev pub HopKeeps : Type 0
 HopKeeps =
     (v : View) (id_pool : ℕ) (owed : Owed) (sum : ℤ) (ctx : Ctx) (trade : Trade) (m : EntryMap) → IsHopTrade trade

@@ -2,7 +2,7 @@ pub mod Holdings
 pub mod Crossing
 pub mod Accounts
 pub mod CrossingLaws
-pub mod Places
+pub mod Locations
 pub mod Sides
 pub mod Plans
 pub mod Steps

@@ -1,5 +1,4 @@
--- What crossing one offer comes to, by what its owner can give and take, and the changes that it makes holder by
--- holder.
+-- What crossing one offer yields, by what its owner can give and take, and the changes that it makes holder by holder.
 use Rattle.std.specs.Prelude.{◌≡◌, ℕ, ◌-◌, zero, suc, ℤ, pos, neg_ℤ, ◌-ℤ◌, ◌≤ℤ◌, min, unsigned_abs, Bool}
 use Rattle.std.specs.Prelude.{if◌then◌else◌}
 use Rattle.ledger_types.specs.declared.price.Liabilities.{Liabilities}
@@ -12,13 +11,13 @@ use Rattle.offer_exchange.specs.Exchange.{Amounts, Bounds, adjusted, exchanged, 
 use Rattle.offer_exchange.specs.Calls.{bound_by}
 use Rattle.legal_rules.specs.OfferLiabilities.{bound_of}
 use Rattle.trade_cross.specs.declared.holding.Change.{Change}
-use Rattle.trade_cross.specs.declared.place.Place.{Place}
-use Rattle.trade_cross.specs.declared.place.Place.TheVariants as place
+use Rattle.trade_cross.specs.declared.location.Location.{Location}
+use Rattle.trade_cross.specs.declared.location.Location.TheVariants as location
 use Rattle.trade_cross.specs.declared.plan.Left.{Left as LeftOfCall}
 use Rattle.trade_cross.specs.declared.plan.Plan.{Plan}
 use Rattle.trade_cross.specs.declared.plan.Sides.{Sides}
 use Rattle.trade_cross.specs.Crossing.{Left, with_amount, offer_key, seller_gives_at, seller_takes_at}
-use Rattle.trade_cross.specs.Places.{place_key, changing}
+use Rattle.trade_cross.specs.Locations.{location_key, changing}
 
 -- ---- the taker's bounds
 
@@ -57,8 +56,8 @@ abbrev pub amounts_of : Rounding → OfferEntry → Sides → LeftOfCall → Amo
 amounts_of rounding o sides left = exchanged rounding (price_n o) (price_d o) (bounds_of o sides left)
 
 -- what is left of a bound once so much has moved; an issuer's stays
-abbrev pub still_most : Place → (most moved : ℕ) → ℕ
-still_most place.Nowhere most moved = most
+abbrev pub still_most : Location → (most moved : ℕ) → ℕ
+still_most location.Nowhere most moved = most
 still_most other most moved = most - moved
 
 -- how much rests of an offer of so much, of which so much moved
@@ -137,5 +136,5 @@ takes_in o plan = taking_change o (moved_by plan) (unsigned_abs plan.rest)
 
 abbrev pub map_of : OfferEntry → Sides → Plan → EntryMap → EntryMap
 map_of o sides plan m =
-    changing (place_key o.seller_id sides.takes_at) (takes_in o plan)
-    (changing (place_key o.seller_id sides.gives_at) (gives_in o plan) m)
+    changing (location_key o.seller_id sides.takes_at) (takes_in o plan)
+    (changing (location_key o.seller_id sides.gives_at) (gives_in o plan) m)

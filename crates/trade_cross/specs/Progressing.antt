@@ -20,7 +20,7 @@ pub record AreTradeBounds (trade : Trade) : Type 0 where
   pub sheep_send : pos 0 ≤ℤ trade.sheep_send
   pub wheat_receive : pos 0 ≤ℤ trade.wheat_receive
 
--- what a trade came to
+-- what a trade yielded
 pub record IsCrossing (answer : Crossed) (done : Crossing) : Type 0 where
   pub sheep : answer.sheep ≡ pos done.sheep
   pub wheat : answer.wheat ≡ pos done.wheat
@@ -59,7 +59,7 @@ pub record DoesNoteFit (p : Progress) (plan : Plan) : Type 0 where
 
 -- ---- so far
 
--- what was used of each bound and what is left of it come to the bound
+-- what was used of each bound and what is left of it add up to the bound
 pub record IsWithin (trade : Trade) (p : Progress) : Type 0 where
   pub left : AreLeft p.left
   pub sheep_low : pos 0 ≤ℤ p.sheep
@@ -69,9 +69,9 @@ pub record IsWithin (trade : Trade) (p : Progress) : Type 0 where
   pub sheep_fits : trade.sheep_send ≤ℤ greatest_i64
   pub wheat_fits : trade.wheat_receive ≤ℤ greatest_i64
 
--- a trade behind what was crossed before it
-abbrev pub behind : Progress → Crossing → Crossing
-behind p done =
+-- a trade after what was crossed before it
+abbrev pub following : Progress → Crossing → Crossing
+following p done =
     record {
       sheep = unsigned_abs p.sheep + done.sheep;
       wheat = unsigned_abs p.wheat + done.wheat;
@@ -80,12 +80,12 @@ behind p done =
       entries = done.entries;
     }
 
--- what a trade comes to in all
+-- what a trade yields in all
 abbrev pub in_all : ℕ → Trade → Progress → EntryMap → Crossing
-in_all base trade p m = behind p (crossed base trade p.crossings (left_in p.left) m)
+in_all base trade p m = following p (crossed base trade p.crossings (left_in p.left) m)
 
--- a turn: the trade comes to the same, and where it goes on an offer less may be crossed
+-- a turn: the trade yields the same, and where it goes on an offer less may be crossed
 abbrev pub Advances : ℕ → Trade → Option CrossEnd → Progress → EntryMap → Progress → EntryMap → Type 0
 Advances base trade None p m q n =
     (in_all base trade q n ≡ in_all base trade p m) × (q.crossings + 1 ≡ p.crossings)
-Advances base trade (Some end) p m q n = behind q (ended n end) ≡ in_all base trade p m
+Advances base trade (Some end) p m q n = following q (ended n end) ≡ in_all base trade p m

@@ -8,7 +8,7 @@ use Rattle.legal_rules.specs.OfferLiabilities.{bound_of}
 use Rattle.trade_cross.specs.declared.plan.Plan.{Plan}
 use Rattle.trade_cross.specs.declared.plan.Sides.{Sides}
 use Rattle.trade_cross.specs.Crossing.{Step, seller_gives_at, seller_takes_at}
-use Rattle.trade_cross.specs.Places.{place_key}
+use Rattle.trade_cross.specs.Locations.{location_key}
 use Rattle.trade_cross.specs.Sides.{given_with, taken_with, IsInRangeAt}
 
 -- what an offer binds
@@ -24,9 +24,9 @@ pub record AreSidesReady (base : ℕ) (m : EntryMap) (o : OfferEntry) : Type 0 w
   pub takes : taken_with (pos (bound_of o).sheep) m (seller_takes_at o) ≤ unlimited
 
 pub record AreSidesOf (base : ℕ) (m : EntryMap) (o : OfferEntry) (sides : Sides) : Type 0 where
-  pub gives_at : place_key o.seller_id sides.gives_at ≡ seller_gives_at o
+  pub gives_at : location_key o.seller_id sides.gives_at ≡ seller_gives_at o
   pub gives : sides.gives ≡ pos (given_with base (pos (bound_of o).wheat) m (seller_gives_at o))
-  pub takes_at : place_key o.seller_id sides.takes_at ≡ seller_takes_at o
+  pub takes_at : location_key o.seller_id sides.takes_at ≡ seller_takes_at o
   pub takes : sides.takes ≡ pos (taken_with (pos (bound_of o).sheep) m (seller_takes_at o))
 
 -- what a step moved

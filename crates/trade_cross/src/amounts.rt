@@ -7,11 +7,11 @@ ghost use Rattle.offer_exchange.specs.Exchange.{unlimited};
 ghost use Rattle.legal_rules.specs.Binding as binding;
 ghost use Rattle.trade_cross.specs.Amounts as spec;
 ghost use Rattle.trade_cross.specs.Holdings as holdings;
-ghost use Rattle.trade_cross.specs.Places.{place_key};
+ghost use Rattle.trade_cross.specs.Locations.{location_key};
 ghost use Rattle.trade_cross.specs.Sides.{IsInRangeAt};
 
 use crate::holding::{Change, change_holding};
-use crate::place::{Place, place_of};
+use crate::location::{Location, location_of};
 use crate::side::{most_given_with, most_taken_with};
 use entry_map::{Base, Entries};
 use ledger_types::{AccountId, OfferEntry};
@@ -25,14 +25,14 @@ pub fn most_given<B: Base>(
     entries: &Entries<'_, B>,
     base_reserve: u32,
     id: &AccountId,
-    place: Place,
+    location: Location,
 ) -> Result<i64, AllocError>
-    requires range { IsInRangeAt entries.now.current (place_key id.now place) }
-    requires fits { holdings.most_given base_reserve entries.now.current (place_key id.now place) ≤ unlimited }
+    requires range { IsInRangeAt entries.now.current (location_key id.now location) }
+    requires fits { holdings.most_given base_reserve entries.now.current (location_key id.now location) ≤ unlimited }
     ensures { IfOk result (λ most.
-        most ≡ pos (holdings.most_given base_reserve entries.now.current (place_key id.now place))) }
+        most ≡ pos (holdings.most_given base_reserve entries.now.current (location_key id.now location))) }
 {
-    most_given_with(entries, base_reserve, id, place, 0)
+    most_given_with(entries, base_reserve, id, location, 0)
 }
 
 /// What an account can take of an asset at most, at least 0: what it has room for, and of what it issues as much as it
@@ -41,33 +41,33 @@ pub fn most_given<B: Base>(
 pub fn most_taken<B: Base>(
     entries: &Entries<'_, B>,
     id: &AccountId,
-    place: Place,
+    location: Location,
 ) -> Result<i64, AllocError>
-    requires range { IsInRangeAt entries.now.current (place_key id.now place) }
-    requires fits { holdings.most_taken entries.now.current (place_key id.now place) ≤ unlimited }
-    ensures { IfOk result (λ most. most ≡ pos (holdings.most_taken entries.now.current (place_key id.now place))) }
+    requires range { IsInRangeAt entries.now.current (location_key id.now location) }
+    requires fits { holdings.most_taken entries.now.current (location_key id.now location) ≤ unlimited }
+    ensures { IfOk result (λ most. most ≡ pos (holdings.most_taken entries.now.current (location_key id.now location))) }
 {
-    most_taken_with(entries, id, place, 0)
+    most_taken_with(entries, id, location, 0)
 }
 
 /// Adds an amount, which may be below 0, to what an account has of an asset.
 pub fn pay<B: Base>(
     entries: &mut Entries<'_, B>,
     id: &AccountId,
-    place: Place,
+    location: Location,
     amount: i64,
 ) -> Result<(), AllocError>
-    requires { spec.DoesPaymentFit entries.old.current (place_key id.now place) amount }
+    requires { spec.DoesPaymentFit entries.old.current (location_key id.now location) amount }
     ensures { OnOk result (
         entries.new ≡
-        with_current entries.old (holdings.paying (place_key id.now place) amount entries.old.current)) }
+        with_current entries.old (holdings.paying (location_key id.now location) amount entries.old.current)) }
 {
     let payment = Change {
         balance: amount,
         selling: 0,
         buying: 0,
     };
-    change_holding(entries, id, place, payment)
+    change_holding(entries, id, location, payment)
 }
 
 /// A number of at least 0 with its sign turned.
@@ -82,37 +82,37 @@ fn turned(number: i64) -> i64
 pub fn take<B: Base>(
     entries: &mut Entries<'_, B>,
     id: &AccountId,
-    place: Place,
+    location: Location,
     amount: i64,
 ) -> Result<(), AllocError>
     requires amount { pos 0 ≤ℤ amount }
-    requires fits { spec.DoesPaymentFit entries.old.current (place_key id.now place) (neg_ℤ amount) }
+    requires fits { spec.DoesPaymentFit entries.old.current (location_key id.now location) (neg_ℤ amount) }
     ensures { OnOk result (
         entries.new ≡
-        with_current entries.old (holdings.paying (place_key id.now place) (neg_ℤ amount) entries.old.current)) }
+        with_current entries.old (holdings.paying (location_key id.now location) (neg_ℤ amount) entries.old.current)) }
 {
-    pay(entries, id, place, turned(amount))
+    pay(entries, id, location, turned(amount))
 }
 
 /// Binds so much more of what an account has of an asset, for what its offers would give and take. Each may be below 0.
 fn bind<B: Base>(
     entries: &mut Entries<'_, B>,
     id: &AccountId,
-    place: Place,
+    location: Location,
     selling: i64,
     buying: i64,
 ) -> Result<(), AllocError>
-    requires { spec.DoesBondFit entries.old.current (place_key id.now place) selling buying }
+    requires { spec.DoesBondFit entries.old.current (location_key id.now location) selling buying }
     ensures { OnOk result (
         entries.new ≡
-        with_current entries.old (binding.binding (place_key id.now place) selling buying entries.old.current)) }
+        with_current entries.old (binding.binding (location_key id.now location) selling buying entries.old.current)) }
 {
     let bond = Change {
         balance: 0,
         selling,
         buying,
     };
-    change_holding(entries, id, place, bond)
+    change_holding(entries, id, location, bond)
 }
 
 /// Binds so much more of both sides of an offer.
@@ -127,9 +127,9 @@ fn bind_sides<B: Base>(
         entries.new ≡ with_current entries.old (spec.both_bound offer.now selling buying entries.old.current)) }
 {
     let seller_id = &offer.seller_id;
-    let gives_at = place_of(seller_id, &offer.selling);
+    let gives_at = location_of(seller_id, &offer.selling);
     bind(entries, seller_id, gives_at, selling, 0)?;
-    let takes_at = place_of(seller_id, &offer.buying);
+    let takes_at = location_of(seller_id, &offer.buying);
     bind(entries, seller_id, takes_at, 0, buying)
 }
 

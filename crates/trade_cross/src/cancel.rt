@@ -13,14 +13,14 @@ use ledger_types::OfferEntry;
 use sponsor_rules::{Ctx, remove_entry};
 use std::alloc::AllocError;
 
-/// Removes an offer that stands, without a trade: what it binds is released, and its reserve is freed.
+/// Removes an offer that exists, without a trade: what it binds is released, and its reserve is freed.
 pub fn cancel_offer<B: Base>(
     entries: &mut Entries<'_, B>,
     ctx: &Ctx,
     offer: &OfferEntry,
 ) -> Result<(), AllocError>
     requires crossable { IsCrossable entries.old.current }
-    requires stands { offer_at entries.old.current offer.now.seller_id offer.now.offer_id ≡ Some offer.now }
+    requires exists { offer_at entries.old.current offer.now.seller_id offer.now.offer_id ≡ Some offer.now }
     ensures entries { OnOk result (
         entries.new ≡ with_current entries.old (map_after_cancelling offer.now entries.old.current)) }
     ensures crossable { OnOk result (IsCrossable entries.new.current) }

@@ -5,7 +5,7 @@ ghost use Rattle.entry_map.specs.Undo.{with_current};
 ghost use Rattle.entry_slots.specs.Offers as offers;
 ghost use Rattle.ledger_types.specs.Prices.{IsPriced};
 ghost use Rattle.trade_cross.specs.Crossing.{with_amount};
-ghost use Rattle.trade_cross.specs.Places.{DoesChangeFit, changing, place_key};
+ghost use Rattle.trade_cross.specs.Locations.{DoesChangeFit, changing, location_key};
 ghost use Rattle.trade_cross.specs.Plans as spec;
 
 use crate::holding::{Change, change_holding};
@@ -74,11 +74,11 @@ pub fn carry_out<B: Base>(
 ) -> Result<(), AllocError>
     requires priced { IsPriced offer.now.price }
     requires plan { spec.IsCarried offer.now bound plan }
-    requires gives { DoesChangeFit entries.old.current (place_key offer.now.seller_id sides.gives_at)
+    requires gives { DoesChangeFit entries.old.current (location_key offer.now.seller_id sides.gives_at)
         (spec.gives_in offer.now plan) }
     requires takes { DoesChangeFit
-        (changing (place_key offer.now.seller_id sides.gives_at) (spec.gives_in offer.now plan) entries.old.current)
-        (place_key offer.now.seller_id sides.takes_at) (spec.takes_in offer.now plan) }
+        (changing (location_key offer.now.seller_id sides.gives_at) (spec.gives_in offer.now plan) entries.old.current)
+        (location_key offer.now.seller_id sides.takes_at) (spec.takes_in offer.now plan) }
     ensures { OnOk result (
         entries.new ≡
         with_current entries.old (
@@ -110,7 +110,7 @@ fn keep_rest<B: Base>(
     remove_entry(entries, ctx, &offer_key(offer))
 }
 
-/// Gives an offer that stands another amount.
+/// Gives an offer that exists another amount.
 #[tactic(auto, unfolding(entry_slots::specs::Offers::with_offer))]
 fn resize<B: Base>(
     entries: &mut Entries<'_, B>,

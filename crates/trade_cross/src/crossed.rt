@@ -1,4 +1,4 @@
-//! What a trade came to.
+//! What a trade yielded.
 
 use item_list::ItemList;
 use ledger_types::ClaimAtom;

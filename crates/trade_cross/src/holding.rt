@@ -8,9 +8,9 @@ ghost use Rattle.entry_slots.specs.AccountExtensions as extensions;
 ghost use Rattle.entry_slots.specs.LineExtensions as line_extensions;
 ghost use Rattle.entry_slots.specs.Lines as lines;
 ghost use Rattle.legal_rules.specs.Binding.{risen};
-ghost use Rattle.trade_cross.specs.Places as spec;
+ghost use Rattle.trade_cross.specs.Locations as spec;
 
-use crate::place::Place;
+use crate::location::Location;
 use entry_map::{Base, Entries};
 use entry_slots::{
     AccountSlot, LineSlot, account_liabilities, line_liabilities, load_account, load_line,
@@ -31,18 +31,18 @@ pub struct Change {
 pub fn change_holding<B: Base>(
     entries: &mut Entries<'_, B>,
     id: &AccountId,
-    place: Place,
+    location: Location,
     change: Change,
 ) -> Result<(), AllocError>
-    requires { spec.DoesChangeFit entries.old.current (spec.place_key id.now place) change }
+    requires { spec.DoesChangeFit entries.old.current (spec.location_key id.now location) change }
     ensures { OnOk result (
         entries.new ≡
-        with_current entries.old (spec.changing (spec.place_key id.now place) change entries.old.current)) }
+        with_current entries.old (spec.changing (spec.location_key id.now location) change entries.old.current)) }
 {
-    match place {
-        Place::Account => change_account(entries, id, change),
-        Place::Line(held) => change_line(entries, id, &held, change),
-        Place::Nowhere => Ok(()),
+    match location {
+        Location::Account => change_account(entries, id, change),
+        Location::Line(held) => change_line(entries, id, &held, change),
+        Location::Nowhere => Ok(()),
     }
 }
 
@@ -66,7 +66,7 @@ fn risen(was: Liabilities, change: Change) -> Liabilities
     }
 }
 
-/// Changes the account's entry, if it stands.
+/// Changes the account's entry, if it exists.
 #[tactic(auto, unfolding(entry_slots::specs::Accounts::with_account))]
 fn change_account<B: Base>(
     entries: &mut Entries<'_, B>,
@@ -115,7 +115,7 @@ fn set_account_holding(account: &mut AccountEntry, change: Change)
     set_account_liabilities(account, liabilities);
 }
 
-/// Changes the account's line, if it stands.
+/// Changes the account's line, if it exists.
 #[tactic(auto, unfolding(entry_slots::specs::Lines::with_line))]
 fn change_line<B: Base>(
     entries: &mut Entries<'_, B>,

@@ -18,8 +18,8 @@ use std::alloc::{AllocError, Global};
 
 /// Makes a hop of a path: by the pool of the pair, where it can serve, unless the book can and is strictly cheaper
 /// (convertWithOffersAndPools in stellar-core; CAP-0038). What the taker itself has is left as it is. The end is
-/// `Converted` where the pool served, and else that of the book; `is_served` tells of what was moved whether the hop
-/// was served. Where memory is refused the map may only be dropped.
+/// `Converted` where the pool served, and else that of the book; `is_served` says of what was moved whether the hop was
+/// served. Where memory is refused the map may only be dropped.
 #[tactic(auto, unfolding(crate::specs::Hop::hop))]
 pub fn hop<B: Base>(
     alloc: Global,
@@ -84,7 +84,7 @@ pub fn is_served(trade: &Trade, done: &Crossed) -> bool
     requires sheep { pos 0 ≤ℤ done.now.sheep }
     requires wheat { pos 0 ≤ℤ done.now.wheat }
     ensures value { result ≡ calls.is_served_by trade.now done.now }
-    ensures served { calls.TellsServed result trade.now done.now }
+    ensures served { calls.ShowsServed result trade.now done.now }
 {
     match trade.rounding {
         Rounding::StrictSend => is_same(done.sheep, trade.sheep_send),

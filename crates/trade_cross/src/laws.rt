@@ -4,7 +4,7 @@ ghost use Rattle.trade_cross.specs.Cancelling.{CancelledOffersKeep};
 ghost use Rattle.trade_cross.specs.CrossingLaws.{CrossingKeeps};
 ghost use Rattle.trade_cross.specs.HopLaws.{HopKeeps};
 
-/// Crossing keeps a state legal, also where something is counted that doesn't stand. Each holder has what the atoms
+/// Crossing keeps a state legal, also where something is counted that doesn't exist. Each holder has what the atoms
 /// give it, less what they take, no account ends with less than nothing available unless it had less, and who isn't
 /// crossed keeps what it had.
 pub fn crossing_keeps()

@@ -1,10 +1,10 @@
-//! What crossing one offer comes to, in numbers alone.
+//! What crossing one offer yields, in numbers alone.
 
 ghost use Rattle.std.specs.Prelude.{◌≡◌, ◌≤◌, ◌-◌, ◌≤ℤ◌, pos, min, true, unsigned_abs};
 ghost use Rattle.ledger_types.specs.Prices.{IsPriced};
 ghost use Rattle.trade_cross.specs.Plans as spec;
 
-use crate::place::Place;
+use crate::location::Location;
 use ledger_types::OfferEntry;
 use offer_exchange::{Bounds, Exchanged, Rounding, adjust, exchange};
 
@@ -19,9 +19,9 @@ pub struct Left {
 /// is released from what the offer binds.
 #[derive(Clone, Copy)]
 pub struct Sides {
-    pub gives_at: Place,
+    pub gives_at: Location,
     pub gives: i64,
-    pub takes_at: Place,
+    pub takes_at: Location,
     pub takes: i64,
 }
 
@@ -56,15 +56,15 @@ fn less(a: i64, b: i64) -> i64
 }
 
 /// What is left of a bound once so much has moved; an issuer's stays.
-fn still(place: Place, most: i64, moved: i64) -> i64
+fn still(location: Location, most: i64, moved: i64) -> i64
     requires moved { pos 0 ≤ℤ moved }
     requires fits { unsigned_abs moved ≤ unsigned_abs most }
     requires most { pos 0 ≤ℤ most }
-    ensures value { unsigned_abs result ≡ spec.still_most place (unsigned_abs most) (unsigned_abs moved) }
+    ensures value { unsigned_abs result ≡ spec.still_most location (unsigned_abs most) (unsigned_abs moved) }
     ensures low { pos 0 ≤ℤ result }
 {
-    match place {
-        Place::Nowhere => most,
+    match location {
+        Location::Nowhere => most,
         _ => less(most, moved),
     }
 }

@@ -75,7 +75,7 @@ fn swap_giving(x: i64, y: i64, put: i64) -> Option<Swap>
     requires x { pos 0 ≤ℤ x }
     requires y { pos 0 ≤ℤ y }
     requires put { pos 0 ≤ℤ put }
-    ensures { calls.TellsGiven result x y put }
+    ensures { calls.ShowsGiven result x y put }
 {
     match swap_in(x, y, put) {
         Some(given) => Some(Swap {
@@ -91,7 +91,7 @@ fn swap_taking(x: i64, y: i64, want: i64) -> Option<Swap>
     requires x { pos 0 ≤ℤ x }
     requires y { pos 0 ≤ℤ y }
     requires want { pos 0 ≤ℤ want }
-    ensures { calls.TellsTaken result x y want }
+    ensures { calls.ShowsTaken result x y want }
 {
     match swap_out(x, y, want) {
         Some(taken) => Some(Swap {
@@ -107,7 +107,7 @@ fn swap_by(x: i64, y: i64, trade: &Trade) -> Option<Swap>
     requires x { pos 0 ≤ℤ x }
     requires y { pos 0 ≤ℤ y }
     requires bounds { AreTradeBounds trade.now }
-    ensures { calls.TellsSwap result x y trade.now }
+    ensures { calls.ShowsSwap result x y trade.now }
 {
     match trade.rounding {
         Rounding::StrictSend => swap_giving(x, y, trade.sheep_send),
@@ -120,7 +120,7 @@ fn pool_swap_by(trade: &Trade, pool: &LiquidityPoolEntry) -> Option<Swap>
     requires reserve_a { pos 0 ≤ℤ pool.now.reserve_a }
     requires reserve_b { pos 0 ≤ℤ pool.now.reserve_b }
     requires bounds { AreTradeBounds trade.now }
-    ensures { calls.TellsPoolSwap result trade.now pool.now }
+    ensures { calls.ShowsPoolSwap result trade.now pool.now }
 {
     if is_sheep_first(trade) {
         swap_by(pool.reserve_a, pool.reserve_b, trade)
@@ -129,7 +129,7 @@ fn pool_swap_by(trade: &Trade, pool: &LiquidityPoolEntry) -> Option<Swap>
     }
 }
 
-/// The pair's pool and what it would move, if it stands, trading with pools isn't disabled, and it can serve.
+/// The pair's pool and what it would move, if it exists, trading with pools isn't disabled, and it can serve.
 pub fn serving_pool<B: Base>(
     alloc: Global,
     entries: &Entries<'_, B>,
@@ -138,7 +138,7 @@ pub fn serving_pool<B: Base>(
 ) -> Result<Option<Serving>, AllocError>
     requires crossable { IsCrossable entries.now.current }
     requires bounds { AreTradeBounds trade.now }
-    ensures { IfOk result (λ serving. calls.TellsServing serving ctx.now trade.now entries.now.current) }
+    ensures { IfOk result (λ serving. calls.ShowsServing serving ctx.now trade.now entries.now.current) }
 {
     if ctx.flags % 2 == 1 {
         return Ok(None);
@@ -162,7 +162,7 @@ fn serving_of<B: Base>(
     requires bounds { AreTradeBounds trade.now }
     requires loaded { Some slot ≡ pool_slot_at entries.now.current (spec.pool_of_pair trade.now) }
     requires keyed { slot.pool.pool_id ≡ spec.pool_of_pair trade.now }
-    ensures { calls.TellsServing result ctx.now trade.now entries.now.current }
+    ensures { calls.ShowsServing result ctx.now trade.now entries.now.current }
 {
     if !has_pair(trade, &slot.pool) {
         return None;

@@ -5,17 +5,17 @@ ghost use Rattle.ledger_types.specs.declared.key.LedgerKey.TheVariants as key;
 ghost use Rattle.entry_slots.specs.Accounts.{account_at};
 ghost use Rattle.entry_slots.specs.Lines.{line_at};
 ghost use Rattle.trade_cross.specs.Holdings as spec;
-ghost use Rattle.trade_cross.specs.Places.{place_key};
+ghost use Rattle.trade_cross.specs.Locations.{location_key};
 ghost use Rattle.trade_cross.specs.Sides.{IsInRangeAt};
 
-use crate::place::Place;
+use crate::location::Location;
 use entry_map::{Base, Entries};
 use entry_slots::{load_facts, load_line};
 use ledger_types::{AccountId, TrustLineAsset};
 use reserve_rules::{facts_available, line_available};
 use std::alloc::AllocError;
 
-/// Whether less than so many lumens are available to an account that stands.
+/// Whether less than so many lumens are available to an account that exists.
 fn is_account_short<B: Base>(
     entries: &Entries<'_, B>,
     base_reserve: u32,
@@ -31,7 +31,7 @@ fn is_account_short<B: Base>(
     }
 }
 
-/// Whether less than so much is available of a line that stands.
+/// Whether less than so much is available of a line that exists.
 fn is_line_short<B: Base>(
     entries: &Entries<'_, B>,
     id: &AccountId,
@@ -54,16 +54,16 @@ pub fn is_short<B: Base>(
     entries: &Entries<'_, B>,
     base_reserve: u32,
     id: &AccountId,
-    place: Place,
+    location: Location,
     amount: i64,
 ) -> Result<bool, AllocError>
-    requires { IsInRangeAt entries.now.current (place_key id.now place) }
+    requires { IsInRangeAt entries.now.current (location_key id.now location) }
     ensures { IfOk result (λ short. short ≡ spec.is_short_of amount (
-        spec.has_at base_reserve entries.now.current (place_key id.now place))) }
+        spec.has_at base_reserve entries.now.current (location_key id.now location))) }
 {
-    match place {
-        Place::Account => is_account_short(entries, base_reserve, id, amount),
-        Place::Line(held) => is_line_short(entries, id, &held, amount),
-        Place::Nowhere => Ok(false),
+    match location {
+        Location::Account => is_account_short(entries, base_reserve, id, amount),
+        Location::Line(held) => is_line_short(entries, id, &held, amount),
+        Location::Nowhere => Ok(false),
     }
 }

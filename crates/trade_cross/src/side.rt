@@ -7,10 +7,10 @@ ghost use Rattle.entry_slots.specs.Lines.{line_at};
 ghost use Rattle.offer_exchange.specs.Exchange.{unlimited};
 ghost use Rattle.reserve_rules.specs.Reserve.{facts_available, line_available, line_room, IsLineInRange};
 ghost use Rattle.trade_cross.specs.Holdings.{at_least_nothing};
-ghost use Rattle.trade_cross.specs.Places.{place_key};
+ghost use Rattle.trade_cross.specs.Locations.{location_key};
 ghost use Rattle.trade_cross.specs.Sides as spec;
 
-use crate::place::Place;
+use crate::location::Location;
 use entry_map::{Base, Entries};
 use entry_slots::{AccountFacts, load_facts, load_line};
 use ledger_types::{AccountId, TrustLineAsset, TrustLineEntry};
@@ -40,18 +40,18 @@ pub fn most_given_with<B: Base>(
     entries: &Entries<'_, B>,
     base_reserve: u32,
     id: &AccountId,
-    place: Place,
+    location: Location,
     released: i64,
 ) -> Result<i64, AllocError>
-    requires range { spec.IsInRangeAt entries.now.current (place_key id.now place) }
-    requires fits { spec.given_with base_reserve released entries.now.current (place_key id.now place) ≤ unlimited }
+    requires range { spec.IsInRangeAt entries.now.current (location_key id.now location) }
+    requires fits { spec.given_with base_reserve released entries.now.current (location_key id.now location) ≤ unlimited }
     ensures { IfOk result (λ most.
-        most ≡ pos (spec.given_with base_reserve released entries.now.current (place_key id.now place))) }
+        most ≡ pos (spec.given_with base_reserve released entries.now.current (location_key id.now location))) }
 {
-    match place {
-        Place::Account => account_gives(entries, base_reserve, id, released),
-        Place::Line(held) => line_gives(entries, id, &held, released),
-        Place::Nowhere => Ok(i64::MAX),
+    match location {
+        Location::Account => account_gives(entries, base_reserve, id, released),
+        Location::Line(held) => line_gives(entries, id, &held, released),
+        Location::Nowhere => Ok(i64::MAX),
     }
 }
 
@@ -98,7 +98,7 @@ fn line_gives<B: Base>(
     }
 }
 
-/// What can be given of a line that stands.
+/// What can be given of a line that exists.
 fn a_line_gives(line: &TrustLineEntry, released: i64) -> i64
     requires range { IsLineInRange line.now }
     requires fits { at_least_nothing (line_available line.now +ℤ released) ≤ unlimited }
@@ -111,18 +111,18 @@ fn a_line_gives(line: &TrustLineEntry, released: i64) -> i64
 pub fn most_taken_with<B: Base>(
     entries: &Entries<'_, B>,
     id: &AccountId,
-    place: Place,
+    location: Location,
     released: i64,
 ) -> Result<i64, AllocError>
-    requires range { spec.IsInRangeAt entries.now.current (place_key id.now place) }
-    requires fits { spec.taken_with released entries.now.current (place_key id.now place) ≤ unlimited }
+    requires range { spec.IsInRangeAt entries.now.current (location_key id.now location) }
+    requires fits { spec.taken_with released entries.now.current (location_key id.now location) ≤ unlimited }
     ensures { IfOk result (λ most.
-        most ≡ pos (spec.taken_with released entries.now.current (place_key id.now place))) }
+        most ≡ pos (spec.taken_with released entries.now.current (location_key id.now location))) }
 {
-    match place {
-        Place::Account => account_takes(entries, id, released),
-        Place::Line(held) => line_takes(entries, id, &held, released),
-        Place::Nowhere => Ok(i64::MAX),
+    match location {
+        Location::Account => account_takes(entries, id, released),
+        Location::Line(held) => line_takes(entries, id, &held, released),
+        Location::Nowhere => Ok(i64::MAX),
     }
 }
 
@@ -177,7 +177,7 @@ fn line_takes<B: Base>(
     }
 }
 
-/// What can be taken in a line that stands.
+/// What can be taken in a line that exists.
 fn a_line_takes(line: &TrustLineEntry, released: i64) -> i64
     requires range { IsLineInRange line.now }
     requires fits { at_least_nothing (line_room line.now +ℤ released) ≤ unlimited }

@@ -9,7 +9,7 @@ ghost use Rattle.trade_cross.specs.Plans.{AreLeft, left_in};
 ghost use Rattle.trade_cross.specs.Steps as spec;
 
 use crate::carry::carry_out;
-use crate::place::place_of;
+use crate::location::location_of;
 use crate::plan::{Left, Plan, Sides, plan_of};
 use crate::side::{most_given_with, most_taken_with};
 use entry_map::{Base, Entries};
@@ -30,8 +30,8 @@ fn sides_of<B: Base>(
     requires ready { spec.AreSidesReady base_reserve entries.now.current offer.now }
     ensures { IfOk result (spec.AreSidesOf base_reserve entries.now.current offer.now) }
 {
-    let gives_at = place_of(&offer.seller_id, &offer.selling);
-    let takes_at = place_of(&offer.seller_id, &offer.buying);
+    let gives_at = location_of(&offer.seller_id, &offer.selling);
+    let takes_at = location_of(&offer.seller_id, &offer.buying);
     let gives = most_given_with(
         entries,
         base_reserve,
@@ -48,7 +48,7 @@ fn sides_of<B: Base>(
     })
 }
 
-/// Crosses an offer that stands: its owner's two holders are looked at and changed once each, and the offer shrinks or
+/// Crosses an offer that exists: its owner's two holders are looked at and changed once each, and the offer shrinks or
 /// goes.
 pub fn cross_offer<B: Base>(
     entries: &mut Entries<'_, B>,
@@ -58,7 +58,7 @@ pub fn cross_offer<B: Base>(
     offer: &OfferEntry,
 ) -> Result<Plan, AllocError>
     requires crossable { IsCrossable entries.old.current }
-    requires stands { offer_at entries.old.current offer.now.seller_id offer.now.offer_id ≡ Some offer.now }
+    requires exists { offer_at entries.old.current offer.now.seller_id offer.now.offer_id ≡ Some offer.now }
     requires left { AreLeft left }
     ensures moved { IfOk result (λ plan. spec.IsMoved plan (
         step ctx.now.base_reserve rounding (left_in left) offer.now entries.old.current)) }

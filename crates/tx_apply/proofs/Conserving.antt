@@ -1,63 +1,45 @@
--- Whole sets: what they leave is settled, by the moves that they list, and their operations are lawful.
-use Rattle.std.proofs.Common.{◌≡◌, ℕ, suc, ◌<◌, ℤ, pos, ◌+ℤ◌, ◌-ℤ◌, List, [], ◌∷◌, All}
-use Rattle.std.proofs.Common.{Option, Some, None, refl, ap, subst, ◌∙◌, arith, length}
-use Rattle.std.proofs.lemmas.Int.{ints}
-use Rattle.std.proofs.lemmas.List.Elements.{All-nil, All-cons, All-append}
-use Rattle.std.proofs.lemmas.Option.{slice_get_within, get_or_from_slice_get}
-use Rattle.std.specs.Prelude.{slice_get}
+-- Complete sets: what they leave is settled, by the moves that they list, and their operations are lawful.
+use Rattle.tx_apply.proofs.Prelude as prelude
+use prelude.{◌≡◌, ℕ, suc, ◌<◌, ℤ, pos, ◌+ℤ◌, ◌-ℤ◌, List, [], ◌∷◌, All, Option, Some, None, refl, ap, subst, ◌∙◌, arith}
+use prelude.{length, ints, All-nil, All-cons, All-append, slice_get_within, get_or_from_slice_get, slice_get}
+use prelude.{TransactionEnvelope, TransactionSet, EntryMap, set_base_fee, at_most_one, apply_order_of, IsLawful, issued}
+use prelude.{TransactionLaws, LegalSettles, IsSettled, LeavesSettled, AreDrawn, none_drawn, lumens_not_issued}
+use prelude.{operations_of, operation_total, AreFit, AreAllFit, AreLawful, CanClose, TransactionsConserve, Turn, turns}
+use prelude.{turns_of, IsTurnConserved, TurnsConserve, IsConserved, SetsConserve, OperationsAreLawful, envelopes_at}
+use prelude.{Step, Setting, envelope_applied, DoneSet, none_applied, all_applied, envelopes_in_order, fees_taken_of}
+use prelude.{set_done, fee_pool_after}
 use Rattle.ledger_types.specs.declared.asset.Asset.TheVariants as asset
-use Rattle.op_types.specs.declared.transaction.TransactionEnvelope.{TransactionEnvelope}
-use Rattle.op_types.specs.declared.transaction.TransactionSet.{TransactionSet}
-use Rattle.entry_map.specs.EntryMap.{EntryMap}
-use Rattle.fee_rules.specs.Fees.{set_base_fee}
-use Rattle.fee_rules.specs.Ranking.{at_most_one}
-use Rattle.fee_rules.specs.Turns.{apply_order_of}
 use Rattle.op_laws.proofs.legal_rules_proofs.Legality.{owing_nothing}
-use Rattle.op_laws.specs.Laws.{IsLawful}
-use Rattle.op_laws.specs.Moves.{issued}
-use Rattle.op_laws.specs.Steps.{TransactionLaws, LegalSettles}
-use Rattle.op_laws.specs.Underway.{IsSettled, LeavesSettled, AreDrawn}
-use Rattle.op_laws.proofs.Lawful.{none_drawn}
-use Rattle.op_laws.proofs.Issued.{lumens_not_issued}
-use Rattle.tx_apply.specs.Operations.{operations_of}
-use Rattle.tx_apply.specs.Laws.{operation_total, AreFit, AreAllFit, AreLawful, CanClose, TransactionsConserve}
-use Rattle.tx_apply.specs.Laws.{Turn, turns, turns_of, IsTurnConserved, TurnsConserve}
-use Rattle.tx_apply.specs.Laws.{IsConserved, SetsConserve}
-use Rattle.tx_apply.specs.Laws.{OperationsAreLawful}
-use Rattle.tx_apply.specs.Places.{envelopes_at}
-use Rattle.tx_apply.specs.Running.{Step}
-use Rattle.tx_apply.specs.Set.{Setting, envelope_applied, DoneSet, none_applied, all_applied, envelopes_in_order}
-use Rattle.tx_apply.specs.Set.{fees_taken_of, set_done, fee_pool_after}
-use Rattle.tx_apply.proofs.TakenFees.{AreTaken, all_taken, told_all, all_told_twice}
+use Rattle.tx_apply.proofs.TakenFees.{AreTaken, all_taken, described_all, all_described_twice}
 use Rattle.tx_apply.proofs.Settling.{leaves_itself, leaves_twice, no_steps, drawn_twice}
 use Rattle.tx_apply.proofs.Sound.{envelope_sound}
 
--- ---- what holds of all of a list holds of those at places
+-- ---- what holds of all of a list holds of those at indices
 
-one_at : {X : Type 0} (P : X → Type 0) (xs : List X) (place : ℕ) (found : Option X) → slice_get xs place ≡ found
+one_at : {X : Type 0} (P : X → Type 0) (xs : List X) (index : ℕ) (found : Option X) → slice_get xs index ≡ found
     → All P xs → All P (at_most_one found)
-one_at P xs place None e all = All-nil P
-one_at P xs place (Some x) e all =
-    All-cons P x [] (subst P (get_or_from_slice_get xs place x x e) (all place x (slice_get_within xs place x e)))
+one_at P xs index None e all = All-nil P
+one_at P xs index (Some x) e all =
+    All-cons P x [] (subst P (get_or_from_slice_get xs index x x e) (all index x (slice_get_within xs index x e)))
     (All-nil P)
 
-pub all_at : (P : TransactionEnvelope → Type 0) (envelopes : List TransactionEnvelope) (places : List ℕ)
-    → All P envelopes → All P (envelopes_at envelopes places)
+pub all_at : (P : TransactionEnvelope → Type 0) (envelopes : List TransactionEnvelope) (indices : List ℕ)
+    → All P envelopes → All P (envelopes_at envelopes indices)
 unfolding envelopes_at
 all_at P envelopes [] all = All-nil P
-all_at P envelopes (place ∷ places) all =
-    All-append P (at_most_one (slice_get envelopes place)) (envelopes_at envelopes places)
-    (one_at P envelopes place (slice_get envelopes place) refl all) (all_at P envelopes places all)
+all_at P envelopes (index ∷ indices) all =
+    All-append P (at_most_one (slice_get envelopes index)) (envelopes_at envelopes indices)
+    (one_at P envelopes index (slice_get envelopes index) refl all) (all_at P envelopes indices all)
 
 -- ---- the transactions
 
-first_of : (P : TransactionEnvelope → Type 0) (whole : TransactionEnvelope) (others : List TransactionEnvelope)
-    → All P (whole ∷ others) → P whole
-first_of P whole others all = all 0 whole (omega arith)
+first_of : (P : TransactionEnvelope → Type 0) (entire : TransactionEnvelope) (others : List TransactionEnvelope)
+    → All P (entire ∷ others) → P entire
+first_of P entire others all = all 0 entire (omega arith)
 
-rest_of : (P : TransactionEnvelope → Type 0) (whole : TransactionEnvelope) (others : List TransactionEnvelope)
-    → All P (whole ∷ others) → All P others
-rest_of P whole others all = λ k d within. all (suc k) d (let h = within in omega (arith, h))
+rest_of : (P : TransactionEnvelope → Type 0) (entire : TransactionEnvelope) (others : List TransactionEnvelope)
+    → All P (entire ∷ others) → All P others
+rest_of P entire others all = λ k d within. all (suc k) d (let h = within in omega (arith, h))
 
 pub record AreSound (count first : ℕ) (m : EntryMap) (done : DoneSet) : Type 0 where
   pub ids : AreDrawn count first done.id_pool
@@ -81,15 +63,15 @@ module _ (laws : TransactionLaws) (setting : Setting) (seq : setting.header.ledg
       → AreSound (operation_total envelopes) id_pool m (all_applied setting id_pool envelopes fees m)
   unfolding all_applied operation_total
   all_sound id_pool [] fees m settled fit = none_sound 0 id_pool m settled
-  all_sound id_pool (whole ∷ others) [] m settled fit = none_sound _ id_pool m settled
-  all_sound id_pool (whole ∷ others) (fee ∷ fees) m settled fit =
+  all_sound id_pool (entire ∷ others) [] m settled fit = none_sound _ id_pool m settled
+  all_sound id_pool (entire ∷ others) (fee ∷ fees) m settled fit =
       let P = λ (w : TransactionEnvelope). AreFit (operations_of w) in
-      let first = envelope_applied setting id_pool whole m in
-      let sound = envelope_sound laws setting id_pool whole m settled seq (first_of P whole others fit) in
-      let rest = all_sound first.id_pool others fees first.entries sound.left.settled (rest_of P whole others fit) in
+      let first = envelope_applied setting id_pool entire m in
+      let sound = envelope_sound laws setting id_pool entire m settled seq (first_of P entire others fit) in
+      let rest = all_sound first.id_pool others fees first.entries sound.left.settled (rest_of P entire others fit) in
       let after = all_applied setting first.id_pool others fees first.entries in
       record {
-        ids = drawn_twice (length (operations_of whole)) (operation_total others) id_pool first.id_pool after.id_pool
+        ids = drawn_twice (length (operations_of entire)) (operation_total others) id_pool first.id_pool after.id_pool
             sound.ids rest.ids;
         left = leaves_twice first.id_pool after.id_pool m first.entries after.entries first.moves after.moves sound.left
             rest.left;
@@ -103,21 +85,21 @@ module _ (laws : TransactionLaws) (setting : Setting) (seq : setting.header.ledg
       → AreAllFit envelopes → All (λ (turn : Turn). IsTurnConserved setting turn) (turns setting id_pool envelopes m)
   unfolding turns
   turns_conserved id_pool [] m settled fit = All-nil (λ (turn : Turn). IsTurnConserved setting turn)
-  turns_conserved id_pool (whole ∷ others) m settled fit =
+  turns_conserved id_pool (entire ∷ others) m settled fit =
       let P = λ (w : TransactionEnvelope). AreFit (operations_of w) in
-      let first = envelope_applied setting id_pool whole m in
-      let sound = envelope_sound laws setting id_pool whole m settled seq (first_of P whole others fit) in
+      let first = envelope_applied setting id_pool entire m in
+      let sound = envelope_sound laws setting id_pool entire m settled seq (first_of P entire others fit) in
       All-cons (λ (turn : Turn). IsTurnConserved setting turn)
-      (record { whole = whole; id_pool = id_pool; entries = m }) (turns setting first.id_pool others first.entries)
+      (record { entire = entire; id_pool = id_pool; entries = m }) (turns setting first.id_pool others first.entries)
       (record {
         lumens = none_added _ _ _ (sound.left.supply asset.Native) (lumens_not_issued first.moves);
         leaves = sound.left;
       })
-      (turns_conserved first.id_pool others first.entries sound.left.settled (rest_of P whole others fit))
+      (turns_conserved first.id_pool others first.entries sound.left.settled (rest_of P entire others fit))
 
 pub transactions_conserve : TransactionLaws → TransactionsConserve
-transactions_conserve laws setting id_pool whole m settled seq fit =
-    (envelope_sound laws setting id_pool whole m settled seq fit).left
+transactions_conserve laws setting id_pool entire m settled seq fit =
+    (envelope_sound laws setting id_pool entire m settled seq fit).left
 
 -- ---- the set
 
@@ -150,13 +132,13 @@ module _ (laws : TransactionLaws) (settles : LegalSettles) (setting : Setting) (
         (owing_nothing setting.header m can.legal).supply;
     supply = λ x apart. sound.left.supply x
         ∙ ap (λ (n : ℤ). n +ℤ issued x (set_done setting set m).moves) (fees_sound.others x apart);
-    told =
+    described =
         let fees = fees_taken_of setting set m in
         let applied = set_done setting set m in
         let pool = fee_pool_after setting set m in
-        all_told_twice setting.header.fee_pool m pool fees.entries pool applied.entries fees.moves applied.moves
-        (fees_sound.told setting.header.fee_pool)
-        (told_all pool fees.entries applied.entries applied.moves sound.left.told);
+        all_described_twice setting.header.fee_pool m pool fees.entries pool applied.entries fees.moves applied.moves
+        (fees_sound.described setting.header.fee_pool)
+        (described_all pool fees.entries applied.entries applied.moves sound.left.described);
   }
 
   pub turns_are_conserved : All (λ (turn : Turn). IsTurnConserved setting turn) (turns_of setting set m)

@@ -1,36 +1,30 @@
 -- That an id can be drawn, from a set down to each of its operations.
-use Rattle.std.proofs.Common.{◌≡◌, ℕ, zero, suc, ◌+◌, ◌-◌, ◌*◌, ◌^◌, ◌<◌, ◌≤◌, List, [], ◌∷◌, ◌++◌, length}
-use Rattle.std.proofs.Common.{Option, Some, None, refl, ap, arith, length-append}
-use Rattle.std.proofs.lemmas.List.{length-map}
-use Rattle.std.specs.declared.cmp.Ordering.{Ordering}
-use Rattle.ledger_types.specs.declared.header.LedgerHeader.{LedgerHeader}
-use Rattle.op_types.specs.declared.transaction.TransactionEnvelope.{TransactionEnvelope}
-use Rattle.op_types.specs.declared.transaction.TransactionSet.{TransactionSet}
-use Rattle.entry_map.specs.EntryMap.{EntryMap}
-use Rattle.fee_rules.specs.Queues.{all_queued_from, all_queued}
-use Rattle.fee_rules.specs.Ranking.{at_rank, at_most_one, first_ranked}
+use Rattle.tx_apply.proofs.Prelude.{◌≡◌, ℕ, zero, suc, ◌+◌, ◌-◌, ◌*◌, ◌^◌, ◌<◌, ◌≤◌, List, [], ◌∷◌, ◌++◌, length}
+use Rattle.tx_apply.proofs.Prelude.{Option, Some, None, arith, length-append, length-map, Ordering, LedgerHeader}
+use Rattle.tx_apply.proofs.Prelude.{TransactionSet, EntryMap, at_rank, at_most_one, first_ranked, turn_cmp}
+use Rattle.tx_apply.proofs.Prelude.{indices_in_order, apply_order_of, AreDrawn, CanDraw}
+use Rattle.fee_rules.specs.Queues.{all_queued}
 use Rattle.fee_rules.specs.SetHash.{hash_of_set}
-use Rattle.fee_rules.specs.Turns.{turn_cmp, turns_of, places_in_order, apply_order_of}
+use Rattle.fee_rules.specs.Turns.{turns_of}
 use Rattle.op_laws.specs.legal_rules.Legal.{IsLegal}
-use Rattle.op_laws.specs.Underway.{AreDrawn}
-use Rattle.tx_apply.specs.Laws.{CanDraw}
+use Rattle.fee_rules.proofs.Indices.{all_queued_length}
 
 -- ---- one after the other
 
--- behind one operation, one id is left for each of the others
-pub ids_behind : (n was now : ℕ) → 1 ≤ n → AreDrawn 1 was now → CanDraw n was → CanDraw (n - 1) now
-ids_behind n was now some drawn can = let high = drawn.high in omega (arith, high, can)
+-- after one operation, one id is left for each of the others
+pub ids_after : (n was now : ℕ) → 1 ≤ n → AreDrawn 1 was now → CanDraw n was → CanDraw (n - 1) now
+ids_after n was now some drawn can = let high = drawn.high in omega (arith, high, can)
 
 -- the next transaction of n
 pub ids_of_next : (n i id_pool : ℕ) → i < n → CanDraw (100 * (n - i)) id_pool → CanDraw 100 id_pool
 ids_of_next n i id_pool less can = omega arith
 
--- and those behind it
+-- and those after it
 pub ids_of_others : (n i count was now : ℕ) → i < n → count ≤ 100 → AreDrawn count was now
     → CanDraw (100 * (n - i)) was → CanDraw (100 * (n - (i + 1))) now
 ids_of_others n i count was now less few drawn can = let high = drawn.high in omega (arith, high, can)
 
--- ---- no more places than envelopes
+-- ---- no more indices than envelopes
 
 ranked_len : {X : Type 0} (cmp : X → X → Ordering) (xs : List X) (k : ℕ) → length (first_ranked cmp xs k) ≤ k
 unfolding first_ranked
@@ -38,26 +32,21 @@ ranked_len cmp xs zero = omega arith
 ranked_len {X} cmp xs (suc k) =
     at_most (first_ranked cmp xs k) (at_rank cmp xs k) (ranked_len cmp xs k)
   where
-    at_most : (front : List X) (found : Option X) → length front ≤ k → length (front ++ at_most_one found) ≤ suc k
-    at_most front None le = omega (arith, length-append {A = X} front [])
-    at_most front (Some x) le = omega (arith, length-append {A = X} front (x ∷ []))
-
-queued_len : (place : ℕ) (envelopes : List TransactionEnvelope)
-    → length (all_queued_from place envelopes) ≡ length envelopes
-queued_len place [] = refl
-queued_len place (whole ∷ others) = ap suc (queued_len (place + 1) others)
+    at_most : (prefix : List X) (found : Option X) → length prefix ≤ k → length (prefix ++ at_most_one found) ≤ suc k
+    at_most prefix None le = omega (arith, length-append {A = X} prefix [])
+    at_most prefix (Some x) le = omega (arith, length-append {A = X} prefix (x ∷ []))
 
 pub order_len : (set : TransactionSet) → length (apply_order_of set) ≤ length set.txs
-unfolding places_in_order
+unfolding indices_in_order
 order_len set =
     let txs = all_queued set.txs in
     let turns = turns_of (hash_of_set set) txs in
-    simp length-map (no_more (ranked_len turn_cmp turns (length txs)) (queued_len 0 set.txs))
+    simp length-map (no_more (ranked_len turn_cmp turns (length txs)) (all_queued_length 0 set.txs))
   where
     no_more : {b c d : ℕ} → b ≤ c → c ≡ d → b ≤ d
     no_more le h = omega arith
 
--- ---- a whole set
+-- ---- a complete set
 
 enough : (order txs id_pool seq : ℕ) → order ≤ txs → txs ≤ 16777216 → id_pool ≤ seq * 2 ^ 32 → seq < 2147483647
     → CanDraw (100 * order) id_pool

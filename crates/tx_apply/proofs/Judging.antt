@@ -1,28 +1,14 @@
 -- What the checks of transactions leave.
-use Rattle.std.proofs.Common.{◌≡◌, ◌≢◌, ℕ, ℤ, pos, ◌+ℤ◌, Bool, true, false, not, ◌||◌, List, [], ◌∷◌}
-use Rattle.std.proofs.Common.{Option, Some, None, if◌then◌else◌, refl, sym, ◌∙◌}
+use Rattle.tx_apply.proofs.Prelude.{◌≡◌, ◌≢◌, ℕ, ℤ, pos, ◌+ℤ◌, Bool, true, false, not, ◌||◌, List, [], ◌∷◌, Option}
+use Rattle.tx_apply.proofs.Prelude.{Some, None, refl, sym, ◌∙◌, int_eq, AccountId, Hash, AccountEntry, Operation}
+use Rattle.tx_apply.proofs.Prelude.{Transaction, TransactionOutcome, EntryMap, account_at, first_fault, greatest_i64}
+use Rattle.tx_apply.proofs.Prelude.{Ctx, map_after_removing_preauth, HeldSignature, with_seq_num, IsSettled}
+use Rattle.tx_apply.proofs.Prelude.{LeavesSettled, SeqNumsSettle, PreauthsSettle, source_of, map_without_preauths}
+use Rattle.tx_apply.proofs.Prelude.{map_without_used, int_eq_true}
 use Rattle.std.proofs.lemmas.Bool.Decides.{Decides-int_eq}
-use Rattle.std.specs.Ordering.{int_eq}
-use Rattle.ledger_types.specs.declared.ids.AccountId.{AccountId}
-use Rattle.ledger_types.specs.declared.ids.Hash.{Hash}
-use Rattle.ledger_types.specs.declared.account.AccountEntry.{AccountEntry}
-use Rattle.op_types.specs.declared.operation.Operation.{Operation}
-use Rattle.op_types.specs.declared.transaction.Transaction.{Transaction}
-use Rattle.op_types.specs.declared.transaction_result.TransactionOutcome.{TransactionOutcome}
-use Rattle.entry_map.specs.EntryMap.{EntryMap}
-use Rattle.entry_slots.specs.Accounts.{account_at}
-use Rattle.entry_slots.specs.Tests.{first_fault}
-use Rattle.reserve_rules.specs.Reserve.{greatest_i64}
-use Rattle.sponsor_rules.specs.declared.context.Ctx.{Ctx}
-use Rattle.sponsor_rules.specs.Signers.{map_after_removing_preauth}
-use Rattle.signer_check.specs.declared.held.HeldSignature.{HeldSignature}
-use Rattle.op_laws.specs.legal_rules.Payments.{with_seq_num}
-use Rattle.op_laws.specs.Underway.{IsSettled, LeavesSettled}
-use Rattle.op_laws.specs.Steps.{SeqNumsSettle, PreauthsSettle}
-use Rattle.tx_apply.specs.Signing.{source_of}
 use Rattle.tx_apply.specs.Checks as checks
-use Rattle.tx_apply.specs.Transaction.{map_without_preauths, map_without_used}
 use Rattle.tx_apply.proofs.Settling.{leaves_itself, leaves_twice}
+use Rattle.ledger_types.proofs.Booleans.{if_some_none}
 
 -- ---- signers that are used up
 
@@ -46,17 +32,8 @@ without_used keep id_pool hash source operations m settled =
 
 -- ---- the sequence number
 
-int_same : (a b : ℤ) → int_eq a b ≡ true → a ≡ b
-int_same a b h = (Decides-int_eq a b).0 h
-
 int_apart : (a b : ℤ) → int_eq a b ≡ false → a ≢ b
 int_apart a b h e = let bad : true ≡ false = sym ((Decides-int_eq a b).1 e) ∙ h in cc bad
-
--- a test that doesn't hold
-passed : {F : Type 0} (b : Bool) (fault : F) (rest : Option F) → (if b then Some fault else rest) ≡ None
-    → (b ≡ false) × (rest ≡ None)
-passed true fault rest e = absurd (cc)
-passed false fault rest e = (refl, e)
 
 -- the next sequence number
 next_number : (a b : Bool) → (a || not b) ≡ false → (a ≡ false) × (b ≡ true)
@@ -70,9 +47,9 @@ settled_by_source : SeqNumsSettle → (id_pool : ℕ) (id : AccountId) (n : ℤ)
 settled_by_source keep id_pool id n m None settled e fault = absurd (cc)
 settled_by_source keep id_pool id n m (Some a) settled e fault =
     let good = next_number (int_eq a.seq_num greatest_i64) (int_eq n (a.seq_num +ℤ pos 1))
-    (passed _ _ _ fault).0 in
+    (if_some_none _ _ _ fault).0 in
     keep id_pool m id a n settled e (int_apart a.seq_num greatest_i64 good.0)
-    (int_same n (a.seq_num +ℤ pos 1) good.1)
+    (int_eq_true n (a.seq_num +ℤ pos 1) good.1)
 
 -- no fault of either
 no_fault : (own source : Option TransactionOutcome) → checks.fault_or own source ≡ None → source ≡ None

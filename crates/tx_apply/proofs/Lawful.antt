@@ -1,27 +1,12 @@
--- Operations in their order: each is lawful, and a transaction that is under way before it is under way behind it.
-use Rattle.std.proofs.Common.{◌≡◌, ℕ, suc, ◌+◌, List, [], ◌∷◌, length, nat_eq}
-use Rattle.std.proofs.Common.{refl, ap, arith, Option, Some, None}
-use Rattle.std.proofs.lemmas.List.Elements.{All-cons}
-use Rattle.ledger_types.specs.declared.ids.AccountId.{AccountId}
-use Rattle.ledger_types.specs.declared.account.AccountEntry.{AccountEntry}
-use Rattle.op_types.specs.declared.operation.Operation.{Operation}
+-- Operations in their order: each is lawful, and a transaction that is under way before it is under way after it.
+use Rattle.tx_apply.proofs.Prelude.{◌≡◌, ℕ, suc, ◌+◌, List, [], ◌∷◌, length, nat_eq, refl, ap, arith, Option, Some}
+use Rattle.tx_apply.proofs.Prelude.{None, All-cons, AccountId, AccountEntry, Operation, Transaction, EntryMap}
+use Rattle.tx_apply.proofs.Prelude.{account_at, Ctx, AreSponsorshipsSound, Done, IsUnderway, LeavesSettled, AreDrawn}
+use Rattle.tx_apply.proofs.Prelude.{IsFit, IsLawful, AllLawful, none_drawn, AreFit, AreLawful, source_of}
+use Rattle.tx_apply.proofs.Prelude.{source_account, Step, inserted, done_by, done_at, Ran, run, operations_applied}
 use Rattle.op_types.specs.declared.operation_result.OperationResult.TheVariants.{NoAccount}
-use Rattle.op_types.specs.declared.transaction.Transaction.{Transaction}
 use Rattle.op_types.specs.declared.transaction_result.TransactionOutcome.TheVariants as outcome
-use Rattle.entry_map.specs.EntryMap.{EntryMap}
-use Rattle.entry_slots.specs.Accounts.{account_at}
-use Rattle.sponsor_rules.specs.declared.context.Ctx.{Ctx}
-use Rattle.op_laws.specs.legal_rules.Sponsorships.{AreSponsorshipsSound}
-use Rattle.op_form.specs.Done.{Done}
-use Rattle.op_laws.specs.Underway.{IsUnderway, LeavesSettled, AreDrawn}
-use Rattle.op_laws.specs.Laws.{IsFit, IsLawful, AllLawful}
 use Rattle.op_laws.proofs.AllOperations.{failed_is_lawful}
-use Rattle.op_laws.proofs.Lawful.{none_drawn}
-use Rattle.tx_apply.specs.Laws.{AreFit, AreLawful}
-use Rattle.tx_apply.specs.Signing.{source_of}
-use Rattle.tx_apply.specs.Checks.{source_account}
-use Rattle.tx_apply.specs.Running.{Step, placed, done_by, done_at, Ran, run}
-use Rattle.tx_apply.specs.Transaction.{operations_applied}
 use Rattle.tx_apply.proofs.Settling.{leaves_itself, leaves_twice, no_steps, IsSound}
 use Rattle.tx_apply.proofs.Settling.{drawn_next, undone_sound, either_sound}
 
@@ -33,26 +18,26 @@ lawful_by : AllLawful → (ctx : Ctx) (operation : Operation) (m : EntryMap) (ac
 lawful_by all ctx operation m None e fit underway = failed_is_lawful ctx m underway NoAccount
 lawful_by all ctx operation m (Some account) e fit underway = all ctx operation.body m fit underway (account, e)
 
--- the same context at another place
-pub underway_placed : (ctx : Ctx) (place : ℕ) (source : AccountId) (m : EntryMap) → IsUnderway ctx m
-    → IsUnderway (placed ctx place source) m
-underway_placed ctx place source m underway = record {
+-- the same context at another index
+pub underway_at_index : (ctx : Ctx) (index : ℕ) (source : AccountId) (m : EntryMap) → IsUnderway ctx m
+    → IsUnderway (inserted ctx index source) m
+underway_at_index ctx index source m underway = record {
   settled = underway.settled;
   sponsorships = record {
     once = underway.sponsorships.once;
     other = underway.sponsorships.other;
-    stand = underway.sponsorships.stand;
+    exist = underway.sponsorships.exist;
   };
   seq = underway.seq;
 }
 
-pub lawful_at : AllLawful → (ctx : Ctx) (source : AccountId) (place : ℕ) (operation : Operation) (m : EntryMap)
+pub lawful_at : AllLawful → (ctx : Ctx) (source : AccountId) (index : ℕ) (operation : Operation) (m : EntryMap)
     → IsFit operation.body → IsUnderway ctx m
-    → IsLawful (placed ctx place (source_of source operation)) m (done_at ctx source place operation m)
-lawful_at all ctx source place operation m fit underway =
-    lawful_by all (placed ctx place (source_of source operation)) operation m
+    → IsLawful (inserted ctx index (source_of source operation)) m (done_at ctx source index operation m)
+lawful_at all ctx source index operation m fit underway =
+    lawful_by all (inserted ctx index (source_of source operation)) operation m
     (account_at m (source_of source operation)) refl fit
-    (underway_placed ctx place (source_of source operation) m underway)
+    (underway_at_index ctx index (source_of source operation) m underway)
 
 -- ---- all of them
 
@@ -75,26 +60,26 @@ pub record GoesOn (count first : ℕ) (m : EntryMap) (ran : Ran) : Type 0 where
 -- what a lawful operation leaves
 left_by : (ctx : Ctx) (m : EntryMap) (done : Done) → IsLawful ctx m done
     → LeavesSettled done.ctx.id_pool m done.entries done.moves
-left_by ctx m done lawful = record { settled = lawful.legal.settled; supply = lawful.supply; told = lawful.told }
+left_by ctx m done lawful = record { settled = lawful.legal.settled; supply = lawful.supply; described = lawful.described }
 
-pub goes_on : AllLawful → (ctx : Ctx) (source : AccountId) (place : ℕ) (operations : List Operation) (m : EntryMap)
+pub goes_on : AllLawful → (ctx : Ctx) (source : AccountId) (index : ℕ) (operations : List Operation) (m : EntryMap)
     → AreFit operations → IsUnderway ctx m
-    → GoesOn (length operations) ctx.id_pool m (run ctx source place operations m)
+    → GoesOn (length operations) ctx.id_pool m (run ctx source index operations m)
 unfolding run
-goes_on all ctx source place [] m fit underway =
+goes_on all ctx source index [] m fit underway =
     record {
       ids = none_drawn 0 ctx.id_pool ctx.id_pool refl;
       underway = underway;
       left = leaves_itself ctx.id_pool m underway.settled;
       steps = no_steps;
     }
-goes_on all ctx source place (operation ∷ operations) m fit underway =
-    let own = placed ctx place (source_of source operation) in
-    let first = done_at ctx source place operation m in
-    let lawful = lawful_at all ctx source place operation m (first_fits operation operations fit) underway in
-    let rest = goes_on all first.ctx source (place + 1) operations first.entries (others_fit operation operations fit)
+goes_on all ctx source index (operation ∷ operations) m fit underway =
+    let own = inserted ctx index (source_of source operation) in
+    let first = done_at ctx source index operation m in
+    let lawful = lawful_at all ctx source index operation m (first_fits operation operations fit) underway in
+    let rest = goes_on all first.ctx source (index + 1) operations first.entries (others_fit operation operations fit)
     lawful.legal in
-    let after = run first.ctx source (place + 1) operations first.entries in
+    let after = run first.ctx source (index + 1) operations first.entries in
     record {
       ids = drawn_next (length operations) ctx.id_pool first.ctx.id_pool after.ctx.id_pool lawful.ids rest.ids;
       underway = rest.underway;
@@ -123,5 +108,5 @@ pub none_open : (ctx : Ctx) (m : EntryMap) → ctx.sponsorships ≡ [] → AreSp
 none_open ctx m closed = record {
   once = λ i j d h g. absurd (let none : length ctx.sponsorships ≡ 0 = ap length closed in omega (arith, none, h, g));
   other = λ i d h. absurd (let none : length ctx.sponsorships ≡ 0 = ap length closed in omega (arith, none, h));
-  stand = λ i d h. absurd (let none : length ctx.sponsorships ≡ 0 = ap length closed in omega (arith, none, h));
+  exist = λ i d h. absurd (let none : length ctx.sponsorships ≡ 0 = ap length closed in omega (arith, none, h));
 }

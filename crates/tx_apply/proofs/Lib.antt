@@ -3,7 +3,7 @@ pub mod Lawful
 pub mod Judging
 pub mod Sound
 pub mod Placed
-pub mod Spelled
+pub mod Encoded
 pub mod TakenFees
 pub mod Applying
 pub mod Conserving
@@ -23,3 +23,4 @@ pub use Rattle.op_laws.proofs.pool_shares_proofs
 pub use Rattle.op_laws.proofs.sponsor_laws_proofs
 pub use Rattle.sponsor_rules.proofs as sponsor_rules_proofs
 pub use Rattle.op_laws.proofs.trade_cross_proofs
+pub mod Prelude

@@ -1,37 +1,25 @@
--- Parts of a transaction that leave settled entries, one behind the other.
-use Rattle.std.proofs.Common.{ℕ, suc, ◌+◌, ◌≤◌, Bool, true, false, if◌then◌else◌, List, [], ◌++◌, refl, sym, ap, ◌∙◌}
-use Rattle.std.proofs.Common.{arith}
+-- Parts of a transaction that leave settled entries, one after the other.
+use Rattle.tx_apply.proofs.Prelude.{ℕ, suc, ◌+◌, ◌≤◌, Bool, true, false, if◌then◌else◌, List, [], ◌++◌, refl, sym, ap}
+use Rattle.tx_apply.proofs.Prelude.{◌∙◌, arith, All-nil, TransactionOutcome, EntryMap, total, Ctx, Move, IsLawful}
+use Rattle.tx_apply.proofs.Prelude.{issued, IsSettled, LeavesSettled, AreDrawn, none_drawn, none_moved, issued_after}
+use Rattle.tx_apply.proofs.Prelude.{described_itself, described_twice, AreLawful, Step, Applied, undone, ended}
+use Rattle.tx_apply.proofs.Prelude.{add_assoc}
 use Rattle.std.specs.Prelude.{◌+ℤ◌}
-use Rattle.std.proofs.lemmas.List.Elements.{All-nil}
-use Rattle.op_types.specs.declared.transaction_result.TransactionOutcome.{TransactionOutcome}
-use Rattle.entry_map.specs.EntryMap.{EntryMap}
-use Rattle.op_laws.specs.entry_sums.Sums.{total}
-use Rattle.sponsor_rules.specs.declared.context.Ctx.{Ctx}
 use Rattle.op_laws.specs.legal_rules.Supply.{held}
-use Rattle.op_form.specs.Done.{Move}
-use Rattle.op_laws.specs.Laws.{IsLawful}
-use Rattle.op_laws.specs.Moves.{issued}
-use Rattle.op_laws.specs.Underway.{IsSettled, LeavesSettled, AreDrawn}
-use Rattle.op_laws.proofs.Lawful.{none_drawn}
-use Rattle.op_laws.proofs.Issued.{none_moved, issued_behind, plus_assoc}
-use Rattle.op_laws.proofs.Told.{told_itself, told_twice}
-use Rattle.tx_apply.specs.Laws.{AreLawful}
-use Rattle.tx_apply.specs.Running.{Step}
-use Rattle.tx_apply.specs.Transaction.{Applied, undone, ended}
 
 pub leaves_itself : (id_pool : ℕ) (m : EntryMap) → IsSettled id_pool m → LeavesSettled id_pool m m []
 leaves_itself id_pool m settled =
-    record { settled = settled; supply = λ x. sym (none_moved x (total (held x) m)); told = told_itself m }
+    record { settled = settled; supply = λ x. sym (none_moved x (total (held x) m)); described = described_itself m }
 
--- one behind the other
+-- one after the other
 pub leaves_twice : (between id_pool : ℕ) (a b c : EntryMap) (moves more : List Move) → LeavesSettled between a b moves
     → LeavesSettled id_pool b c more → LeavesSettled id_pool a c (moves ++ more)
 leaves_twice between id_pool a b c moves more first next = record {
   settled = next.settled;
   supply = λ x. next.supply x ∙ ap (λ n. n +ℤ issued x more) (first.supply x)
-      ∙ plus_assoc (total (held x) a) (issued x moves) (issued x more)
-      ∙ ap (λ n. total (held x) a +ℤ n) (sym (issued_behind x moves more));
-  told = told_twice a b c moves more first.told next.told;
+      ∙ add_assoc (total (held x) a) (issued x moves) (issued x more)
+      ∙ ap (λ n. total (held x) a +ℤ n) (sym (issued_after x moves more));
+  described = described_twice a b c moves more first.described next.described;
 }
 
 -- what holds of a transaction, or of a part of it
@@ -75,10 +63,10 @@ pub either_sound : (count first : ℕ) (m : EntryMap) (b : Bool) (x y : Applied)
 either_sound count first m true x y sound other = sound
 either_sound count first m false x y sound other = other
 
--- behind a part that moves nothing and draws no ids
-pub sound_behind : (count id_pool : ℕ) (m between : EntryMap) (applied : Applied) → LeavesSettled id_pool m between []
+-- after a part that moves nothing and draws no ids
+pub sound_after : (count id_pool : ℕ) (m between : EntryMap) (applied : Applied) → LeavesSettled id_pool m between []
     → IsSound count id_pool between applied → IsSound count id_pool m applied
-sound_behind count id_pool m between applied first sound = record {
+sound_after count id_pool m between applied first sound = record {
   ids = sound.ids;
   left = leaves_twice id_pool applied.id_pool m between applied.entries [] applied.moves first sound.left;
   steps = sound.steps;

@@ -1,34 +1,19 @@
 -- Transactions are sound: what they leave is settled, by the moves that they list, and their operations are lawful.
-use Rattle.std.proofs.Common.{◌≡◌, ℕ, ◌<◌, Bool, false, true, not, List, [], Option, Some, None, refl, length}
-use Rattle.ledger_types.specs.declared.ids.AccountId.{AccountId}
-use Rattle.ledger_types.specs.declared.ids.Hash.{Hash}
-use Rattle.op_types.specs.declared.transaction.Transaction.{Transaction}
-use Rattle.op_types.specs.declared.transaction.TransactionV0.{TransactionV0}
+use Rattle.tx_apply.proofs.Prelude.{◌≡◌, ℕ, ◌<◌, Bool, false, true, not, List, [], Option, Some, None, refl, length}
+use Rattle.tx_apply.proofs.Prelude.{AccountId, Hash, Transaction, TransactionV0, TransactionEnvelope}
+use Rattle.tx_apply.proofs.Prelude.{TransactionOutcome, EntryMap, account_at, first_fault, Ctx}
+use Rattle.tx_apply.proofs.Prelude.{map_after_removing_preauth, HeldSignature, TransactionLaws, IsSettled, IsUnderway}
+use Rattle.tx_apply.proofs.Prelude.{signed_hash_of, transaction_hash_of, operations_of, source_account, judged, is_poor}
+use Rattle.tx_apply.proofs.Prelude.{AreFit, Setting, ctx_in, all_held, envelope_applied, Auth, auth_of, are_used}
 use Rattle.op_types.specs.declared.transaction.FeeBumpTransaction.{FeeBumpTransaction}
-use Rattle.op_types.specs.declared.transaction.TransactionEnvelope.{TransactionEnvelope}
 use Rattle.op_types.specs.declared.transaction.TransactionEnvelope.TheVariants as envelope
-use Rattle.op_types.specs.declared.transaction_result.TransactionOutcome.{TransactionOutcome}
 use Rattle.op_types.specs.declared.transaction_result.TransactionOutcome.TheVariants as outcome
-use Rattle.entry_map.specs.EntryMap.{EntryMap}
-use Rattle.entry_slots.specs.Accounts.{account_at}
-use Rattle.entry_slots.specs.Tests.{first_fault}
-use Rattle.sponsor_rules.specs.declared.context.Ctx.{Ctx}
-use Rattle.sponsor_rules.specs.Signers.{map_after_removing_preauth}
-use Rattle.signer_check.specs.declared.held.HeldSignature.{HeldSignature}
-use Rattle.op_laws.specs.Steps.{TransactionLaws}
-use Rattle.op_laws.specs.Underway.{IsSettled, IsUnderway}
 use Rattle.op_form.specs.declared.levels.ThresholdLevel.TheVariants.{Low}
-use Rattle.value_hashes.specs.Hashes.{signed_hash_of, transaction_hash_of}
-use Rattle.tx_apply.specs.Operations.{operations_of}
-use Rattle.tx_apply.specs.Checks.{source_account, judged, is_poor}
 use Rattle.tx_apply.specs.FeeBump as bump
-use Rattle.tx_apply.specs.Laws.{AreFit}
-use Rattle.tx_apply.specs.Set.{Setting, ctx_in, all_held, envelope_applied}
-use Rattle.tx_apply.specs.Signing.{Auth, auth_of, are_used}
 use Rattle.tx_apply.specs.Transaction as spec
 use Rattle.tx_apply.proofs.Judging.{without_used, settled_judged}
 use Rattle.tx_apply.proofs.Lawful.{operations_sound, none_open}
-use Rattle.tx_apply.proofs.Settling.{IsSound, ended_sound, either_sound, sound_behind}
+use Rattle.tx_apply.proofs.Settling.{IsSound, ended_sound, either_sound, sound_after}
 
 -- a transaction that is under way before its first operation
 underway_by : (ctx : Ctx) (m : EntryMap) → IsSettled ctx.id_pool m → ctx.sponsorships ≡ [] → ctx.seq < 2147483647
@@ -53,8 +38,8 @@ module _ (laws : TransactionLaws) where
       first.settled in
       let after = spec.map_without_used hash (source_account tx) tx.operations checked.entries in
       let applied = spec.applied_or_ended ctx tx after checked.outcome in
-      sound_behind (length tx.operations) ctx.id_pool m checked.entries applied first
-      (sound_behind (length tx.operations) ctx.id_pool checked.entries after applied used
+      sound_after (length tx.operations) ctx.id_pool m checked.entries applied first
+      (sound_after (length tx.operations) ctx.id_pool checked.entries after applied used
       (by_outcome ctx tx after checked.outcome (underway_by ctx after used.settled closed seq) fit))
 
   v0_sound : (ctx : Ctx) (hash : Hash) (tx : TransactionV0) (m : EntryMap) → IsSettled ctx.id_pool m
@@ -63,7 +48,7 @@ module _ (laws : TransactionLaws) where
       let source : AccountId = record { 0 = tx.source_account_ed25519 } in
       let used = without_used laws.preauths ctx.id_pool hash source tx.operations m settled in
       let after = spec.map_without_used hash source tx.operations m in
-      sound_behind (length tx.operations) ctx.id_pool m after (spec.ended outcome.NotSupported ctx after) used
+      sound_after (length tx.operations) ctx.id_pool m after (spec.ended outcome.NotSupported ctx after) used
       (ended_sound outcome.NotSupported (length tx.operations) ctx after used.settled)
 
   -- ---- fee bumps
@@ -80,10 +65,10 @@ module _ (laws : TransactionLaws) where
         settled closed seq fit in
         record { ids = sound.ids; left = sound.left; steps = sound.steps }
 
-    behind_auth_sound : (after : List HeldSignature) (m : EntryMap) → IsSettled ctx.id_pool m
+    after_auth_sound : (after : List HeldSignature) (m : EntryMap) → IsSettled ctx.id_pool m
         → IsSound (length tx.inner_tx.tx.operations) ctx.id_pool m
-        (bump.applied_behind_auth base_fee ctx signed tx after m)
-    behind_auth_sound after m settled =
+        (bump.applied_after_auth base_fee ctx signed tx after m)
+    after_auth_sound after m settled =
         either_sound count ctx.id_pool m (is_poor ctx (account_at m (bump.payer_of tx))) _ _
         (ended_sound outcome.InsufficientBalance count ctx m settled)
         (either_sound count ctx.id_pool m (are_used after) _ _ (inner_sound m settled)
@@ -95,9 +80,9 @@ module _ (laws : TransactionLaws) where
         let used = laws.preauths ctx.id_pool m (bump.payer_of tx) signed.hash settled in
         let after = map_after_removing_preauth (bump.payer_of tx) signed.hash m in
         either_sound count ctx.id_pool m (not auth.passes) _ _ (ended_sound outcome.BadAuth count ctx m settled)
-        (sound_behind count ctx.id_pool m after (bump.applied_behind_auth base_fee ctx signed tx auth.signatures after)
+        (sound_after count ctx.id_pool m after (bump.applied_after_auth base_fee ctx signed tx auth.signatures after)
         used
-        (behind_auth_sound auth.signatures after used.settled))
+        (after_auth_sound auth.signatures after used.settled))
 
     by_fault_sound : (m : EntryMap) (fault : Option TransactionOutcome) → IsSettled ctx.id_pool m
         → IsSound (length tx.inner_tx.tx.operations) ctx.id_pool m
@@ -113,9 +98,9 @@ module _ (laws : TransactionLaws) where
 
   -- ---- any envelope
 
-  pub envelope_sound : (setting : Setting) (id_pool : ℕ) (whole : TransactionEnvelope) (m : EntryMap)
-      → IsSettled id_pool m → setting.header.ledger_seq < 2147483647 → AreFit (operations_of whole)
-      → IsSound (length (operations_of whole)) id_pool m (envelope_applied setting id_pool whole m)
+  pub envelope_sound : (setting : Setting) (id_pool : ℕ) (entire : TransactionEnvelope) (m : EntryMap)
+      → IsSettled id_pool m → setting.header.ledger_seq < 2147483647 → AreFit (operations_of entire)
+      → IsSound (length (operations_of entire)) id_pool m (envelope_applied setting id_pool entire m)
   unfolding envelope_applied
   envelope_sound setting id_pool (envelope.V0 signed) m settled seq fit =
       v0_sound (ctx_in setting id_pool (envelope.V0 signed)) (signed_hash_of setting.network (envelope.V0 signed))

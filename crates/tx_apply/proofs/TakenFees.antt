@@ -1,67 +1,30 @@
 -- Fees that are taken: what they leave, and which are left.
-use Rattle.std.proofs.Common.{◌≡◌, ◌≢◌, ℕ, suc, ◌+◌, ◌<◌, ◌≤◌, ℤ, pos, negsuc, neg_ℤ, ◌+ℤ◌, ◌-ℤ◌, ◌≤ℤ◌, Bool, true}
-use Rattle.std.proofs.Common.{false, ◌&&◌, if◌then◌else◌, List, [], ◌∷◌, ◌++◌, length}
-use Rattle.std.proofs.Common.{get_or, drop, min, unsigned_abs, Option, Some, None, refl, sym, ap, subst, ◌∙◌}
-use Rattle.std.proofs.Common.{append_assoc, arith}
-use Rattle.std.proofs.lemmas.Int.{ints}
-use Rattle.std.proofs.lemmas.List.{append-nil, drop_all}
-use Rattle.std.specs.FinMap.{get}
-use Rattle.std.specs.Ordering.{is_eq}
-use Rattle.ledger_types.specs.declared.ids.AccountId.{AccountId}
+use Rattle.tx_apply.proofs.Prelude as prelude
+use prelude.{◌≡◌, ◌≢◌, ℕ, suc, ◌+◌, ◌<◌, ◌≤◌, ℤ, pos, negsuc, neg_ℤ, ◌+ℤ◌, ◌-ℤ◌, ◌≤ℤ◌, Bool, true, false, ◌&&◌}
+use prelude.{if◌then◌else◌, List, [], ◌∷◌, ◌++◌, length, get_or, drop, min, unsigned_abs, Option, Some, None, refl, sym}
+use prelude.{ap, subst, ◌∙◌, append_assoc, arith, ints, append-nil, drop_all, get, is_eq, AccountId, AccountEntry}
+use prelude.{LedgerHeader, asset_cmp, TransactionEnvelope, EntryMap, Undo, with_current, account_at, with_account}
+use prelude.{total, fee_source_of, not_below_0, fee_charged, greatest_i64, paid, with_paid, lumens_of, Holder}
+use prelude.{OfAccount, FeePool, Move, is_holder, gained, holding, is_issuer, location_of, AreDescribed, lumens_in}
+use prelude.{TransactionLaws, IsSettled, none_more, for_one, HoldsMore, holds_itself, holds_as, more_at, described_at}
+use prelude.{described_itself, gained_twice, account_location, end_describes, holding_with, AreAllDescribed}
+use prelude.{FeesConserve, envelopes_at, add_assoc, add_nonnegative, add_zero, natural_nonnegative}
 use Rattle.ledger_types.specs.declared.asset.Asset.{Asset}
 use Rattle.ledger_types.specs.declared.asset.Asset.TheVariants as asset
-use Rattle.ledger_types.specs.declared.account.AccountEntry.{AccountEntry}
-use Rattle.ledger_types.specs.declared.entry.LedgerEntry.{LedgerEntry}
-use Rattle.ledger_types.specs.declared.entry.LedgerEntryBody.{LedgerEntryBody}
 use Rattle.ledger_types.specs.declared.entry.LedgerEntryBody.TheVariants as body
-use Rattle.ledger_types.specs.declared.header.LedgerHeader.{LedgerHeader}
 use Rattle.ledger_types.specs.declared.key.LedgerKey.TheVariants as key
-use Rattle.ledger_types.specs.KeyOrder.{asset_cmp}
-use Rattle.op_types.specs.declared.transaction.TransactionEnvelope.{TransactionEnvelope}
-use Rattle.entry_map.specs.EntryMap.{EntryMap}
-use Rattle.entry_map.specs.Undo.{Undo, with_current}
-use Rattle.entry_slots.specs.Accounts.{account_at, account_of, account_in, with_account, with_account_of}
-use Rattle.entry_slots.specs.Accounts.{with_account_in}
-use Rattle.op_laws.specs.entry_sums.Sums.{total}
-use Rattle.fee_rules.specs.Envelopes.{fee_source_of, not_below_0}
-use Rattle.fee_rules.specs.Fees.{fee_charged}
-use Rattle.reserve_rules.specs.Reserve.{greatest_i64}
-use Rattle.op_laws.specs.legal_rules.Payments.{paid, with_paid}
-use Rattle.op_laws.specs.legal_rules.Supply.{held, lumens_of}
-use Rattle.op_form.specs.Done.{Holder, OfAccount, FeePool, Move}
-use Rattle.op_laws.specs.Moves.{is_holder, gained, holding, is_issuer, place_of, AreTold}
-use Rattle.op_laws.specs.legal_rules.Supply.{lumens_in}
-use Rattle.op_laws.specs.Steps.{TransactionLaws}
-use Rattle.op_laws.specs.Underway.{IsSettled}
-use Rattle.op_laws.specs.legal_rules.Holdings.{none_more, for_one, HoldsMore}
-use Rattle.op_laws.proofs.legal_rules_proofs.Holdings.{holds_itself, holds_as, no_lumens_more}
+use Rattle.op_laws.specs.legal_rules.Supply.{held}
+use Rattle.op_laws.proofs.legal_rules_proofs.Holdings.{no_lumens_more}
 use Rattle.op_laws.proofs.legal_rules_proofs.Holdings.{account_holds}
-use Rattle.op_laws.proofs.Issued.{plus_assoc}
-use Rattle.op_laws.proofs.Told.{more_at, told_at, told_itself, gained_twice, account_place, end_tells}
-use Rattle.tx_apply.specs.Fees.{fee_of, map_after_fee, fee_move, FeesTaken, behind_fee, fees_taken, sum_of}
-use Rattle.tx_apply.specs.Laws.{holding_with, AreAllTold, FeesConserve}
-use Rattle.tx_apply.specs.Places.{envelopes_at}
+use Rattle.tx_apply.specs.Fees.{fee_of, map_after_fee, fee_move, FeesTaken, after_fee, fees_taken, sum_of}
 use Rattle.tx_apply.proofs.Placed.{first_left}
+use Rattle.op_laws.proofs.legal_rules_proofs.Leaving.{no_account_of}
 
 -- ---- one fee
 
--- a change of an account that doesn't stand
-not_there : (m : EntryMap) (f : AccountEntry → AccountEntry) (found : Option LedgerEntry) → account_of found ≡ None
-    → with_account_of m f found ≡ m
-not_there m f None e = refl
-not_there m f (Some entry) e = by entry.body e
-  where
-    by : (of : LedgerEntryBody) → account_in of ≡ None → with_account_in m entry f of ≡ m
-    by (body.Account account) e = absurd (cc)
-    by (body.TrustLine line) e = refl
-    by (body.Offer offer) e = refl
-    by (body.Data data_entry) e = refl
-    by (body.ClaimableBalance balance) e = refl
-    by (body.LiquidityPool pool) e = refl
-
 nothing_paid : (m : EntryMap) (id : AccountId) (delta : ℤ) → account_at m id ≡ None → with_paid id delta m ≡ m
 unfolding account_at with_account
-nothing_paid m id delta e = not_there m (paid delta) (get m (key.Account id)) e
+nothing_paid m id delta e = no_account_of m (paid delta) (get m (key.Account id)) e
 
 -- the least of some numbers is at most the first
 min_low : (a b : ℕ) → min a b ≤ a
@@ -70,9 +33,6 @@ min_low a b = grind (arith)
 not_above : (balance : ℤ) → pos 0 ≤ℤ balance → pos (not_below_0 balance) ≡ balance
 not_above (pos n) h = refl
 not_above (negsuc n) h = absurd (grind (arith, ints))
-
-fee_low : (n : ℕ) → pos 0 ≤ℤ pos n
-fee_low n = grind (arith, ints)
 
 most : (balance : ℤ) (n : ℕ) → pos 0 ≤ℤ balance → n ≤ not_below_0 balance → pos n ≤ℤ balance
 most balance n low h =
@@ -88,9 +48,6 @@ pub record Keeps (id_pool : ℕ) (id : AccountId) (m after : EntryMap) (fee : �
 
 no_fee : (x : ℤ) → x ≡ x +ℤ neg_ℤ (pos 0)
 no_fee x = grind (arith, ints)
-
-nothing_more : (n : ℤ) → (n +ℤ pos 0) ≡ n
-nothing_more n = grind (arith, ints)
 
 no_lumens : (x : Asset) (n : ℤ) → x ≢ asset.Native → lumens_of x n ≡ pos 0
 no_lumens asset.Native n apart = absurd (apart refl)
@@ -126,14 +83,14 @@ keeps_by laws id_pool base envelope m (Some a) settled e =
     let fee = fee_charged base envelope a.balance in
     let range = (laws.accounts id_pool m (fee_source_of envelope) a settled e).range in
     let both =
-    laws.fees id_pool m (fee_source_of envelope) a (pos fee) settled e (fee_low fee)
+    laws.fees id_pool m (fee_source_of envelope) a (pos fee) settled e (natural_nonnegative fee)
     (most a.balance fee range.balance
     (min_low (not_below_0 a.balance) _)) in
     record {
       settled = both.0;
       lumens = both.1 asset.Native;
       others = λ x apart. both.1 x ∙ ap (λ (n : ℤ). total (held x) m +ℤ n) (no_lumens x (neg_ℤ (pos fee)) apart)
-          ∙ nothing_more (total (held x) m);
+          ∙ add_zero (total (held x) m);
       holds = account_holds m settled.legal.keyed (fee_source_of envelope) (paid (neg_ℤ (pos fee))) a e
           (neg_ℤ (pos fee)) refl refl;
     }
@@ -146,7 +103,7 @@ keeps laws id_pool base envelope m settled =
 given_back : (after m fee : ℤ) → after ≡ m +ℤ neg_ℤ fee → after +ℤ fee ≡ m
 given_back after m fee is = grind (arith, ints, is)
 
--- ---- what the move of a fee tells
+-- ---- what the move of a fee says
 
 taken_alone : (t f : Bool) (n : ℤ) → t ≡ false
     → (if f then neg_ℤ n else pos 0) ≡ (((if t then n else pos 0) -ℤ (if f then n else pos 0)) +ℤ pos 0)
@@ -155,32 +112,32 @@ taken_alone false true n not_here = omega (arith, ints)
 taken_alone false false n not_here = refl
 
 -- of all but the lumens of the fee pool
-fee_tells : (whole : TransactionEnvelope) (fee : ℤ) (x : Asset) (holder : Holder) → is_issuer x holder ≡ false
+fee_describes : (entire : TransactionEnvelope) (fee : ℤ) (x : Asset) (holder : Holder) → is_issuer x holder ≡ false
     → (is_eq (asset_cmp x asset.Native) && is_holder holder FeePool) ≡ false
-    → more_at (for_one (fee_source_of whole) (neg_ℤ fee)) x (place_of x holder)
-    ≡ gained x holder (fee_move whole fee ∷ [])
+    → more_at (for_one (fee_source_of entire) (neg_ℤ fee)) x (location_of x holder)
+    ≡ gained x holder (fee_move entire fee ∷ [])
 unfolding gained
-fee_tells whole fee x holder other not_pool =
-    let id = fee_source_of whole in
+fee_describes entire fee x holder other not_pool =
+    let id = fee_source_of entire in
     let same = is_eq (asset_cmp x asset.Native) in
-    end_tells x asset.Native holder (OfAccount id) (account_place asset.Native id) (neg_ℤ fee) other
+    end_describes x asset.Native holder (OfAccount id) (account_location asset.Native id) (neg_ℤ fee) other
     ∙ taken_alone (same && is_holder holder FeePool) (same && is_holder holder (OfAccount id)) fee not_pool
 
-pool_gains : (whole : TransactionEnvelope) (pool fee : ℤ)
-    → (pool +ℤ fee) ≡ (pool +ℤ gained asset.Native FeePool (fee_move whole fee ∷ []))
+pool_gains : (entire : TransactionEnvelope) (pool fee : ℤ)
+    → (pool +ℤ fee) ≡ (pool +ℤ gained asset.Native FeePool (fee_move entire fee ∷ []))
 unfolding gained
-pool_gains whole pool fee = ap (λ (n : ℤ). pool +ℤ n) (alone fee)
+pool_gains entire pool fee = ap (λ (n : ℤ). pool +ℤ n) (alone fee)
   where
     alone : (n : ℤ) → n ≡ ((n -ℤ pos 0) +ℤ pos 0)
     alone n = omega (arith, ints)
 
-fee_told : (whole : TransactionEnvelope) (m after : EntryMap) (fee : ℤ)
-    → HoldsMore (for_one (fee_source_of whole) (neg_ℤ fee)) m after → (pool : ℤ)
-    → AreAllTold pool m (pool +ℤ fee) after (fee_move whole fee ∷ [])
-fee_told whole m after fee holds pool asset.Native FeePool other = pool_gains whole pool fee
-fee_told whole m after fee holds pool x holder other =
-    told_at (for_one (fee_source_of whole) (neg_ℤ fee)) m after holds x (place_of x holder)
-    ∙ ap (λ (n : ℤ). holding x holder m +ℤ n) (fee_tells whole fee x holder other refl)
+fee_described : (entire : TransactionEnvelope) (m after : EntryMap) (fee : ℤ)
+    → HoldsMore (for_one (fee_source_of entire) (neg_ℤ fee)) m after → (pool : ℤ)
+    → AreAllDescribed pool m (pool +ℤ fee) after (fee_move entire fee ∷ [])
+fee_described entire m after fee holds pool asset.Native FeePool other = pool_gains entire pool fee
+fee_described entire m after fee holds pool x holder other =
+    described_at (for_one (fee_source_of entire) (neg_ℤ fee)) m after holds x (location_of x holder)
+    ∙ ap (λ (n : ℤ). holding x holder m +ℤ n) (fee_describes entire fee x holder other refl)
 
 pub fees_conserve : TransactionLaws → FeesConserve
 fees_conserve laws id_pool base envelope m settled =
@@ -189,7 +146,7 @@ fees_conserve laws id_pool base envelope m settled =
       settled = kept.settled;
       lumens = given_back _ _ _ kept.lumens;
       others = kept.others;
-      told = fee_told envelope m (map_after_fee base envelope m) (fee_of base envelope m) kept.holds;
+      described = fee_described envelope m (map_after_fee base envelope m) (fee_of base envelope m) kept.holds;
     }
 
 -- ---- all fees
@@ -197,17 +154,17 @@ fees_conserve laws id_pool base envelope m settled =
 pool_still : (n : ℤ) (pool : ℤ) → pos 0 ≡ (pos 0 +ℤ n) → pool ≡ (pool +ℤ n)
 pool_still n pool none = omega (arith, ints)
 
--- moves that tell nothing of the fee pool leave that
-pub told_all : (pool : ℤ) (old new : EntryMap) (moves : List Move) → AreTold old new moves
-    → AreAllTold pool old pool new moves
-told_all pool old new moves told asset.Native FeePool other =
-    pool_still (gained asset.Native FeePool moves) pool (told asset.Native FeePool other)
-told_all pool old new moves told x holder other = told x holder other
+-- moves that say nothing of the fee pool leave it
+pub described_all : (pool : ℤ) (old new : EntryMap) (moves : List Move) → AreDescribed old new moves
+    → AreAllDescribed pool old pool new moves
+described_all pool old new moves described asset.Native FeePool other =
+    pool_still (gained asset.Native FeePool moves) pool (described asset.Native FeePool other)
+described_all pool old new moves described x holder other = described x holder other
 
--- one behind the other
-pub all_told_twice : (p : ℤ) (a : EntryMap) (q : ℤ) (b : EntryMap) (r : ℤ) (c : EntryMap) (moves more : List Move)
-    → AreAllTold p a q b moves → AreAllTold q b r c more → AreAllTold p a r c (moves ++ more)
-all_told_twice p a q b r c moves more first next x holder other =
+-- one after the other
+pub all_described_twice : (p : ℤ) (a : EntryMap) (q : ℤ) (b : EntryMap) (r : ℤ) (c : EntryMap) (moves more : List Move)
+    → AreAllDescribed p a q b moves → AreAllDescribed q b r c more → AreAllDescribed p a r c (moves ++ more)
+all_described_twice p a q b r c moves more first next x holder other =
     gained_twice x holder moves more (holding_with p x holder a) (holding_with q x holder b) (holding_with r x holder c)
     (first x holder other) (next x holder other)
 
@@ -215,7 +172,7 @@ pub record AreTaken (id_pool : ℕ) (m : EntryMap) (done : FeesTaken) : Type 0 w
   pub settled : IsSettled id_pool done.entries
   pub lumens : (total (held asset.Native) done.entries +ℤ sum_of done.fees) ≡ total (held asset.Native) m
   pub others : (x : Asset) → x ≢ asset.Native → total (held x) done.entries ≡ total (held x) m
-  pub told : (pool : ℤ) → AreAllTold pool m (pool +ℤ sum_of done.fees) done.entries done.moves
+  pub described : (pool : ℤ) → AreAllDescribed pool m (pool +ℤ sum_of done.fees) done.entries done.moves
 
 sum_up : (last sum fee between first : ℤ) → last +ℤ sum ≡ between → between ≡ first +ℤ neg_ℤ fee
     → last +ℤ (fee +ℤ sum) ≡ first
@@ -226,10 +183,10 @@ pub all_taken : TransactionLaws → (id_pool base : ℕ) (envelopes : List Trans
 unfolding fees_taken sum_of
 all_taken laws id_pool base [] m settled = record {
   settled = settled;
-  lumens = nothing_more (total (held asset.Native) m);
+  lumens = add_zero (total (held asset.Native) m);
   others = λ x apart. refl;
-  told = λ pool. subst (λ (n : ℤ). AreAllTold pool m n m []) (sym (nothing_more pool))
-      (told_all pool m m [] (told_itself m));
+  described = λ pool. subst (λ (n : ℤ). AreAllDescribed pool m n m []) (sym (add_zero pool))
+      (described_all pool m m [] (described_itself m));
 }
 all_taken laws id_pool base (envelope ∷ envelopes) m settled =
     let kept = keeps laws id_pool base envelope m settled in
@@ -238,15 +195,15 @@ all_taken laws id_pool base (envelope ∷ envelopes) m settled =
       settled = rest.settled;
       lumens = sum_up _ _ (fee_of base envelope m) _ _ rest.lumens kept.lumens;
       others = λ x apart. rest.others x apart ∙ kept.others x apart;
-      told = λ pool.
+      described = λ pool.
           let fee = fee_of base envelope m in
           let between = map_after_fee base envelope m in
           let after = fees_taken base envelopes between in
           let last = fee_move envelope fee ∷ after.moves in
-          subst (λ (n : ℤ). AreAllTold pool m n after.entries last) (plus_assoc pool fee (sum_of after.fees))
-          (all_told_twice pool m (pool +ℤ fee) between ((pool +ℤ fee) +ℤ sum_of after.fees) after.entries
-          (fee_move envelope fee ∷ []) after.moves (fee_told envelope m between fee kept.holds pool)
-          (rest.told (pool +ℤ fee)));
+          subst (λ (n : ℤ). AreAllDescribed pool m n after.entries last) (add_assoc pool fee (sum_of after.fees))
+          (all_described_twice pool m (pool +ℤ fee) between ((pool +ℤ fee) +ℤ sum_of after.fees) after.entries
+          (fee_move envelope fee ∷ []) after.moves (fee_described envelope m between fee kept.holds pool)
+          (rest.described (pool +ℤ fee)));
     }
 
 -- as many as there are envelopes
@@ -259,7 +216,7 @@ as_many_fees base (envelope ∷ envelopes) m = ap suc
 
 -- ---- the fees that are left
 
--- so far: the fees that were taken and those that are left make the whole, and so do the entries and the fee pool
+-- so far: the fees that were taken and those that are left make up all of them, and so do the entries and the fee pool
 pub record SoFar (base : ℕ) (header : LedgerHeader) (envelopes : List TransactionEnvelope) (order : List ℕ)
     (first taken : List ℤ) (old now : Undo) (pool : ℤ) (i : ℕ) : Type 0 where
   pub fees : taken ++ (fees_taken base (envelopes_at envelopes (drop i order)) now.current).fees
@@ -274,24 +231,24 @@ pub record SoFar (base : ℕ) (header : LedgerHeader) (envelopes : List Transact
   pub lumens : (total (held asset.Native) now.current +ℤ pool) ≡ header.total_coins
   pub low : pos 0 ≤ℤ pool
 
-behind : (base : ℕ) (envelope : TransactionEnvelope) (left : List TransactionEnvelope) (m : EntryMap)
+later : (base : ℕ) (envelope : TransactionEnvelope) (left : List TransactionEnvelope) (m : EntryMap)
     → fees_taken base (envelope ∷ left) m
-    ≡ behind_fee envelope (fee_of base envelope m) (fees_taken base left (map_after_fee base envelope m))
+    ≡ after_fee envelope (fee_of base envelope m) (fees_taken base left (map_after_fee base envelope m))
 unfolding fees_taken
-behind base envelope left m = refl
+later base envelope left m = refl
 
 -- what is left begins with one fee
 one_left : (base : ℕ) (envelopes : List TransactionEnvelope) (order : List ℕ) (i : ℕ) (envelope : TransactionEnvelope)
     (m : EntryMap) → i < length order → get_or order i 0 < length envelopes
     → envelope ≡ get_or envelopes (get_or order i 0) envelope
     → fees_taken base (envelopes_at envelopes (drop i order)) m
-    ≡ behind_fee envelope (fee_of base envelope m)
+    ≡ after_fee envelope (fee_of base envelope m)
     (fees_taken base (envelopes_at envelopes (drop (i + 1) order)) (map_after_fee base envelope m))
 one_left base envelopes order i envelope m within there e =
     ap (λ (left : List TransactionEnvelope). fees_taken base left m)
     (first_left envelopes order i envelope within there
     ∙ ap (λ (x : TransactionEnvelope). x ∷ envelopes_at envelopes (drop (i + 1) order)) (sym e))
-    ∙ behind base envelope (envelopes_at envelopes (drop (i + 1) order)) m
+    ∙ later base envelope (envelopes_at envelopes (drop (i + 1) order)) m
 
 sum_more : (fee : ℤ) (fees : List ℤ) → sum_of (fee ∷ fees) ≡ fee +ℤ sum_of fees
 unfolding sum_of
@@ -300,9 +257,6 @@ sum_more fee fees = refl
 balanced : (before pool fee coins after : ℤ) → (before +ℤ pool) ≡ coins → after ≡ (before +ℤ neg_ℤ fee)
     → (after +ℤ (pool +ℤ fee)) ≡ coins
 balanced before pool fee coins after e h = omega (arith, ints)
-
-sum_low : (a b : ℤ) → pos 0 ≤ℤ a → pos 0 ≤ℤ b → pos 0 ≤ℤ (a +ℤ b)
-sum_low a b h g = omega (arith, ints)
 
 -- one fee more
 pub step : TransactionLaws → (base : ℕ) (header : LedgerHeader) (envelopes : List TransactionEnvelope) (order : List ℕ)
@@ -325,7 +279,7 @@ step laws base header envelopes order first fees old now fee_pool i envelope aft
     left : FeesTaken
     left = fees_taken base (envelopes_at envelopes (drop (i + 1) order)) m
 
-    one : fees_taken base (envelopes_at envelopes (drop i order)) now.current ≡ behind_fee envelope fee left
+    one : fees_taken base (envelopes_at envelopes (drop i order)) now.current ≡ after_fee envelope fee left
     one = one_left base envelopes order i envelope now.current within there e
 
     kept : Keeps header.id_pool (fee_source_of envelope) now.current m fee
@@ -338,13 +292,13 @@ step laws base header envelopes order first fees old now fee_pool i envelope aft
           ∙ ap (λ (c : FeesTaken). fees ++ c.fees) (sym one) ∙ so_far.fees;
       entries = ap (λ (c : FeesTaken). c.entries) (sym one) ∙ so_far.entries;
       undo = ap (λ (u : Undo). with_current u m) so_far.undo;
-      fee_pool = plus_assoc fee_pool fee (sum_of left.fees)
+      fee_pool = add_assoc fee_pool fee (sum_of left.fees)
           ∙ ap (λ (x : ℤ). fee_pool +ℤ x) (sym (sum_more fee left.fees))
           ∙ ap (λ (c : FeesTaken). fee_pool +ℤ sum_of c.fees) (sym one) ∙ so_far.fee_pool;
       settled = kept.settled;
       lumens = balanced (total (held asset.Native) now.current) fee_pool fee header.total_coins
           (total (held asset.Native) m) so_far.lumens kept.lumens;
-      low = sum_low fee_pool fee so_far.low (fee_low _);
+      low = add_nonnegative fee_pool fee so_far.low (natural_nonnegative _);
     }
 
 -- the fee pool stays within the header's total of lumens
@@ -391,24 +345,24 @@ fits_pool laws base header envelopes order first taken old now pool i envelope f
     below : (a b c : ℤ) → a ≤ℤ b → b ≤ℤ c → a ≤ℤ c
     below a b c h g = omega (arith, ints)
 
--- as many fees as places
+-- as many fees as indices
 pub counted : (new first : List ℤ) (base : ℕ) (envelopes : List TransactionEnvelope) (m : EntryMap) (n : ℕ)
     → new ≡ first ++ (fees_taken base envelopes m).fees → first ≡ [] → length envelopes ≡ n → length new ≡ n
 counted new first base envelopes m n is none many =
     ap length is ∙ ap (λ (cs : List ℤ). length (cs ++ (fees_taken base envelopes m).fees)) none
     ∙ as_many_fees base envelopes m ∙ many
 
--- nothing is left behind the last place
+-- nothing is left after the last index
 nothing_left : (base : ℕ) (envelopes : List TransactionEnvelope) (order : List ℕ) (i : ℕ) (m : EntryMap)
     → length order ≤ i
     → fees_taken base (envelopes_at envelopes (drop i order)) m ≡ record { fees = []; moves = []; entries = m }
 unfolding fees_taken envelopes_at
 nothing_left base envelopes order i m past =
-    ap (λ (places : List ℕ). fees_taken base (envelopes_at envelopes places) m) (drop_all i order past)
+    ap (λ (indices : List ℕ). fees_taken base (envelopes_at envelopes indices) m) (drop_all i order past)
 
 no_sum : (n : ℤ) → n ≡ n +ℤ sum_of []
 unfolding sum_of
-no_sum n = sym (nothing_more n)
+no_sum n = sym (add_zero n)
 
 -- all fees are taken
 pub record IsFinished (base : ℕ) (header : LedgerHeader) (envelopes : List TransactionEnvelope) (order : List ℕ)
@@ -430,16 +384,16 @@ finished base header envelopes order first taken old now pool i so_far past =
       fee_pool = no_sum pool ∙ ap (λ (c : FeesTaken). pool +ℤ sum_of c.fees) (sym none) ∙ so_far.fee_pool;
     }
 
--- the same, by a fee that is told twice
-pub finished_by : (base told : ℤ) (header : LedgerHeader) (envelopes : List TransactionEnvelope) (order : List ℕ)
-    (first taken : List ℤ) (old now : Undo) (pool : ℤ) (i : ℕ) → told ≡ base
-    → SoFar (unsigned_abs told) header envelopes order first taken old now pool i → length order ≤ i
+-- the same, by a fee that is stated twice
+pub finished_by : (base described : ℤ) (header : LedgerHeader) (envelopes : List TransactionEnvelope) (order : List ℕ)
+    (first taken : List ℤ) (old now : Undo) (pool : ℤ) (i : ℕ) → described ≡ base
+    → SoFar (unsigned_abs described) header envelopes order first taken old now pool i → length order ≤ i
     → IsFinished (unsigned_abs base) header envelopes order first taken old now pool
-finished_by base told header envelopes order first taken old now pool i same so_far past =
+finished_by base described header envelopes order first taken old now pool i same so_far past =
     subst (λ (b : ℤ). IsFinished (unsigned_abs b) header envelopes order first taken old now pool) same
-    (finished (unsigned_abs told) header envelopes order first taken old now pool i so_far past)
+    (finished (unsigned_abs described) header envelopes order first taken old now pool i so_far past)
 
--- a sum, by what it is told as
-pub summed : (total result pool told fee fees_taken : ℤ) → total ≡ result → result ≡ pool +ℤ told → told ≡ fee
+-- a sum, by what its parts are equal to
+pub summed : (total result pool described fee fees_taken : ℤ) → total ≡ result → result ≡ pool +ℤ described → described ≡ fee
     → fee ≡ fees_taken → total ≡ pool +ℤ fees_taken
-summed total result pool told fee fees_taken e h g k = e ∙ h ∙ ap (λ (n : ℤ). pool +ℤ n) (g ∙ k)
+summed total result pool described fee fees_taken e h g k = e ∙ h ∙ ap (λ (n : ℤ). pool +ℤ n) (g ∙ k)

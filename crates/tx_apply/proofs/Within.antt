@@ -1,21 +1,13 @@
--- What operations in envelopes that have a spelling say of their lists.
-use Rattle.std.proofs.Common.{◌≤◌, length, All}
-use Rattle.std.proofs.lemmas.List.Elements.{All-from_recursion}
-use Rattle.value_hashes.specs.xdr_core.Combinators.{list}
+-- What operations in envelopes that have an encoding say of their lists.
+use Rattle.tx_apply.proofs.Prelude.{◌≤◌, length, All, All-from_recursion, list, Operation, Transaction, TransactionV0}
+use Rattle.tx_apply.proofs.Prelude.{TransactionV0Envelope, TransactionV1Envelope, TransactionEnvelope}
+use Rattle.tx_apply.proofs.Prelude.{create_claimable_balance_op, operation, operation_body, after_source, transaction}
+use Rattle.tx_apply.proofs.Prelude.{transaction_v0, transaction_v0_envelope, transaction_v1_envelope}
+use Rattle.tx_apply.proofs.Prelude.{transaction_envelope, operations_of}
 use Rattle.op_types.specs.declared.balance_ops.CreateClaimableBalanceOp.{CreateClaimableBalanceOp}
-use Rattle.op_types.specs.declared.operation.Operation.{Operation}
 use Rattle.op_types.specs.declared.operation.OperationBody.TheVariants as body
-use Rattle.op_types.specs.declared.transaction.Transaction.{Transaction}
-use Rattle.op_types.specs.declared.transaction.TransactionV0.{TransactionV0}
-use Rattle.op_types.specs.declared.transaction.TransactionV0Envelope.{TransactionV0Envelope}
-use Rattle.op_types.specs.declared.transaction.TransactionV1Envelope.{TransactionV1Envelope}
-use Rattle.op_types.specs.declared.transaction.TransactionEnvelope.{TransactionEnvelope}
 use Rattle.op_types.specs.declared.transaction.TransactionEnvelope.TheVariants as envelope
-use Rattle.xdr_tx.specs.Operations.{create_claimable_balance_op, operation, operation_body}
-use Rattle.xdr_tx.specs.Transactions.{behind_source, transaction, transaction_v0, transaction_v0_envelope}
-use Rattle.xdr_tx.specs.Transactions.{transaction_v1_envelope, transaction_envelope}
-use Rattle.tx_apply.specs.Operations.{operations_of}
-use Rattle.tx_apply.proofs.Spelled.{inner_within}
+use Rattle.tx_apply.proofs.Encoded.{inner_within}
 
 claimants_few : (op : CreateClaimableBalanceOp) → create_claimable_balance_op.within op → length op.claimants ≤ 10
 unfolding create_claimable_balance_op list
@@ -31,11 +23,11 @@ unfolding operation
 body_within one within = within.1
 
 of_transaction : (tx : Transaction) → transaction.within tx → All operation.within tx.operations
-unfolding transaction behind_source list
+unfolding transaction after_source list
 of_transaction tx within = All-from_recursion operation.within tx.operations within.1.1.1.1.1.0.1
 
 of_v0 : (tx : TransactionV0) → transaction_v0.within tx → All operation.within tx.operations
-unfolding transaction_v0 behind_source list
+unfolding transaction_v0 after_source list
 of_v0 tx within = All-from_recursion operation.within tx.operations within.1.1.1.1.1.0.1
 
 of_v1_envelope : (signed : TransactionV1Envelope) → transaction_v1_envelope.within signed
@@ -48,8 +40,8 @@ of_v0_envelope : (signed : TransactionV0Envelope) → transaction_v0_envelope.wi
 unfolding transaction_v0_envelope
 of_v0_envelope signed within = of_v0 signed.tx within.0
 
-pub operations_within : (whole : TransactionEnvelope) → transaction_envelope.within whole
-    → All operation.within (operations_of whole)
+pub operations_within : (entire : TransactionEnvelope) → transaction_envelope.within entire
+    → All operation.within (operations_of entire)
 unfolding transaction_envelope
 operations_within (envelope.V0 signed) within = of_v0_envelope signed within
 operations_within (envelope.V1 signed) within = of_v1_envelope signed within

@@ -37,7 +37,7 @@ abbrev pub is_late : ℕ → Option TimeBounds → Bool
 is_late close_time None = false
 is_late close_time (Some bounds) = not (nat_eq bounds.max_time 0) && nat_lt bounds.max_time close_time
 
--- a sequence number isn't the next one behind the last, or there is no next one
+-- a sequence number isn't the next one after the last, or there is no next one
 abbrev pub is_not_next : (seq_num last : ℤ) → Bool
 is_not_next seq_num last = int_eq last greatest_i64 || not (int_eq seq_num (last +ℤ pos 1))
 
@@ -72,7 +72,7 @@ early_fault pays base_fee ctx tx m =
     fault_or (first_fault (own_tests pays base_fee ctx tx))
     (first_fault (source_tests tx.seq_num (account_at m (source_account tx))))
 
--- ---- behind it
+-- ---- after it
 
 -- an account that can spend less than nothing
 abbrev pub is_poor : Ctx → Option AccountEntry → Bool
@@ -87,15 +87,15 @@ outcome_of_auths operations auths =
     else Some (outcome.Failed (auth_results auths.passes operations))
 
 -- what follows the check of the transaction's own signatures
-abbrev pub outcome_behind_auth : Bool → Ctx → Hash → Transaction → EntryMap → Auth → Option TransactionOutcome
-outcome_behind_auth pays ctx hash tx m auth =
+abbrev pub outcome_after_auth : Bool → Ctx → Hash → Transaction → EntryMap → Auth → Option TransactionOutcome
+outcome_after_auth pays ctx hash tx m auth =
     if not auth.passes then Some outcome.BadAuth
     else (if pays && is_poor ctx (account_at m (source_account tx)) then Some outcome.InsufficientBalance
     else outcome_of_auths tx.operations (auths_of hash (source_account tx) m auth.signatures tx.operations))
 
 abbrev pub late_outcome : Bool → Ctx → Hash → List HeldSignature → Transaction → EntryMap → Option TransactionOutcome
 late_outcome pays ctx hash signatures tx m =
-    outcome_behind_auth pays ctx hash tx m (auth_of hash Low signatures m (source_account tx))
+    outcome_after_auth pays ctx hash tx m (auth_of hash Low signatures m (source_account tx))
 
 -- ---- the checks
 

@@ -75,10 +75,10 @@ inner_applied base_fee ctx signed bump m =
     as_bump signed.inner_hash
     (transaction_applied false base_fee ctx signed.inner_hash signed.inner_signatures bump.inner_tx.tx m)
 
--- what comes behind the check of the payer's signatures, over the map without the signer of the fee bump's hash
-abbrev pub applied_behind_auth : (base_fee : ℕ) → Ctx → BumpSigned → FeeBumpTransaction → List HeldSignature → EntryMap
+-- what comes after the check of the payer's signatures, over the map without the signer of the fee bump's hash
+abbrev pub applied_after_auth : (base_fee : ℕ) → Ctx → BumpSigned → FeeBumpTransaction → List HeldSignature → EntryMap
     → Applied
-applied_behind_auth base_fee ctx signed bump after m =
+applied_after_auth base_fee ctx signed bump after m =
     if is_poor ctx (account_at m (payer_of bump)) then ended outcome.InsufficientBalance ctx m
     else (if are_used after then inner_applied base_fee ctx signed bump m else ended outcome.BadAuthExtra ctx m)
 
@@ -86,7 +86,7 @@ applied_behind_auth base_fee ctx signed bump after m =
 abbrev pub applied_by_auth : (base_fee : ℕ) → Ctx → BumpSigned → FeeBumpTransaction → EntryMap → Auth → Applied
 applied_by_auth base_fee ctx signed bump m auth =
     if not auth.passes then ended outcome.BadAuth ctx m
-    else applied_behind_auth base_fee ctx signed bump auth.signatures
+    else applied_after_auth base_fee ctx signed bump auth.signatures
     (map_after_removing_preauth (payer_of bump) signed.hash m)
 
 abbrev pub applied_by_fault : (base_fee : ℕ) → Ctx → BumpSigned → FeeBumpTransaction → EntryMap

@@ -22,24 +22,24 @@ abbrev pub fee_move : TransactionEnvelope → ℤ → Move
 fee_move envelope fee =
     record { from = OfAccount (fee_source_of envelope); to = FeePool; asset = Native; amount = fee }
 
--- the fees of transactions, what they move, and the entries behind them
+-- the fees of transactions, what they move, and the entries after them
 pub record FeesTaken : Type 0 where
   pub fees : List ℤ
   pub moves : List Move
   pub entries : EntryMap
 
-abbrev pub behind_fee : TransactionEnvelope → ℤ → FeesTaken → FeesTaken
-behind_fee envelope fee rest =
+abbrev pub after_fee : TransactionEnvelope → ℤ → FeesTaken → FeesTaken
+after_fee envelope fee rest =
     record { fees = fee ∷ rest.fees; moves = fee_move envelope fee ∷ rest.moves; entries = rest.entries }
 
 -- each in turn
 unfoldable pub fees_taken : (base_fee : ℕ) → List TransactionEnvelope → EntryMap → FeesTaken
 fees_taken base_fee [] m = record { fees = []; moves = []; entries = m }
 fees_taken base_fee (envelope ∷ envelopes) m =
-    behind_fee envelope (fee_of base_fee envelope m)
+    after_fee envelope (fee_of base_fee envelope m)
     (fees_taken base_fee envelopes (map_after_fee base_fee envelope m))
 
--- what fees come to
+-- what fees add up to
 unfoldable pub sum_of : List ℤ → ℤ
 sum_of [] = pos 0
 sum_of (fee ∷ fees) = fee +ℤ sum_of fees

@@ -8,7 +8,7 @@ pub mod FeeBump
 pub mod Fees
 pub mod Contexts
 pub mod Operations
-pub mod Places
+pub mod Indices
 pub mod Set
 pub mod Laws
 pub use Rattle.entry_slots.specs as entry_slots

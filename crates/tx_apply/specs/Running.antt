@@ -15,19 +15,19 @@ use Rattle.tx_apply.specs.Signing.{source_of}
 
 -- ---- one operation
 
--- the context of an operation: its place and its source
-abbrev pub placed : Ctx → (place : ℕ) → (source : AccountId) → Ctx
-placed ctx place source = record ctx { op_index = place; op_source = source }
+-- the context of an operation: its index and its source
+abbrev pub inserted : Ctx → (index : ℕ) → (source : AccountId) → Ctx
+inserted ctx index source = record ctx { op_index = index; op_source = source }
 
 -- an operation whose source has no account is not run
 abbrev pub done_by : Ctx → Operation → EntryMap → Option AccountEntry → Done
 done_by ctx operation m None = done_of ctx m (Err NoAccount)
 done_by ctx operation m (Some account) = any_operation ctx operation.body m
 
--- one operation, at its place
-abbrev pub done_at : Ctx → (source : AccountId) → (place : ℕ) → Operation → EntryMap → Done
-done_at ctx source place operation m =
-    done_by (placed ctx place (source_of source operation)) operation m (account_at m (source_of source operation))
+-- one operation, at its index
+abbrev pub done_at : Ctx → (source : AccountId) → (index : ℕ) → Operation → EntryMap → Done
+done_at ctx source index operation m =
+    done_by (inserted ctx index (source_of source operation)) operation m (account_at m (source_of source operation))
 
 -- ---- all of them
 
@@ -56,10 +56,10 @@ followed_by ctx m first rest = record {
 }
 
 -- each in turn; one that fails leaves the entries, and the rest still run
-unfoldable pub run : Ctx → (source : AccountId) → (place : ℕ) → List Operation → EntryMap → Ran
-run ctx source place [] m =
+unfoldable pub run : Ctx → (source : AccountId) → (index : ℕ) → List Operation → EntryMap → Ran
+run ctx source index [] m =
     record { results = []; succeeds = true; entries = m; ctx = ctx; moves = []; steps = [] }
-run ctx source place (operation ∷ operations) m =
-    let first = done_at ctx source place operation m in
-    followed_by (placed ctx place (source_of source operation)) m first
-    (run first.ctx source (place + 1) operations first.entries)
+run ctx source index (operation ∷ operations) m =
+    let first = done_at ctx source index operation m in
+    followed_by (inserted ctx index (source_of source operation)) m first
+    (run first.ctx source (index + 1) operations first.entries)

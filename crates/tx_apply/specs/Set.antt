@@ -1,4 +1,4 @@
--- A whole set: all fees first, and then the transactions, both in the order in which they are applied
+-- A complete set: all fees first, and then the transactions, both in the order in which they are applied
 -- (LedgerManagerImpl::processFeesSeqNums and applyTransactions in stellar-core).
 use Rattle.std.specs.Prelude.{◌≡◌, ℕ, ℤ, ◌+ℤ◌, Bool, true, false, not, List, [], ◌∷◌, ◌++◌, map, slice_get}
 use Rattle.std.specs.Prelude.{Option, Some, None, is_some, Result, Ok, Err}
@@ -30,7 +30,7 @@ use Rattle.tx_apply.specs.Running.{Step}
 use Rattle.tx_apply.specs.Transaction.{Applied, transaction_applied, v0_applied}
 use Rattle.tx_apply.specs.FeeBump.{signed_by, bump_applied}
 use Rattle.sponsor_rules.specs.declared.context.Ctx.{Ctx}
-use Rattle.tx_apply.specs.Places.{envelopes_at}
+use Rattle.tx_apply.specs.Indices.{envelopes_at}
 use Rattle.tx_apply.specs.Contexts.{ctx_of}
 use Rattle.tx_apply.specs.Fees.{FeesTaken, fees_taken, sum_of}
 
@@ -47,7 +47,7 @@ setting_of network header close_time = record { network = network; header = head
 
 -- the context of a transaction before its operations
 abbrev pub ctx_in : Setting → (id_pool : ℕ) → TransactionEnvelope → Ctx
-ctx_in setting id_pool whole = ctx_of setting.header setting.close_time id_pool (source_of whole) (seq_num_of whole)
+ctx_in setting id_pool entire = ctx_of setting.header setting.close_time id_pool (source_of entire) (seq_num_of entire)
 
 -- ---- one envelope
 
@@ -74,9 +74,9 @@ envelope_by network base_fee ctx hash (envelope.FeeBump signed) m = fee_bump_app
 
 -- one transaction, over the entries and ids that those before it left
 unfoldable pub envelope_applied : Setting → (id_pool : ℕ) → TransactionEnvelope → EntryMap → Applied
-envelope_applied setting id_pool whole m =
-    envelope_by setting.network setting.header.base_fee (ctx_in setting id_pool whole)
-    (signed_hash_of setting.network whole) whole m
+envelope_applied setting id_pool entire m =
+    envelope_by setting.network setting.header.base_fee (ctx_in setting id_pool entire)
+    (signed_hash_of setting.network entire) entire m
 
 -- ---- all of them
 
@@ -85,7 +85,7 @@ pair_of hash fee end =
     record { transaction_hash = hash; result = record { fee_charged = fee; outcome = end } }
 
 abbrev pub result_pair : Setting → TransactionEnvelope → (fee : ℤ) → TransactionOutcome → TransactionResultPair
-result_pair setting whole fee end = pair_of (signed_hash_of setting.network whole) fee end
+result_pair setting entire fee end = pair_of (signed_hash_of setting.network entire) fee end
 
 -- what a set does: the results, the entries and the ids that it leaves, what it moves, and the operations that were run
 pub record DoneSet : Type 0 where
@@ -98,8 +98,8 @@ pub record DoneSet : Type 0 where
 abbrev pub none_applied : (id_pool : ℕ) → EntryMap → DoneSet
 none_applied id_pool m = record { results = []; entries = m; id_pool = id_pool; moves = []; steps = [] }
 
-abbrev pub behind_transaction : TransactionResultPair → Applied → DoneSet → DoneSet
-behind_transaction pair first rest =
+abbrev pub after_transaction : TransactionResultPair → Applied → DoneSet → DoneSet
+after_transaction pair first rest =
     record {
       results = pair ∷ rest.results;
       entries = rest.entries;
@@ -112,10 +112,10 @@ behind_transaction pair first rest =
 unfoldable pub all_applied : Setting → (id_pool : ℕ) → List TransactionEnvelope → (fees : List ℤ) → EntryMap
     → DoneSet
 all_applied setting id_pool [] fees m = none_applied id_pool m
-all_applied setting id_pool (whole ∷ others) [] m = none_applied id_pool m
-all_applied setting id_pool (whole ∷ others) (fee ∷ fees) m =
-    let first = envelope_applied setting id_pool whole m in
-    behind_transaction (result_pair setting whole fee first.outcome) first
+all_applied setting id_pool (entire ∷ others) [] m = none_applied id_pool m
+all_applied setting id_pool (entire ∷ others) (fee ∷ fees) m =
+    let first = envelope_applied setting id_pool entire m in
+    after_transaction (result_pair setting entire fee first.outcome) first
     (all_applied setting first.id_pool others fees first.entries)
 
 -- ---- the set
@@ -132,7 +132,7 @@ set_done setting set m =
     all_applied setting setting.header.id_pool (envelopes_in_order set) (fees_taken_of setting set m).fees
     (fees_taken_of setting set m).entries
 
--- the fee pool behind the set, in stroops
+-- the fee pool after the set, in stroops
 abbrev pub fee_pool_after : Setting → TransactionSet → EntryMap → ℤ
 fee_pool_after setting set m = setting.header.fee_pool +ℤ sum_of (fees_taken_of setting set m).fees
 
@@ -140,14 +140,14 @@ fee_pool_after setting set m = setting.header.fee_pool +ℤ sum_of (fees_taken_o
 
 abbrev pub lacks_fee_source : EntryMap → Option TransactionEnvelope → Bool
 lacks_fee_source m None = false
-lacks_fee_source m (Some whole) = not (is_some (account_at m (fee_source_of whole)))
+lacks_fee_source m (Some entire) = not (is_some (account_at m (fee_source_of entire)))
 
--- the first of these places at which a transaction stands whose fee source has no account
+-- the first of these indices at which there is a transaction whose fee source has no account
 unfoldable pub missing_among : EntryMap → List TransactionEnvelope → List ℕ → Option ℕ
-missing_among m envelopes places = find (λ place. lacks_fee_source m (slice_get envelopes place)) places
+missing_among m envelopes indices = find (λ index. lacks_fee_source m (slice_get envelopes index)) indices
 
-abbrev pub missing_place : EntryMap → TransactionSet → Option ℕ
-missing_place m set = missing_among m set.txs (apply_order_of set)
+abbrev pub missing_index : EntryMap → TransactionSet → Option ℕ
+missing_index m set = missing_among m set.txs (apply_order_of set)
 
 -- ---- what a call answers
 
@@ -158,10 +158,10 @@ pub record IsApplied (setting : Setting) (set : TransactionSet) (old new : Undo)
   pub fee_pool : done.fee_pool ≡ fee_pool_after setting set old.current
   pub id_pool : done.id_pool ≡ (set_done setting set old.current).id_pool
 
--- Want of memory is the one free answer. A set that is refused leaves the entries.
+-- Allocation failure is the one free answer. A set that is refused leaves the entries.
 abbrev pub IsAnswer : Setting → TransactionSet → (old new : Undo) → Result SetDone SetFault → Type 0
 IsAnswer setting set old new (Ok done) =
-    (missing_place old.current set ≡ None) × IsApplied setting set old new done
+    (missing_index old.current set ≡ None) × IsApplied setting set old new done
 IsAnswer setting set old new (Err (fault.FeeSourceMissing index)) =
-    (missing_place old.current set ≡ Some index) × (new ≡ old)
+    (missing_index old.current set ≡ Some index) × (new ≡ old)
 IsAnswer setting set old new (Err fault.NoMemory) = Unit {0}

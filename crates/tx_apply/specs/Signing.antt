@@ -25,7 +25,7 @@ pub record Auth : Type 0 where
   pub passes : Bool
   pub signatures : List HeldSignature
 
--- An account that doesn't stand is checked as one Ed25519 signer of weight 1, which no signature matches.
+-- An account that doesn't exist is checked as one Ed25519 signer of weight 1, which no signature matches.
 abbrev pub auth_by : Hash → ThresholdLevel → List HeldSignature → Option AccountEntry → Auth
 auth_by hash level signatures None = record { passes = false; signatures = signatures }
 auth_by hash level signatures (Some account) = record {

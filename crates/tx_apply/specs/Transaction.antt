@@ -49,7 +49,7 @@ map_without_used hash source operations m =
 
 -- ---- the operations
 
--- a sponsorship that is still open behind the last operation undoes all
+-- a sponsorship that is still open after the last operation undoes all
 abbrev pub succeeded : Ctx → EntryMap → Ran → Applied
 succeeded ctx m ran =
     if nat_eq (length ran.ctx.sponsorships) 0

@@ -1,4 +1,4 @@
-//! Each operation with the code of its kind.
+//! Applying one operation, by its kind.
 
 ghost use Rattle.std.specs.Prelude.{◌<◌, IfOk};
 ghost use Rattle.entry_slots.specs.Accounts.{HasAccount};
@@ -15,7 +15,7 @@ use op_types::{Operation, OperationBody, OperationResult};
 use sponsor_rules::Ctx;
 use std::alloc::AllocError;
 
-/// Applies an operation of `ctx.op_source`, which is an account that stands. Where the operation fails, nothing has
+/// Applies an operation of `ctx.op_source`, which is an existing account. Where the operation fails, nothing has
 /// changed.
 #[tactic(auto, unfolding(op_laws::specs::AnyOperation::any_operation))]
 pub(crate) fn apply_operation<B: Base>(

@@ -33,7 +33,7 @@ fn is_early(close_time: u64, bounds: &Option<TimeBounds>) -> bool
     }
 }
 
-/// Whether the ledger closes behind the time bounds.
+/// Whether the ledger closes after the time bounds.
 fn is_late(close_time: u64, bounds: &Option<TimeBounds>) -> bool
     ensures { result ≡ spec.is_late close_time bounds.now }
 {
@@ -43,7 +43,7 @@ fn is_late(close_time: u64, bounds: &Option<TimeBounds>) -> bool
     }
 }
 
-/// Whether a sequence number isn't the next one behind the last.
+/// Whether a sequence number isn't the next one after the last.
 fn is_not_next(seq_num: i64, last: i64) -> bool
     ensures { result ≡ spec.is_not_next seq_num last }
 {
@@ -117,9 +117,9 @@ fn use_up_seq_num<B: Base>(tx: &Transaction, entries: &mut Entries<'_, B>) -> Re
     set_seq_num(entries, &tx.source_account.account_id(), tx.seq_num)
 }
 
-// ---- behind it
+// ---- after it
 
-/// Whether an account stands that can spend less than nothing.
+/// Whether an account exists that can spend less than nothing.
 pub(crate) fn is_poor<B: Base>(
     ctx: &Ctx,
     entries: &Entries<'_, B>,
@@ -201,7 +201,7 @@ fn late_fault<B: Base>(
 }
 
 /// Uses up the sequence number of a transaction that may, and answers why its operations are not run, if they are not.
-fn judge_behind_seq_num<B: Base>(
+fn judge_after_seq_num<B: Base>(
     pays: bool,
     base_fee: u32,
     ctx: &Ctx,
@@ -240,6 +240,6 @@ pub(crate) fn judge<B: Base>(
 {
     match early_fault(pays, base_fee, ctx, tx, entries)? {
         Some(fault) => Ok(Some(fault)),
-        None => judge_behind_seq_num(pays, base_fee, ctx, checker, tx, entries),
+        None => judge_after_seq_num(pays, base_fee, ctx, checker, tx, entries),
     }
 }

@@ -10,7 +10,7 @@ use thiserror::Error;
 /// be dropped.
 #[derive(Clone, Copy, PartialEq, Eq, Debug, Error)]
 pub enum SetFault {
-    /// The transaction at this place of the set's list is the first in the order of application whose fee source has no
+    /// The transaction at this index of the set's list is the first in the order of application whose fee source has no
     /// account.
     #[error("no fee source for transaction {index}")]
     FeeSourceMissing { index: u32 },

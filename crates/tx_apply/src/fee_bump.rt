@@ -17,7 +17,7 @@ use crate::transaction::apply_transaction;
 use entry_map::{Base, Entries};
 use fee_rules::not_below_0;
 use ledger_types::Hash;
-use op_form::{ThresholdLevel, stands};
+use op_form::{ThresholdLevel, exists};
 use op_types::{FeeBumpTransaction, TransactionOutcome};
 use signer_check::Checker;
 use sponsor_rules::{Ctx, remove_preauth};
@@ -69,7 +69,7 @@ fn payer_fault<B: Base>(
     if is_low_bump(base_fee, bump) {
         return Ok(Some(TransactionOutcome::InsufficientFee));
     }
-    if !stands(entries, &bump.fee_source.account_id())? {
+    if !exists(entries, &bump.fee_source.account_id())? {
         return Ok(Some(TransactionOutcome::NoAccount));
     }
     Ok(None)
@@ -78,7 +78,7 @@ fn payer_fault<B: Base>(
 // ---- the checks, and the inner transaction
 
 /// The last checks of a fee bump, and its inner transaction.
-fn apply_behind_auth<B: Base>(
+fn apply_after_auth<B: Base>(
     base_fee: u32,
     ctx: &mut Ctx,
     hash: &Hash,
@@ -96,13 +96,13 @@ fn apply_behind_auth<B: Base>(
     requires fit { AreFit bump.now.inner_tx.tx.operations }
     requires ids { CanDraw 100 ctx.old.id_pool }
     requires inner { inner.old.hash ≡ inner_hash.now }
-    ensures outcome { IfOk result (λ outcome. outcome ≡ (spec.applied_behind_auth base_fee ctx.old
+    ensures outcome { IfOk result (λ outcome. outcome ≡ (spec.applied_after_auth base_fee ctx.old
         (spec.signed_by hash.now outer.now.signatures inner_hash.now inner.old.signatures) bump.now
         outer.now.signatures entries.old.current).outcome) }
-    ensures entries { OnOk result (entries.new ≡ with_current entries.old (spec.applied_behind_auth base_fee ctx.old
+    ensures entries { OnOk result (entries.new ≡ with_current entries.old (spec.applied_after_auth base_fee ctx.old
         (spec.signed_by hash.now outer.now.signatures inner_hash.now inner.old.signatures) bump.now
         outer.now.signatures entries.old.current).entries) }
-    ensures id_pool { OnOk result (ctx.new.id_pool ≡ (spec.applied_behind_auth base_fee ctx.old
+    ensures id_pool { OnOk result (ctx.new.id_pool ≡ (spec.applied_after_auth base_fee ctx.old
         (spec.signed_by hash.now outer.now.signatures inner_hash.now inner.old.signatures) bump.now
         outer.now.signatures entries.old.current).id_pool) }
 {
@@ -162,5 +162,5 @@ pub(crate) fn apply_fee_bump<B: Base>(
         return Ok(TransactionOutcome::BadAuth);
     }
     remove_preauth(entries, ctx, &payer, hash)?;
-    apply_behind_auth(base_fee, ctx, hash, outer, inner_hash, inner, bump, entries)
+    apply_after_auth(base_fee, ctx, hash, outer, inner_hash, inner, bump, entries)
 }

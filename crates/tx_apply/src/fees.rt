@@ -9,12 +9,12 @@ ghost use Rattle.reserve_rules.specs.Reserve.{greatest_i64};
 ghost use Rattle.op_laws.specs.legal_rules.Supply.{held};
 ghost use Rattle.op_laws.specs.Underway.{IsSettled};
 ghost use Rattle.op_laws.specs.Steps.{TransactionLaws};
-ghost use Rattle.tx_apply.specs.Places.{envelopes_at};
+ghost use Rattle.tx_apply.specs.Indices.{envelopes_at};
 ghost use Rattle.tx_apply.specs.Fees as spec;
 
 use entry_map::{Base, Entries};
 use entry_slots::{load_account, store_account};
-use fee_rules::{behind_fee, fee_charged, fee_source};
+use fee_rules::{after_fee, fee_charged, fee_source};
 use item_list::ItemList;
 use ledger_types::LedgerHeader;
 use op_types::TransactionEnvelope;
@@ -37,7 +37,7 @@ fn take_fee<B: Base>(
         return Ok(0);
     };
     let fee = fee_charged(base_fee, envelope, slot.account.balance);
-    slot.account.balance = behind_fee(slot.account.balance, fee);
+    slot.account.balance = after_fee(slot.account.balance, fee);
     store_account(entries, slot)?;
     Ok(fee)
 }
@@ -72,8 +72,8 @@ fn more(fee_pool: i64, fee: i64) -> i64
     fee_pool + fee
 }
 
-/// Takes the fees of the transactions at places of a list, each in turn. It puts them at the end of a list, and answers
-/// the fee pool behind them, in stroops. The header's total of lumens is that of all accounts and the fee pool.
+/// Takes the fees of the transactions at indices of a list, each in turn. It puts them at the end of a list, and
+/// answers the fee pool after them, in stroops. The header's total of lumens is that of all accounts and the fee pool.
 pub(crate) fn take_fees<B: Base>(
     entries: &mut Entries<'_, B>,
     header: &LedgerHeader,
@@ -82,7 +82,7 @@ pub(crate) fn take_fees<B: Base>(
     order: &[u32],
     fees: &mut ItemList<i64>,
 ) -> Result<i64, AllocError>
-    requires places { All (λ place. place < length envelopes.now) order.now }
+    requires indices { All (λ index. index < length envelopes.now) order.now }
     requires base_fee { pos 0 ≤ℤ base_fee }
     requires settled { IsSettled header.now.id_pool entries.old.current }
     requires lumens { (total (held asset.Native) entries.old.current +ℤ header.now.fee_pool) ≡ header.now.total_coins }

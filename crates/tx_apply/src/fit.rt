@@ -9,7 +9,7 @@ ghost use Rattle.tx_apply.specs.Laws.{AreFit, AreAllFit};
 use crate::operations::operations_of;
 use op_types::{CreateClaimableBalanceOp, Operation, OperationBody, TransactionEnvelope};
 
-/// There are at most 10 claimants in an operation that has a spelling. It does nothing.
+/// There are at most 10 claimants in an operation that has an encoding. It does nothing.
 fn claimants_fit(_op: &CreateClaimableBalanceOp)
     requires { length _op.now.claimants ≤ 10 }
     ensures { AreClaimantsFew _op.now }

@@ -1,4 +1,4 @@
-//! What holds of whole sets, over their definition.
+//! What holds of complete sets, over their definition.
 
 ghost use Rattle.tx_apply.specs.Laws as spec;
 
@@ -11,7 +11,7 @@ pub fn fees_conserve()
     transaction_laws();
 }
 
-/// Behind its fee a transaction makes and loses no lumens, the supply of each asset changes by what is issued and
+/// After its fee a transaction makes and loses no lumens, the supply of each asset changes by what is issued and
 /// redeemed, and each holder has what it had and what the moves give it.
 pub fn transactions_conserve()
     ensures { spec.TransactionsConserve }
@@ -19,7 +19,7 @@ pub fn transactions_conserve()
     transaction_laws();
 }
 
-/// Each transaction of a set that closes over a legal state conserves lumens behind its fee, and moves what its moves
+/// Each transaction of a set that closes over a legal state conserves lumens after its fee, and moves what its moves
 /// say.
 pub fn turns_conserve()
     ensures { spec.TurnsConserve }

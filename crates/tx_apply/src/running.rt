@@ -14,35 +14,35 @@ use crate::success::is_success;
 use entry_map::{Base, Entries};
 use item_list::ItemList;
 use ledger_types::AccountId;
-use op_form::stands;
+use op_form::exists;
 use op_types::{Operation, OperationResult};
 use sponsor_rules::Ctx;
 use std::alloc::AllocError;
 
-/// Applies one operation at its place. Where its source has no account, it isn't run.
+/// Applies one operation at its index. Where its source has no account, it isn't run.
 fn apply_at<B: Base>(
     operation: &Operation,
     ctx: &mut Ctx,
     entries: &mut Entries<'_, B>,
     source: &AccountId,
-    place: u32,
+    index: u32,
 ) -> Result<OperationResult, AllocError>
     requires underway { IsUnderway ctx.old entries.old.current }
     requires laws { TransactionLaws }
     requires ids { CanDraw 1 ctx.old.id_pool }
     ensures { IfOk result (λ answer. Does answer ctx.new entries.old entries.new
-        (spec.done_at ctx.old source.now place operation.now entries.old.current)) }
+        (spec.done_at ctx.old source.now index operation.now entries.old.current)) }
 {
     let own = source_of(source, operation);
-    ctx.op_index = place;
+    ctx.op_index = index;
     ctx.op_source = own;
-    if !stands(entries, &own)? {
+    if !exists(entries, &own)? {
         return Ok(OperationResult::NoAccount);
     }
     apply_operation(operation, ctx, entries)
 }
 
-/// Applies operations in their order, from a place on. It puts their results at the end of a list, and answers whether
+/// Applies operations in their order, from an index on. It puts their results at the end of a list, and answers whether
 /// each succeeded.
 #[tactic(auto, unfolding(crate::specs::Running::run))]
 pub(crate) fn run<B: Base>(
@@ -50,30 +50,30 @@ pub(crate) fn run<B: Base>(
     ctx: &mut Ctx,
     entries: &mut Entries<'_, B>,
     source: &AccountId,
-    place: u32,
+    index: u32,
     results: &mut ItemList<OperationResult>,
 ) -> Result<bool, AllocError>
     requires underway { IsUnderway ctx.old entries.old.current }
     requires laws { TransactionLaws }
-    requires places { place + length operations.now < 2 ^ 32 }
+    requires indices { index + length operations.now < 2 ^ 32 }
     requires fit { AreFit operations.now }
     requires ids { CanDraw (length operations.now) ctx.old.id_pool }
     ensures succeeds { IfOk result (λ succeeds. succeeds ≡
-        (spec.run ctx.old source.now place operations.now entries.old.current).succeeds) }
+        (spec.run ctx.old source.now index operations.now entries.old.current).succeeds) }
     ensures results { OnOk result (results.new ≡ results.old ++
-        (spec.run ctx.old source.now place operations.now entries.old.current).results) }
+        (spec.run ctx.old source.now index operations.now entries.old.current).results) }
     ensures entries { OnOk result (entries.new ≡ with_current entries.old
-        (spec.run ctx.old source.now place operations.now entries.old.current).entries) }
+        (spec.run ctx.old source.now index operations.now entries.old.current).entries) }
     ensures ctx { OnOk result (
-        ctx.new ≡ (spec.run ctx.old source.now place operations.now entries.old.current).ctx) }
+        ctx.new ≡ (spec.run ctx.old source.now index operations.now entries.old.current).ctx) }
 {
     match operations {
         [] => Ok(true),
         [first, others @ ..] => {
-            let answer = apply_at(first, ctx, entries, source, place)?;
+            let answer = apply_at(first, ctx, entries, source, index)?;
             let succeeded = is_success(&answer);
             results.push(answer)?;
-            let others_succeeded = run(others, ctx, entries, source, place + 1, results)?;
+            let others_succeeded = run(others, ctx, entries, source, index + 1, results)?;
             Ok(succeeded && others_succeeded)
         }
     }

@@ -1,4 +1,4 @@
-//! A whole set.
+//! A complete set.
 
 ghost use Rattle.std.specs.Prelude.{◌≡◌, ◌*◌, ◌<◌, ◌≤◌, ◌≤ℤ◌, ◌+ℤ◌, pos, ◌++◌, length, All, IfOk, OnOk};
 ghost use Rattle.ledger_types.specs.declared.asset.Asset.TheVariants as asset;
@@ -12,7 +12,7 @@ ghost use Rattle.op_form.specs.Sequences.{last_seq};
 ghost use Rattle.op_laws.specs.Underway.{IsSettled};
 ghost use Rattle.op_laws.specs.Steps.{TransactionLaws};
 ghost use Rattle.tx_apply.specs.Laws as laws;
-ghost use Rattle.tx_apply.specs.Places.{envelopes_at};
+ghost use Rattle.tx_apply.specs.Indices.{envelopes_at};
 ghost use Rattle.tx_apply.specs.Set as spec;
 
 use crate::envelope::apply_one;
@@ -23,7 +23,7 @@ use entry_map::{Base, Entries};
 use fee_rules::{apply_order, fee_source, set_base_fee};
 use item_list::ItemList;
 use ledger_types::{Hash, LedgerHeader};
-use op_form::stands;
+use op_form::exists;
 use op_laws::steps::{legal_settles, transaction_laws};
 use op_types::{TransactionEnvelope, TransactionResultPair, TransactionResultSet, TransactionSet};
 use std::alloc::AllocError;
@@ -39,25 +39,25 @@ pub struct SetDone {
     pub id_pool: u64,
 }
 
-/// The first of these places at which a transaction stands whose fee source has no account.
+/// The first of these indices at which there is a transaction whose fee source has no account.
 fn missing_among<B: Base>(
     entries: &Entries<'_, B>,
     envelopes: &[TransactionEnvelope],
-    places: &[u32],
+    indices: &[u32],
 ) -> Result<Option<u32>, AllocError>
-    requires { All (λ place. place < length envelopes.now) places.now }
-    ensures { IfOk result (λ place. place ≡ spec.missing_among entries.now.current envelopes.now places.now) }
+    requires { All (λ index. index < length envelopes.now) indices.now }
+    ensures { IfOk result (λ index. index ≡ spec.missing_among entries.now.current envelopes.now indices.now) }
 {
-    for place in places {
-        if !stands(entries, &fee_source(&envelopes[*place as usize]))? {
-            return Ok(Some(*place));
+    for index in indices {
+        if !exists(entries, &fee_source(&envelopes[*index as usize]))? {
+            return Ok(Some(*index));
         }
     }
     Ok(None)
 }
 
-/// Applies the transactions at places of a list, each in turn, with its fee. It puts their results at the
-/// end of a list, and answers the greatest offer id then.
+/// Applies the transactions at indices of a list, each in turn, with its fee. It puts their results at the end of a
+/// list, and answers the greatest offer id then.
 fn apply_all<B: Base>(
     network: &Hash,
     header: &LedgerHeader,
@@ -72,7 +72,7 @@ fn apply_all<B: Base>(
     requires seq { header.now.ledger_seq < last_seq }
     requires laws { TransactionLaws }
     requires within { All (λ envelope. xdr.transaction_envelope.within envelope) envelopes.now }
-    requires places { All (λ place. place < length envelopes.now) order.now }
+    requires indices { All (λ index. index < length envelopes.now) order.now }
     requires fit { laws.AreAllFit envelopes.now }
     requires fees { length fees.now ≡ length order.now }
     requires ids { laws.CanDraw (100 * length order.now) header.now.id_pool }
@@ -116,7 +116,7 @@ fn apply_in_order<B: Base>(
     requires fit { laws.AreAllFit set.now.txs }
     requires ids { laws.CanDraw (100 * length order.now) header.now.id_pool }
     requires order { order.now ≡ apply_order_of set.now }
-    requires places { All (λ place. place < length set.now.txs) order.now }
+    requires indices { All (λ index. index < length set.now.txs) order.now }
     ensures { IfOk result (λ done. spec.IsApplied (spec.setting_of network.now header.now close_time) set.now
         entries.old entries.new done) }
 {

@@ -44,7 +44,7 @@ fn check_entry(checker: &mut Checker, entry: Option<&LedgerEntry>, level: Thresh
     }
 }
 
-/// Whether the signatures reach a threshold of an account. One that doesn't stand has no signature that counts. An
+/// Whether the signatures reach a threshold of an account. One that doesn't exist has no signature that counts. An
 /// account that has changed is looked at where it is.
 #[tactic(auto, unfolding(entry_slots::specs::Accounts::account_at))]
 pub(crate) fn check_account<B: Base>(

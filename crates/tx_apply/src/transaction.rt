@@ -20,7 +20,7 @@ use sponsor_rules::Ctx;
 use std::alloc::AllocError;
 
 /// Applies the operations of a transaction. Any failure undoes them all, and so does a sponsorship that is still open
-/// behind the last one.
+/// after the last one.
 fn apply_operations<B: Base>(
     ctx: &mut Ctx,
     tx: &Transaction,

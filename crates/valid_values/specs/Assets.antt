@@ -10,11 +10,11 @@ abbrev pub is_letter_or_digit : ℕ → Bool
 is_letter_or_digit byte =
     nat_le 0x30 byte && nat_le byte 0x39 || nat_le 0x41 byte && nat_le byte 0x5A || nat_le 0x61 byte && nat_le byte 0x7A
 
--- how many letters and digits stand at the front of a code
+-- how many letters and digits a code begins with
 abbrev pub code_len : List ℕ → ℕ
 code_len code = prefix_len is_letter_or_digit code
 
--- at least so many letters and digits, and zero bytes behind them
+-- at least so many letters and digits, and zero bytes after them
 unfoldable pub is_valid_code : ℕ → List ℕ → Bool
 is_valid_code fewest code =
     nat_le fewest (code_len code) && list_all (λ byte. nat_eq byte 0) (drop (code_len code) code)

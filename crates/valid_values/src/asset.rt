@@ -19,7 +19,7 @@ fn is_letter_or_digit(byte: u8) -> bool
     0x30 <= byte && byte <= 0x39 || 0x41 <= byte && byte <= 0x5A || 0x61 <= byte && byte <= 0x7A
 }
 
-/// How many letters and digits stand at the front of a code.
+/// How many letters and digits a code begins with.
 fn code_len(code: &[u8]) -> usize
     ensures len { result ≡ spec.code_len code.now }
     ensures within { result ≤ length code.now }
@@ -37,7 +37,7 @@ fn are_zero(bytes: &[u8]) -> bool
     bytes.iter().all(|byte| *byte == 0)
 }
 
-/// Whether a code has at least so many letters and digits, and zero bytes behind them.
+/// Whether a code has at least so many letters and digits, and zero bytes after them.
 #[tactic(auto, unfolding(crate::specs::Assets::is_valid_code))]
 fn is_valid_code(fewest: usize, code: &[u8]) -> bool
     ensures { result ≡ spec.is_valid_code fewest code.now }

@@ -1,4 +1,4 @@
-//! Which texts, assets and predicates are valid, wherever they stand: in entries and in operations.
+//! Which texts, assets and predicates are valid, wherever they are: in entries and in operations.
 #![tactic(auto)]
 
 mod asset;

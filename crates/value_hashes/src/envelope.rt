@@ -13,7 +13,7 @@ use xdr_core::Builder;
 use xdr_tx::write_transaction_envelope;
 
 /// The hash that the signatures of an envelope are made over, on the network with this id: of its transaction, or of
-/// its fee bump. The envelope has a spelling: its lists and texts keep their bounds.
+/// its fee bump. The envelope has an encoding: its lists and texts keep their bounds.
 #[tactic(auto, unfolding(xdr_tx::specs::Transactions::transaction_envelope))]
 pub fn signed_hash(
     alloc: Global,
@@ -30,7 +30,7 @@ pub fn signed_hash(
     }
 }
 
-/// The hash of an envelope with its signatures, which has a spelling: its lists and texts keep their bounds.
+/// The hash of an envelope with its signatures, which has an encoding: its lists and texts keep their bounds.
 pub fn envelope_hash(alloc: Global, envelope: &TransactionEnvelope) -> Result<Hash, AllocError>
     requires { transaction_envelope.within envelope.now }
     ensures { IfOk result (λ hash. hash ≡ envelope_hash_of envelope.now) }

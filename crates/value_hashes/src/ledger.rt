@@ -13,7 +13,7 @@ use xdr_core::Builder;
 use xdr_header::write_ledger_header;
 use xdr_results::write_transaction_result_set;
 
-/// The hash of a ledger, that of its header. The header has a spelling: its upgrades keep their bounds.
+/// The hash of a ledger, that of its header. The header has an encoding: its upgrades keep their bounds.
 pub fn ledger_hash(alloc: Global, header: &LedgerHeader) -> Result<Hash, AllocError>
     requires { ledger_header.within header.now }
     ensures { IfOk result (λ hash. hash ≡ ledger_hash_of header.now) }
@@ -23,7 +23,7 @@ pub fn ledger_hash(alloc: Global, header: &LedgerHeader) -> Result<Hash, AllocEr
     header_hash(builder.as_slice())
 }
 
-/// The hash of a ledger's results, which have a spelling: their lists keep their bounds.
+/// The hash of a ledger's results, which have an encoding: their lists keep their bounds.
 pub fn results_hash(alloc: Global, results: &TransactionResultSet) -> Result<Hash, AllocError>
     requires { transaction_result_set.within results.now }
     ensures { IfOk result (λ hash. hash ≡ results_hash_of results.now) }

@@ -1,5 +1,5 @@
-//! The hashes of values: of transactions with the network's id and the type of the envelope in front, of envelopes, of
-//! a ledger's header and of its results, each SHA-256 (FIPS 180-4) of the one spelling.
+//! The hashes of values: of transactions, each preceded by the network's id and the type of its envelope, of envelopes,
+//! of a ledger's header and of its results, each SHA-256 (FIPS 180-4) of the one encoding.
 #![tactic(auto)]
 
 mod envelope;

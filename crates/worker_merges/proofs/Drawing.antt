@@ -1,14 +1,9 @@
 -- What drawing and posting one job more leaves.
-use Rattle.std.proofs.Common.{◌≡◌, ℕ, zero, suc, ◌+◌, ◌<◌, ◌≤◌, List, [], ◌∷◌, map, set, true, false, refl, sym}
-use Rattle.std.proofs.Common.{ap, ◌∙◌, subst, arith, inl, inr}
-use Rattle.std.specs.Prelude.{cond, Bool, ◌⊎◌}
-use Rattle.std.proofs.lemmas.List.Sums.{sum_by-cons}
-use Rattle.bucket_merge.specs.Job.{Job}
+use Rattle.worker_merges.proofs.Prelude.{◌≡◌, ℕ, zero, suc, ◌+◌, ◌<◌, ◌≤◌, List, [], ◌∷◌, map, set, true, false, refl}
+use Rattle.worker_merges.proofs.Prelude.{sym, ap, ◌∙◌, subst, arith, inl, inr, cond, Bool, ◌⊎◌, sum_by-cons, Job, drawn}
+use Rattle.worker_merges.proofs.Prelude.{Draws, RoseBy, waiting_in, FoundNoRoom, Became}
 use Rattle.ledger_close.specs.bucket_levels.Pending.{PendingAt, pending_at}
-use Rattle.ledger_close.specs.bucket_levels.HandIn.{drawn, Draws}
 use Rattle.ledger_close.specs.bucket_levels.Levels.{LevelsAt}
-use Rattle.merge_board.specs.Parts.{RoseBy}
-use Rattle.worker_merges.specs.Posting.{waiting_in, FoundNoPlace, Became}
 
 -- ---- the merges that are pending
 
@@ -42,11 +37,11 @@ one_less (first ∷ others) (suc level) waits =
     let rest = one_less others level waits in
     omega (arith, one, two, rest)
 
-pub none_left : (pending : List PendingAt) → ((level : ℕ) → (pending_at pending level).waits ≡ false)
+pub none_wait_drawn : (pending : List PendingAt) → ((level : ℕ) → (pending_at pending level).waits ≡ false)
     → (map drawn pending ≡ pending) × (waiting_in pending ≡ 0)
-none_left [] none = (refl, refl)
-none_left (first ∷ others) none =
-    let rest = none_left others (λ level. none (suc level)) in
+none_wait_drawn [] none = (refl, refl)
+none_wait_drawn (first ∷ others) none =
+    let rest = none_wait_drawn others (λ level. none (suc level)) in
     let is : bit first.waits ≡ 0 = ap bit (none 0) in
     let one = counted first others in (
       ap (λ (b : Bool). record first { waits = b } ∷ map drawn others) (sym (none 0))
@@ -54,16 +49,16 @@ none_left (first ∷ others) none =
       (let left = rest.1 in omega (arith, one, is, left)),
     )
 
--- below a place nothing waits, where it didn't before or was drawn
-none_below : (pending : List PendingAt) (level place : ℕ)
-    → ((at : ℕ) → at < level → (pending_at pending at).waits ≡ false) → place < level + 1
-    → (pending_at (drawn_at pending level) place).waits ≡ false
-none_below [] level place none below = refl
+-- below an index nothing waits, where it didn't before or was drawn
+none_below : (pending : List PendingAt) (level slot : ℕ)
+    → ((at : ℕ) → at < level → (pending_at pending at).waits ≡ false) → slot < level + 1
+    → (pending_at (drawn_at pending level) slot).waits ≡ false
+none_below [] level slot none below = refl
 none_below (first ∷ others) zero zero none below = refl
-none_below (first ∷ others) zero (suc place) none below = absurd (omega arith)
+none_below (first ∷ others) zero (suc slot) none below = absurd (omega arith)
 none_below (first ∷ others) (suc level) zero none below = none 0 (omega arith)
-none_below (first ∷ others) (suc level) (suc place) none below =
-    none_below others level place (λ at lt. none (suc at) (omega arith)) (omega arith)
+none_below (first ∷ others) (suc level) (suc slot) none below =
+    none_below others level slot (λ at lt. none (suc at) (omega arith)) (omega arith)
 
 -- ---- what came back
 
@@ -82,7 +77,7 @@ pub record DrawnUpTo (back : ℕ) (pending : List PendingAt) : Type 0 where
 pub record SoFar (posted_first : ℕ) (first pending : List PendingAt) (posted back : ℕ) : Type 0 where
   pub drawn_are : map drawn pending ≡ map drawn first
   pub count : posted_first + waiting_in first ≡ posted + back + waiting_in pending
-  pub full : 0 < back → FoundNoPlace posted_first posted
+  pub full : 0 < back → FoundNoRoom posted_first posted
   pub more : posted_first ≤ posted
   pub levels : DrawnUpTo back pending
 
@@ -125,7 +120,7 @@ one_more_level back now old job new d draws deep le =
       none = λ level lt. none_below old.pending job.level level draws.first lt;
     })
 
-found_later : (first old new : ℕ) → old ≤ new → FoundNoPlace first old → FoundNoPlace first new
+found_later : (first old new : ℕ) → old ≤ new → FoundNoRoom first old → FoundNoRoom first new
 found_later first old new le f =
     let high = f.high in record { posted = f.posted; low = f.low; high = omega (arith, high); full = f.full }
 

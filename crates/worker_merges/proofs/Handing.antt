@@ -1,14 +1,9 @@
 -- How a ledger is handed in one merge more.
-use Rattle.std.proofs.Common.{◌≡◌, List, [], ◌∷◌, ◌++◌, Result, Ok, Err, refl, sym, subst, ◌∙◌, ap, append_assoc}
-use Rattle.std.proofs.Common.{append-nil, inl, inr}
-use Rattle.std.specs.Prelude.{OnOk, IfErr}
-use Rattle.bucket_merge.specs.Job.{Job}
-use Rattle.ledger_close.specs.bucket_levels.HandIn.{TakesIn, IsRefusedFor}
+use Rattle.worker_merges.proofs.Prelude.{◌≡◌, List, [], ◌∷◌, ◌++◌, Result, Ok, Err, refl, sym, subst, ◌∙◌, ap}
+use Rattle.worker_merges.proofs.Prelude.{append_assoc, append-nil, inl, inr, OnOk, IfErr, Job, TakesIn, IsRefusedFor}
+use Rattle.worker_merges.proofs.Prelude.{LedgerAt, levels_at, Grew, IsHandedIn, AreHandedIn, Adopts}
 use Rattle.ledger_close.specs.bucket_levels.declared.hand_in.HandInBack.{HandInBack}
-use Rattle.ledger_close.specs.States.{LedgerAt, levels_at}
-use Rattle.merge_board.specs.Parts.{Grew}
 use Rattle.merge_board.specs.declared.log.Sent.{Sent}
-use Rattle.worker_merges.specs.Adopting.{IsHandedIn, AreHandedIn, Adopts}
 
 handed_more : (outs : List Sent) (sent : Sent) (a b c : LedgerAt) → AreHandedIn outs a b → IsHandedIn sent.out b c
     → AreHandedIn (outs ++ sent ∷ []) a c

@@ -9,7 +9,7 @@ abbrev pub waiting_in : List PendingAt → ℕ
 waiting_in pending = count_by (λ (merge : PendingAt). merge.waits) pending
 
 -- At one moment between these counts of posts 64 jobs waited.
-pub record FoundNoPlace (before after : ℕ) : Type 0 where
+pub record FoundNoRoom (before after : ℕ) : Type 0 where
   pub posted : ℕ
   pub low : before ≤ posted
   pub high : posted ≤ after

@@ -3,7 +3,7 @@
 ghost use Rattle.std.specs.Prelude.{◌≡◌, ◌+◌, ◌<◌, map};
 ghost use Rattle.ledger_close.specs.bucket_levels.HandIn.{drawn};
 ghost use Rattle.merge_board.specs.Parts.{IsBoardIn, board_parts, posted_by, returned_to, RoseBy};
-ghost use Rattle.worker_merges.specs.Posting.{waiting_in, Became, FoundNoPlace};
+ghost use Rattle.worker_merges.specs.Posting.{waiting_in, Became, FoundNoRoom};
 
 use bucket_merge::MergeJob;
 use ledger_close::Ledger;
@@ -34,7 +34,7 @@ pub fn post_due<R: Wait>(rt: &R, ledger: &mut Ledger, room: &Room, board: &mut B
     ensures drawn { ledger.new.pending ≡ map drawn ledger.old.pending }
     ensures count { posted_by board.old + waiting_in ledger.old.pending ≡ posted_by board.new + result }
     ensures returned { RoseBy result (returned_to board.old) (returned_to board.new) }
-    ensures full { 0 < result → FoundNoPlace (posted_by board.old) (posted_by board.new) }
+    ensures full { 0 < result → FoundNoRoom (posted_by board.old) (posted_by board.new) }
 {
     let mut back = 0;
     while let Some(job) = ledger.next_job() {

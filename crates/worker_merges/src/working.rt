@@ -1,11 +1,11 @@
-//! How workers run at their places.
+//! How workers run in their slots.
 
 ghost use denote.Param.Send.{IsSync};
 ghost use Rattle.std.specs.Prelude.{◌≡◌, ◌<◌, All, length};
 ghost use Rattle.merge_board.specs.Parts.{IsWorkerOf, IsWorkerEndOf};
-ghost use Rattle.worker_merges.specs.Places.{IsManned, HasEnded};
+ghost use Rattle.worker_merges.specs.WorkerSlots.{IsManned, HasEnded};
 
-use crate::places::Place;
+use crate::slots::WorkerSlot;
 use merge_board::{Room, Worker, WorkerEnd};
 use outside::{Gate, Steps};
 use std::marker::Brand;
@@ -34,36 +34,36 @@ fn run_counted<R: Wait, G: Gate, L: Ledger>(
     worker.run(rt, room, gate, &mut steps)
 }
 
-/// The worker of a place runs, and what is left of it stays there.
-fn work<R: Wait, G: Gate>(rt: &R, room: &Room, gate: &G, place: &mut Place)
-    requires { IsManned room.now place.old }
-    ensures { HasEnded room.now place.new }
+/// The worker of a slot runs, and what is left of it stays there.
+fn work<R: Wait, G: Gate>(rt: &R, room: &Room, gate: &G, slot: &mut WorkerSlot)
+    requires { IsManned room.now slot.old }
+    ensures { HasEnded room.now slot.new }
 {
-    let Some(worker) = place.worker.take() else {
+    let Some(worker) = slot.worker.take() else {
         unreachable!()
     };
-    place.end = Some(run_counted::<R, G, Brand>(rt, room, gate, worker, Blank::new(1)));
+    slot.end = Some(run_counted::<R, G, Brand>(rt, room, gate, worker, Blank::new(1)));
 }
 
-/// Each worker runs in a thread of its own, until the room's board is closed or it has no more place for its outcomes.
-/// Where a thread can't be started, its worker runs behind another one, or when the closing thread is done.
+/// Each worker runs in a thread of its own, until the room's board is closed or it has no slot left for its outcomes.
+/// Where a thread can't be started, its worker runs after another one, or when the closing thread is done.
 pub fn work_all<R: Threads + Wait + Sync, G: Gate>(
     rt: &R,
     room: &Room,
     gate: &G,
-    places: &mut [Place],
+    slots: &mut [WorkerSlot],
 )
-    requires { All (IsManned room.now) places.old }
-    ensures count { length places.new ≡ length places.old }
-    ensures ended { All (HasEnded room.now) places.new }
+    requires { All (IsManned room.now) slots.old }
+    ensures count { length slots.new ≡ length slots.old }
+    ensures ended { All (HasEnded room.now) slots.new }
 {
     thread::for_each_mut(
         rt,
-        places,
+        slots,
         THREADS,
-        &|_: usize, place: &mut Place|
-            requires { IsSync R.row × IsSync G.row × IsManned room.now place.old }
-            ensures { HasEnded room.entry.now place.new }
-        { work(rt, room, gate, place) },
+        &|_: usize, slot: &mut WorkerSlot|
+            requires { IsSync R.row × IsSync G.row × IsManned room.now slot.old }
+            ensures { HasEnded room.entry.now slot.new }
+        { work(rt, room, gate, slot) },
     );
 }

@@ -1,6 +1,6 @@
 -- The laws of each format, and what follows of them, as one set.
+use Rattle.xdr_entries.proofs.Prelude.{lawful_of, faults_located, written, option_laws}
 use Rattle.xdr_core.proofs.Grammar.{prefix_free, faults_rightly}
-use Rattle.xdr_core.proofs.FormatLaws.{lawful_of, faults_placed, written, option_laws}
 use Rattle.xdr_entries.proofs.BasicLaws.{hash_laws, account_id_laws, claimable_balance_id_laws, muxed_account_laws}
 use Rattle.xdr_entries.proofs.BasicLaws.{signer_key_laws, signer_laws, asset_laws, trust_line_asset_laws}
 use Rattle.xdr_entries.proofs.BasicLaws.{pool_params_laws, change_trust_asset_laws, price_laws, liabilities_laws}
@@ -17,7 +17,7 @@ pub ruleset all_laws = (
   prefix_free,
   faults_rightly,
   lawful_of,
-  faults_placed,
+  faults_located,
   hash_laws,
   account_id_laws,
   claimable_balance_id_laws,
@@ -50,7 +50,7 @@ pub ruleset all_laws = (
   bucket_entry_laws,
 )
 
--- what the writers of whole values and of items of lists, options and extensions rest on
+-- what the writers of complete values and of items of lists, options and extensions rest on
 pub ruleset written_values = (
   written,
   option_laws,

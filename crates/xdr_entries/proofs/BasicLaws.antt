@@ -1,8 +1,6 @@
 -- The laws of ids, signers, assets and prices.
-use Rattle.std.proofs.Common.{pos, refl}
-use Rattle.xdr_core.proofs.FormatLaws.{Laws, u32_laws, u64_laws, i32_laws, i64_laws, fixed_laws, empty_laws, ◌&◌}
-use Rattle.xdr_core.proofs.FormatLaws.{struct_laws, marked_laws, tag_laws, arm_laws, found, union_laws}
-use Rattle.xdr_core.proofs.Unions.{IsFound}
+use Rattle.xdr_entries.proofs.Prelude.{pos, refl, Laws, u32_laws, u64_laws, i32_laws, i64_laws, fixed_laws, empty_laws}
+use Rattle.xdr_entries.proofs.Prelude.{◌&◌, struct_laws, marked_laws, tag_laws, arm_laws, found, union_laws, IsFound}
 use Rattle.ledger_types.specs.declared.ids.MuxedAccount.{MuxedAccount}
 use Rattle.ledger_types.specs.declared.ids.MuxedAccount.TheVariants as muxed
 use Rattle.ledger_types.specs.declared.signer.SignerKey.{SignerKey}

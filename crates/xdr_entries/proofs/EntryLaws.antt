@@ -1,9 +1,7 @@
 -- The laws of ledger entries.
-use Rattle.std.proofs.Common.{pos, refl, arith}
-use Rattle.xdr_core.proofs.FormatLaws.{Laws, u32_laws, i32_laws, i64_laws, fixed_laws, var_laws, ◌&◌, struct_laws}
-use Rattle.xdr_core.proofs.FormatLaws.{whole_laws, marked_laws, closed_laws, tag_laws, option_laws, list_laws, arm_laws}
-use Rattle.xdr_core.proofs.FormatLaws.{found, union_laws, extension_laws}
-use Rattle.xdr_core.proofs.Unions.{IsFound}
+use Rattle.xdr_entries.proofs.Prelude.{pos, refl, arith, Laws, u32_laws, i32_laws, i64_laws, fixed_laws, var_laws, ◌&◌}
+use Rattle.xdr_entries.proofs.Prelude.{struct_laws, entire_laws, marked_laws, closed_laws, tag_laws, option_laws}
+use Rattle.xdr_entries.proofs.Prelude.{list_laws, arm_laws, found, union_laws, extension_laws, IsFound}
 use Rattle.ledger_types.specs.declared.bounds.TheConstants.{MAX_SIGNERS, MAX_HOME_DOMAIN_LEN}
 use Rattle.ledger_types.specs.declared.entry.LedgerEntryBody.{LedgerEntryBody}
 use Rattle.ledger_types.specs.declared.entry.LedgerEntryBody.TheVariants as body
@@ -74,7 +72,7 @@ data_entry_laws = struct_laws data_fields
 pub claimant_laws : Laws claimant
 unfolding claimant
 claimant_laws = struct_laws claimant_fields
-    (marked_laws (tag_laws (pos 0) tt) (account_id_laws & whole_laws claim_predicate_laws))
+    (marked_laws (tag_laws (pos 0) tt) (account_id_laws & entire_laws claim_predicate_laws))
 
 pub claimable_balance_extension_v1_laws : Laws claimable_balance_extension_v1
 unfolding claimable_balance_extension_v1

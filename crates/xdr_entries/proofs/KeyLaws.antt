@@ -1,8 +1,6 @@
 -- The laws of keys and items of buckets.
-use Rattle.std.proofs.Common.{pos, refl, arith}
-use Rattle.xdr_core.proofs.FormatLaws.{Laws, u32_laws, i64_laws, var_laws, ◌&◌, whole_laws, closed_laws, tag_laws}
-use Rattle.xdr_core.proofs.FormatLaws.{arm_laws, found, union_laws}
-use Rattle.xdr_core.proofs.Unions.{IsFound}
+use Rattle.xdr_entries.proofs.Prelude.{pos, refl, arith, Laws, u32_laws, i64_laws, var_laws, ◌&◌, entire_laws}
+use Rattle.xdr_entries.proofs.Prelude.{closed_laws, tag_laws, arm_laws, found, union_laws, IsFound}
 use Rattle.ledger_types.specs.declared.key.LedgerKey.{LedgerKey}
 use Rattle.ledger_types.specs.declared.key.LedgerKey.TheVariants as key
 use Rattle.ledger_types.specs.declared.bucket.BucketEntry.{BucketEntry}
@@ -49,20 +47,20 @@ bucket_entry_found : (v : BucketEntry) → IsFound bucket_part bucket_arms v
 bucket_entry_found (bucket.Meta version) =
     found meta_arm version (closed_laws u32_laws (tag_laws (pos 0) tt)) tt refl refl (λ _ _ _. refl)
 bucket_entry_found (bucket.Live entry) =
-    found live_arm entry (whole_laws ledger_entry_laws) tt refl refl (λ _ _ _. refl)
-bucket_entry_found (bucket.Dead gone) = found dead_arm gone (whole_laws ledger_key_laws) tt refl refl (λ _ _ _. refl)
+    found live_arm entry (entire_laws ledger_entry_laws) tt refl refl (λ _ _ _. refl)
+bucket_entry_found (bucket.Dead gone) = found dead_arm gone (entire_laws ledger_key_laws) tt refl refl (λ _ _ _. refl)
 bucket_entry_found (bucket.Init entry) =
-    found init_arm entry (whole_laws ledger_entry_laws) tt refl refl (λ _ _ _. refl)
+    found init_arm entry (entire_laws ledger_entry_laws) tt refl refl (λ _ _ _. refl)
 
 pub bucket_entry_laws : Laws bucket_entry
 unfolding bucket_entry
 bucket_entry_laws = union_laws (
   arm_laws (closed_laws u32_laws (tag_laws (pos 0) tt)) (λ x. refl),
   (
-    arm_laws (whole_laws ledger_entry_laws) (λ x. refl),
+    arm_laws (entire_laws ledger_entry_laws) (λ x. refl),
     (
-      arm_laws (whole_laws ledger_key_laws) (λ x. refl),
-      (arm_laws (whole_laws ledger_entry_laws) (λ x. refl), tt),
+      arm_laws (entire_laws ledger_key_laws) (λ x. refl),
+      (arm_laws (entire_laws ledger_entry_laws) (λ x. refl), tt),
     ),
   ),
 )

@@ -1,13 +1,9 @@
 -- The laws of predicates.
-use Rattle.std.proofs.Common.{ℕ, zero, suc, refl, arith}
-use Rattle.xdr_core.proofs.FormatLaws.{Laws, i64_laws, empty_laws, too_deep_laws, struct_laws, option_laws, list_laws}
-use Rattle.xdr_core.proofs.FormatLaws.{arm_laws, found, union_laws}
-use Rattle.xdr_core.specs.Xdr.{Xdr}
-use Rattle.xdr_core.proofs.Unions.{IsFound}
+use Rattle.xdr_entries.proofs.Prelude as prelude
+use prelude.{ℕ, zero, suc, refl, arith, Laws, i64_laws, empty_laws, too_deep_laws, struct_laws, option_laws, list_laws}
+use prelude.{arm_laws, found, union_laws, Xdr, IsFound, unconditional, and_arm, or_arm, not_arm, before_absolute_time}
+use prelude.{before_relative_time, level_arms, level_part, level, level_fields, predicate_below, claim_predicate}
 use Rattle.ledger_types.specs.declared.predicate.ClaimPredicate.TheOpen.{ClaimPredicate-F}
-use Rattle.xdr_entries.specs.Predicates.{unconditional, and_arm, or_arm, not_arm, before_absolute_time}
-use Rattle.xdr_entries.specs.Predicates.{before_relative_time, level_arms, level_part, level, level_fields}
-use Rattle.xdr_entries.specs.Predicates.{predicate_below, claim_predicate}
 
 module _ {P : Type 0} {below : Xdr P} (law : Laws below) where
   level_found : (v : ClaimPredicate-F P) → IsFound (level_part below) (level_arms below) v

@@ -2,7 +2,7 @@
 use Rattle.std.specs.Prelude.{ℕ, ℤ, pos, List, [], ◌∷◌, Option, refl}
 use Rattle.xdr_core.specs.declared.fault.XdrFault.{XdrFault}
 use Rattle.xdr_core.specs.Leaves.{u32, i32, i64, fixed, var}
-use Rattle.xdr_core.specs.Combinators.{◌⨾◌, Fields, struct_of, marked, closed, whole, Arm, Part, part}
+use Rattle.xdr_core.specs.Combinators.{◌⨾◌, Fields, struct_of, marked, closed, entire, Arm, Part, part}
 use Rattle.xdr_core.specs.Xdr.{Xdr, tag, optional, list_of, union_of, extension_of}
 use Rattle.ledger_types.specs.declared.bounds.TheConstants.{MAX_SIGNERS, MAX_HOME_DOMAIN_LEN}
 use Rattle.ledger_types.specs.declared.ids.AccountId.{AccountId}
@@ -191,7 +191,7 @@ claimant_fields = record {
 
 -- Claimant, whose one arm is CLAIMANT_TYPE_V0
 unfoldable pub claimant : Xdr Claimant
-claimant = struct_of claimant_fields (marked (tag (pos 0)) (account_id ⨾ whole claim_predicate))
+claimant = struct_of claimant_fields (marked (tag (pos 0)) (account_id ⨾ entire claim_predicate))
 
 abbrev pub balance_v1_fields : Fields ℕ ClaimableBalanceEntryExtensionV1
 balance_v1_fields = record {

@@ -4,7 +4,7 @@
 use Rattle.std.specs.Prelude.{pos, List, [], ◌∷◌}
 use Rattle.xdr_core.specs.declared.fault.XdrFault.{XdrFault}
 use Rattle.xdr_core.specs.Leaves.{u32, i64, var}
-use Rattle.xdr_core.specs.Combinators.{◌⨾◌, closed, whole, Arm, Part, part}
+use Rattle.xdr_core.specs.Combinators.{◌⨾◌, closed, entire, Arm, Part, part}
 use Rattle.xdr_core.specs.Xdr.{Xdr, tag, union_of}
 use Rattle.xdr_entries.specs.declared.bucket.TheConstants.{METAENTRY}
 use Rattle.ledger_types.specs.declared.key.LedgerKey.{LedgerKey}
@@ -54,13 +54,13 @@ abbrev pub meta_arm : Arm XdrFault BucketEntry
 meta_arm = arm METAENTRY (closed u32 (tag (pos 0))) bucket.Meta
 
 abbrev pub live_arm : Arm XdrFault BucketEntry
-live_arm = arm (pos 0) (whole ledger_entry) bucket.Live
+live_arm = arm (pos 0) (entire ledger_entry) bucket.Live
 
 abbrev pub dead_arm : Arm XdrFault BucketEntry
-dead_arm = arm (pos 1) (whole ledger_key) bucket.Dead
+dead_arm = arm (pos 1) (entire ledger_key) bucket.Dead
 
 abbrev pub init_arm : Arm XdrFault BucketEntry
-init_arm = arm (pos 2) (whole ledger_entry) bucket.Init
+init_arm = arm (pos 2) (entire ledger_entry) bucket.Init
 
 abbrev pub bucket_arms : List (Arm XdrFault BucketEntry)
 bucket_arms = meta_arm ∷ live_arm ∷ dead_arm ∷ init_arm ∷ []

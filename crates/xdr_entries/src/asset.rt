@@ -1,7 +1,7 @@
 //! Assets, what trust lines are in, and the parameters of pools.
 
 ghost use Rattle.std.specs.Prelude.{◌≡◌, OnOk};
-ghost use Rattle.xdr_core.specs.Place.{Reads, itself};
+ghost use Rattle.xdr_core.specs.Position.{Reads, itself};
 ghost use Rattle.xdr_core.specs.Leaves.{fixed};
 ghost use Rattle.xdr_core.specs.Combinators.{◌⨾◌};
 ghost use Rattle.xdr_entries.specs.Basic as spec;

@@ -1,7 +1,7 @@
 //! Items of buckets.
 
 ghost use Rattle.std.specs.Prelude.{◌≡◌, ◌++◌, OnOk};
-ghost use Rattle.xdr_core.specs.Place.{Reads, itself};
+ghost use Rattle.xdr_core.specs.Position.{Reads, itself};
 ghost use Rattle.xdr_core.specs.ReadFault.{cause_of};
 ghost use Rattle.xdr_entries.specs.Keys as spec;
 
@@ -53,16 +53,16 @@ pub fn read_bucket_entry(alloc: Global, cursor: &mut Cursor<'_>) -> Result<Bucke
     Ok(entry)
 }
 
-/// Writes an item of a bucket: its spelling stands at the end.
+/// Writes an item of a bucket: its encoding is put at the end.
 #[tactic(auto, using(crate::proofs::AllLaws::written_values))]
 pub fn write_bucket_entry(value: &BucketEntry, builder: &mut Builder) -> Result<(), AllocError>
     requires { spec.bucket_entry.within value.now }
-    ensures { OnOk result (builder.new ≡ builder.old ++ spec.bucket_entry.spell value.now) }
+    ensures { OnOk result (builder.new ≡ builder.old ++ spec.bucket_entry.encoding value.now) }
 {
     write_arm(value, builder)
 }
 
-/// Writes the discriminant of an item, and what stands behind it.
+/// Writes the discriminant of an item, and what follows it.
 #[tactic(auto, unfolding(crate::specs::Keys::bucket_entry))]
 fn write_arm(value: &BucketEntry, builder: &mut Builder) -> Result<(), AllocError>
     requires { spec.bucket_entry.within value.now }

@@ -1,7 +1,7 @@
 //! Ledger entries.
 
 ghost use Rattle.std.specs.Prelude.{◌≡◌, ◌++◌, OnOk};
-ghost use Rattle.xdr_core.specs.Place.{Reads, itself};
+ghost use Rattle.xdr_core.specs.Position.{Reads, itself};
 ghost use Rattle.xdr_core.specs.ReadFault.{cause_of};
 ghost use Rattle.xdr_entries.specs.Entries as spec;
 
@@ -143,16 +143,16 @@ pub fn read_ledger_entry(alloc: Global, cursor: &mut Cursor<'_>) -> Result<Ledge
     })
 }
 
-/// Writes an entry: its spelling stands at the end.
+/// Writes an entry: its encoding is put at the end.
 #[tactic(auto, using(crate::proofs::AllLaws::written_values))]
 pub fn write_ledger_entry(value: &LedgerEntry, builder: &mut Builder) -> Result<(), AllocError>
     requires { spec.ledger_entry.within value.now }
-    ensures { OnOk result (builder.new ≡ builder.old ++ spec.ledger_entry.spell value.now) }
+    ensures { OnOk result (builder.new ≡ builder.old ++ spec.ledger_entry.encoding value.now) }
 {
     write_fields(value, builder)
 }
 
-/// Writes the fields of an entry one behind another.
+/// Writes the fields of an entry one after another.
 #[tactic(auto, unfolding(crate::specs::Entries::ledger_entry))]
 fn write_fields(value: &LedgerEntry, builder: &mut Builder) -> Result<(), AllocError>
     requires { spec.ledger_entry.within value.now }

@@ -1,7 +1,7 @@
 //! Ids and hashes.
 
 ghost use Rattle.std.specs.Prelude.{◌≡◌, OnOk};
-ghost use Rattle.xdr_core.specs.Place.{Reads, itself};
+ghost use Rattle.xdr_core.specs.Position.{Reads, itself};
 ghost use Rattle.xdr_core.specs.Xdr.{optional};
 ghost use Rattle.xdr_entries.specs.Basic as spec;
 

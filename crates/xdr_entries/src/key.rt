@@ -1,7 +1,7 @@
 //! Keys.
 
 ghost use Rattle.std.specs.Prelude.{◌≡◌, ◌++◌, OnOk};
-ghost use Rattle.xdr_core.specs.Place.{Reads, itself};
+ghost use Rattle.xdr_core.specs.Position.{Reads, itself};
 ghost use Rattle.xdr_core.specs.Combinators.{arm_at};
 ghost use Rattle.xdr_core.specs.ReadFault.{cause_of};
 ghost use Rattle.xdr_entries.specs.Keys as spec;
@@ -81,16 +81,16 @@ pub fn read_ledger_key(alloc: Global, cursor: &mut Cursor<'_>) -> Result<LedgerK
     Ok(key)
 }
 
-/// Writes a key: its spelling stands at the end.
+/// Writes a key: its encoding is put at the end.
 #[tactic(auto, using(crate::proofs::AllLaws::written_values))]
 pub fn write_ledger_key(value: &LedgerKey, builder: &mut Builder) -> Result<(), AllocError>
     requires { spec.ledger_key.within value.now }
-    ensures { OnOk result (builder.new ≡ builder.old ++ spec.ledger_key.spell value.now) }
+    ensures { OnOk result (builder.new ≡ builder.old ++ spec.ledger_key.encoding value.now) }
 {
     write_arm(value, builder)
 }
 
-/// Writes the discriminant of a key, and what stands behind it.
+/// Writes the discriminant of a key, and what follows it.
 #[tactic(auto, unfolding(crate::specs::Keys::ledger_key))]
 fn write_arm(value: &LedgerKey, builder: &mut Builder) -> Result<(), AllocError>
     requires { spec.ledger_key.within value.now }

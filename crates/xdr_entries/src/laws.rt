@@ -1,14 +1,14 @@
 //! The laws of the formats, as contracts.
 
-ghost use Rattle.xdr_core.specs.Format.{Lawful, IsPrefixFree, FaultsRightly, PlacesFaults};
+ghost use Rattle.xdr_core.specs.Format.{Lawful, IsPrefixFree, FaultsRightly, LocatesFaults};
 ghost use Rattle.xdr_entries.specs.Basic as basic;
 ghost use Rattle.xdr_entries.specs.Predicates as predicates;
 ghost use Rattle.xdr_entries.specs.Entries as entries;
 ghost use Rattle.xdr_entries.specs.Keys as keys;
 
-/// What is read is spelled so, what is spelled so is read whatever follows, and writing puts the spelling at the end.
+/// What is read is encoded so, what is encoded so is read whatever follows, and writing puts the encoding at the end.
 #[tactic(auto, using(crate::proofs::AllLaws::all_laws))]
-pub fn reading_and_spelling_agree()
+pub fn reading_and_encoding_agree()
     ensures hashes { Lawful basic.hash }
     ensures account_ids { Lawful basic.account_id }
     ensures claimable_balance_ids { Lawful basic.claimable_balance_id }
@@ -41,9 +41,9 @@ pub fn reading_and_spelling_agree()
     ensures bucket_entries { Lawful keys.bucket_entry }
 {}
 
-/// No spelling of a type begins another of that type.
+/// No encoding of a type is a prefix of another of that type.
 #[tactic(auto, using(crate::proofs::AllLaws::all_laws))]
-pub fn no_spelling_begins_another()
+pub fn no_encoding_begins_another()
     ensures hashes { IsPrefixFree basic.hash }
     ensures account_ids { IsPrefixFree basic.account_id }
     ensures claimable_balance_ids { IsPrefixFree basic.claimable_balance_id }
@@ -76,9 +76,9 @@ pub fn no_spelling_begins_another()
     ensures bucket_entries { IsPrefixFree keys.bucket_entry }
 {}
 
-/// A fault comes only where no front of the text is a spelling.
+/// A fault comes only where no prefix of the text is an encoding.
 #[tactic(auto, using(crate::proofs::AllLaws::all_laws))]
-pub fn faults_come_only_without_spelling()
+pub fn faults_come_only_without_encoding()
     ensures hashes { FaultsRightly basic.hash }
     ensures account_ids { FaultsRightly basic.account_id }
     ensures claimable_balance_ids { FaultsRightly basic.claimable_balance_id }
@@ -111,38 +111,38 @@ pub fn faults_come_only_without_spelling()
     ensures bucket_entries { FaultsRightly keys.bucket_entry }
 {}
 
-/// Where a text ends too early the fault's place is the text's end, and any other fault stays the same whatever bytes
+/// Where a text ends too early the fault's offset is the text's end, and any other fault stays the same whatever bytes
 /// follow.
 #[tactic(auto, using(crate::proofs::AllLaws::all_laws))]
-pub fn faults_are_placed()
-    ensures hashes { PlacesFaults basic.hash }
-    ensures account_ids { PlacesFaults basic.account_id }
-    ensures claimable_balance_ids { PlacesFaults basic.claimable_balance_id }
-    ensures muxed_accounts { PlacesFaults basic.muxed_account }
-    ensures signer_keys { PlacesFaults basic.signer_key }
-    ensures signers { PlacesFaults basic.signer }
-    ensures assets { PlacesFaults basic.asset }
-    ensures trust_line_assets { PlacesFaults basic.trust_line_asset }
-    ensures pool_params { PlacesFaults basic.pool_params }
-    ensures change_trust_assets { PlacesFaults basic.change_trust_asset }
-    ensures prices { PlacesFaults basic.price }
-    ensures liabilities { PlacesFaults basic.liabilities }
-    ensures claim_predicates { PlacesFaults predicates.claim_predicate }
-    ensures account_extensions_v2 { PlacesFaults entries.account_extension_v2 }
-    ensures account_extensions_v1 { PlacesFaults entries.account_extension_v1 }
-    ensures account_entries { PlacesFaults entries.account_entry }
-    ensures trust_line_extensions_v2 { PlacesFaults entries.trust_line_extension_v2 }
-    ensures trust_line_extensions_v1 { PlacesFaults entries.trust_line_extension_v1 }
-    ensures trust_line_entries { PlacesFaults entries.trust_line_entry }
-    ensures offer_entries { PlacesFaults entries.offer_entry }
-    ensures data_entries { PlacesFaults entries.data_entry }
-    ensures claimants { PlacesFaults entries.claimant }
-    ensures claimable_balance_extensions_v1 { PlacesFaults entries.claimable_balance_extension_v1 }
-    ensures claimable_balance_entries { PlacesFaults entries.claimable_balance_entry }
-    ensures liquidity_pool_entries { PlacesFaults entries.liquidity_pool_entry }
-    ensures ledger_entry_bodies { PlacesFaults entries.ledger_entry_body }
-    ensures ledger_entry_extensions_v1 { PlacesFaults entries.ledger_entry_extension_v1 }
-    ensures ledger_entries { PlacesFaults entries.ledger_entry }
-    ensures ledger_keys { PlacesFaults keys.ledger_key }
-    ensures bucket_entries { PlacesFaults keys.bucket_entry }
+pub fn faults_are_located()
+    ensures hashes { LocatesFaults basic.hash }
+    ensures account_ids { LocatesFaults basic.account_id }
+    ensures claimable_balance_ids { LocatesFaults basic.claimable_balance_id }
+    ensures muxed_accounts { LocatesFaults basic.muxed_account }
+    ensures signer_keys { LocatesFaults basic.signer_key }
+    ensures signers { LocatesFaults basic.signer }
+    ensures assets { LocatesFaults basic.asset }
+    ensures trust_line_assets { LocatesFaults basic.trust_line_asset }
+    ensures pool_params { LocatesFaults basic.pool_params }
+    ensures change_trust_assets { LocatesFaults basic.change_trust_asset }
+    ensures prices { LocatesFaults basic.price }
+    ensures liabilities { LocatesFaults basic.liabilities }
+    ensures claim_predicates { LocatesFaults predicates.claim_predicate }
+    ensures account_extensions_v2 { LocatesFaults entries.account_extension_v2 }
+    ensures account_extensions_v1 { LocatesFaults entries.account_extension_v1 }
+    ensures account_entries { LocatesFaults entries.account_entry }
+    ensures trust_line_extensions_v2 { LocatesFaults entries.trust_line_extension_v2 }
+    ensures trust_line_extensions_v1 { LocatesFaults entries.trust_line_extension_v1 }
+    ensures trust_line_entries { LocatesFaults entries.trust_line_entry }
+    ensures offer_entries { LocatesFaults entries.offer_entry }
+    ensures data_entries { LocatesFaults entries.data_entry }
+    ensures claimants { LocatesFaults entries.claimant }
+    ensures claimable_balance_extensions_v1 { LocatesFaults entries.claimable_balance_extension_v1 }
+    ensures claimable_balance_entries { LocatesFaults entries.claimable_balance_entry }
+    ensures liquidity_pool_entries { LocatesFaults entries.liquidity_pool_entry }
+    ensures ledger_entry_bodies { LocatesFaults entries.ledger_entry_body }
+    ensures ledger_entry_extensions_v1 { LocatesFaults entries.ledger_entry_extension_v1 }
+    ensures ledger_entries { LocatesFaults entries.ledger_entry }
+    ensures ledger_keys { LocatesFaults keys.ledger_key }
+    ensures bucket_entries { LocatesFaults keys.bucket_entry }
 {}

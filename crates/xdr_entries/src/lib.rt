@@ -1,10 +1,10 @@
-//! The spellings of ledger entries, their keys and the items of buckets, read and written (protocol 18, over RFC 4506).
+//! The encodings of ledger entries, their keys and the items of buckets, read and written (protocol 18, over RFC 4506).
 //!
-//! A reader answers the value that a front of the text spells, and the cursor stands behind it; else it answers the
-//! first fault in reading order, and the cursor stands where it stood. A reader whose error is `XdrFault` takes no
-//! memory, and answers no want of it. A writer puts the spelling at the end of a text. The writers of entries, keys,
-//! items of buckets and predicates say so themselves; the others, whose values stand inside of wider ones, say it as
-//! `onto`, which the laws show to be the same.
+//! A reader answers the value that a prefix of the text encodes, and the cursor is after it; else it answers the first
+//! fault in reading order, and the cursor is where it was. A reader whose error is `XdrFault` takes no memory, and
+//! answers no allocation failure. A writer puts the encoding at the end of a text. The writers of entries, keys, items
+//! of buckets and predicates say so themselves; the others, whose values are parts of wider ones, say it as `onto`,
+//! which the laws show to be the same.
 #![tactic(auto)]
 
 mod account;

@@ -1,7 +1,7 @@
 //! Offers.
 
 ghost use Rattle.std.specs.Prelude.{◌≡◌, OnOk};
-ghost use Rattle.xdr_core.specs.Place.{Reads, itself};
+ghost use Rattle.xdr_core.specs.Position.{Reads, itself};
 ghost use Rattle.xdr_entries.specs.Entries as spec;
 
 use crate::asset::{read_asset, write_asset};

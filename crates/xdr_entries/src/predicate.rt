@@ -2,7 +2,7 @@
 
 ghost use Rattle.std.specs.Prelude.{◌≡◌, ◌+◌, ◌≤◌, ◌++◌, OnOk};
 ghost use Rattle.std.specs.List.{AllByRecursion};
-ghost use Rattle.xdr_core.specs.Place.{Reads};
+ghost use Rattle.xdr_core.specs.Position.{Reads};
 ghost use Rattle.xdr_core.specs.Combinators.{many_at};
 ghost use Rattle.xdr_core.specs.Xdr.{optional, list_of};
 ghost use Rattle.xdr_core.specs.ReadFault.{cause_of};
@@ -104,7 +104,7 @@ fn read_parts(
     Ok(parts)
 }
 
-/// Reads `len` predicates, one behind another.
+/// Reads `len` predicates, one after another.
 #[cycle(predicate)]
 fn read_many(
     alloc: Global,
@@ -143,13 +143,13 @@ fn read_inner(
     Ok(Some(inner))
 }
 
-/// Writes a predicate of at most 32 levels: its spelling stands at the end.
+/// Writes a predicate of at most 32 levels: its encoding is put at the end.
 pub fn write_claim_predicate(
     value: &ClaimPredicate,
     builder: &mut Builder,
 ) -> Result<(), AllocError>
     requires { claim_predicate.within value.now }
-    ensures { OnOk result (builder.new ≡ builder.old ++ claim_predicate.spell value.now) }
+    ensures { OnOk result (builder.new ≡ builder.old ++ claim_predicate.encoding value.now) }
 {
     write_below(value, MAX_LEVELS, builder)
 }
@@ -159,7 +159,7 @@ pub fn write_claim_predicate(
 #[tactic(auto, using(crate::proofs::Levels::written_one_level_more, crate::proofs::Levels::some_level))]
 fn write_below(value: &ClaimPredicate, levels: u32, builder: &mut Builder) -> Result<(), AllocError>
     requires { (predicate_below levels).within value.now }
-    ensures { OnOk result (builder.new ≡ builder.old ++ (predicate_below levels).spell value.now) }
+    ensures { OnOk result (builder.new ≡ builder.old ++ (predicate_below levels).encoding value.now) }
 {
     write_level(value, levels - 1, builder)
 }

@@ -1,7 +1,7 @@
 //! Prices and liabilities.
 
 ghost use Rattle.std.specs.Prelude.{◌≡◌, OnOk};
-ghost use Rattle.xdr_core.specs.Place.{Reads, itself};
+ghost use Rattle.xdr_core.specs.Position.{Reads, itself};
 ghost use Rattle.xdr_entries.specs.Basic as spec;
 
 use ledger_types::{Liabilities, Price};

@@ -1,7 +1,7 @@
 //! Signers and their keys.
 
 ghost use Rattle.std.specs.Prelude.{◌≡◌, OnOk};
-ghost use Rattle.xdr_core.specs.Place.{Reads, itself};
+ghost use Rattle.xdr_core.specs.Position.{Reads, itself};
 ghost use Rattle.xdr_entries.specs.Basic as spec;
 
 use crate::ids::{read_hash, write_hash};

@@ -1,7 +1,7 @@
 //! Trust lines.
 
 ghost use Rattle.std.specs.Prelude.{◌≡◌, OnOk};
-ghost use Rattle.xdr_core.specs.Place.{Reads, itself};
+ghost use Rattle.xdr_core.specs.Position.{Reads, itself};
 ghost use Rattle.xdr_entries.specs.Entries as spec;
 
 use crate::asset::{read_trust_line_asset, write_trust_line_asset};

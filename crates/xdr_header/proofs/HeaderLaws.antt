@@ -1,9 +1,7 @@
 -- The laws of the formats of headers, values and records.
-use Rattle.std.proofs.Common.{pos, refl, arith}
-use Rattle.xdr_core.proofs.FormatLaws.{Laws, written, u32_laws, u64_laws, i64_laws, var_laws, ◌&◌, struct_laws}
-use Rattle.xdr_core.proofs.FormatLaws.{whole_laws, closed_laws, tag_laws, list_laws, times_laws, arm_laws, found}
-use Rattle.xdr_core.proofs.FormatLaws.{union_laws, extension_laws}
-use Rattle.xdr_core.specs.Leaves.{var}
+use Rattle.xdr_header.proofs.Prelude.{pos, refl, arith, Laws, written, u32_laws, u64_laws, i64_laws, var_laws, ◌&◌}
+use Rattle.xdr_header.proofs.Prelude.{struct_laws, entire_laws, closed_laws, tag_laws, list_laws, times_laws, arm_laws}
+use Rattle.xdr_header.proofs.Prelude.{found, union_laws, extension_laws, var}
 use Rattle.xdr_core.proofs.Unions.{IsFound}
 use Rattle.xdr_entries.proofs.BasicLaws.{hash_laws, account_id_laws}
 use Rattle.xdr_tx.proofs.TransactionLaws.{transaction_set_laws}
@@ -71,12 +69,12 @@ counts_laws = struct_laws counts_fields (u32_laws & i64_laws & i64_laws & u32_la
 pub ledger_header_laws : Laws ledger_header
 unfolding ledger_header
 ledger_header_laws = struct_laws header_fields
-    (u32_laws & hash_laws & whole_laws stellar_value_laws & hash_laws & hash_laws & counts_laws)
+    (u32_laws & hash_laws & entire_laws stellar_value_laws & hash_laws & hash_laws & counts_laws)
 
 pub close_record_laws : Laws close_record
 unfolding close_record
 close_record_laws =
-    struct_laws record_fields (u32_laws & whole_laws transaction_set_laws & whole_laws stellar_value_laws)
+    struct_laws record_fields (u32_laws & entire_laws transaction_set_laws & entire_laws stellar_value_laws)
 
 -- what its writer goes by
 pub ruleset extension_written = (written, ledger_header_extension_v1_laws)

@@ -2,7 +2,7 @@
 use Rattle.std.specs.Prelude.{ℕ, ℤ, pos, List, [], ◌∷◌, Option, refl}
 use Rattle.xdr_core.specs.declared.fault.XdrFault.{XdrFault}
 use Rattle.xdr_core.specs.Leaves.{u32, u64, i64, var}
-use Rattle.xdr_core.specs.Combinators.{◌⨾◌, Fields, struct_of, whole, closed, times, Arm, Part, part}
+use Rattle.xdr_core.specs.Combinators.{◌⨾◌, Fields, struct_of, entire, closed, times, Arm, Part, part}
 use Rattle.xdr_core.specs.Xdr.{Xdr, tag, list_of, union_of, extension_of}
 use Rattle.ledger_types.specs.declared.ids.AccountId.{AccountId}
 use Rattle.ledger_types.specs.declared.ids.Hash.{Hash}
@@ -89,7 +89,7 @@ header_v1_fields = record {
 unfoldable pub ledger_header_extension_v1 : Xdr LedgerHeaderExtensionV1
 ledger_header_extension_v1 = struct_of header_v1_fields (closed u32 (tag (pos 0)))
 
--- what bounds the next ledgers, and what stands behind it in a header
+-- what bounds the next ledgers, and what follows it in a header
 abbrev pub limits_fields : Fields (ℕ × (ℕ × (ℕ × (List Hash × Option LedgerHeaderExtensionV1)))) Limits
 limits_fields = record {
   to = λ (base_fee, (base_reserve, (size, (skips, ext)))). record {
@@ -118,16 +118,16 @@ limits_of h = record {
   ext = h.ext;
 }
 
--- what a header counts, and what stands behind that
+-- what a header counts, and what follows that
 abbrev pub counts_fields : Fields (ℕ × (ℤ × (ℤ × (ℕ × (ℕ × Limits))))) Counts
 counts_fields = record {
-  to = λ (seq, (coins, (fees, (inflation, (ids, behind))))). record {
+  to = λ (seq, (coins, (fees, (inflation, (ids, after))))). record {
     ledger_seq = seq;
     total_coins = coins;
     fee_pool = fees;
     inflation_seq = inflation;
     id_pool = ids;
-    limits = behind;
+    limits = after;
   };
   from = λ c. (c.ledger_seq, (c.total_coins, (c.fee_pool, (c.inflation_seq, (c.id_pool, c.limits)))));
   there = λ _. refl;
@@ -147,28 +147,28 @@ counts_of h = record {
   limits = limits_of h;
 }
 
--- what closed a ledger, and what stands behind it in its header
+-- what closed a ledger, and what follows it in its header
 abbrev pub closing_parts : LedgerHeader → StellarValue × (Hash × (Hash × Counts))
 closing_parts h = (h.scp_value, (h.tx_set_result_hash, (h.bucket_list_hash, counts_of h)))
 
 abbrev pub header_fields : Fields (ℕ × (Hash × (StellarValue × (Hash × (Hash × Counts))))) LedgerHeader
 header_fields = record {
-  to = λ (version, (previous, (value, (results, (buckets, behind))))). record {
+  to = λ (version, (previous, (value, (results, (buckets, after))))). record {
     ledger_version = version;
     previous_ledger_hash = previous;
     scp_value = value;
     tx_set_result_hash = results;
     bucket_list_hash = buckets;
-    ledger_seq = behind.ledger_seq;
-    total_coins = behind.total_coins;
-    fee_pool = behind.fee_pool;
-    inflation_seq = behind.inflation_seq;
-    id_pool = behind.id_pool;
-    base_fee = behind.limits.base_fee;
-    base_reserve = behind.limits.base_reserve;
-    max_tx_set_size = behind.limits.max_tx_set_size;
-    skip_list = behind.limits.skip_list;
-    ext = behind.limits.ext;
+    ledger_seq = after.ledger_seq;
+    total_coins = after.total_coins;
+    fee_pool = after.fee_pool;
+    inflation_seq = after.inflation_seq;
+    id_pool = after.id_pool;
+    base_fee = after.limits.base_fee;
+    base_reserve = after.limits.base_reserve;
+    max_tx_set_size = after.limits.max_tx_set_size;
+    skip_list = after.limits.skip_list;
+    ext = after.limits.ext;
   };
   from = λ h. (h.ledger_version, (h.previous_ledger_hash, closing_parts h));
   there = λ _. refl;
@@ -176,4 +176,4 @@ header_fields = record {
 }
 
 unfoldable pub ledger_header : Xdr LedgerHeader
-ledger_header = struct_of header_fields (u32 ⨾ hash ⨾ whole stellar_value ⨾ hash ⨾ hash ⨾ counts)
+ledger_header = struct_of header_fields (u32 ⨾ hash ⨾ entire stellar_value ⨾ hash ⨾ hash ⨾ counts)

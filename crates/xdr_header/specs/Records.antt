@@ -1,7 +1,7 @@
 -- The format of what closes one ledger.
 use Rattle.std.specs.Prelude.{ℕ, refl}
 use Rattle.xdr_core.specs.Leaves.{u32}
-use Rattle.xdr_core.specs.Combinators.{◌⨾◌, Fields, struct_of, whole}
+use Rattle.xdr_core.specs.Combinators.{◌⨾◌, Fields, struct_of, entire}
 use Rattle.xdr_core.specs.Xdr.{Xdr}
 use Rattle.ledger_types.specs.declared.header.StellarValue.{StellarValue}
 use Rattle.op_types.specs.declared.transaction.TransactionSet.{TransactionSet}
@@ -18,4 +18,4 @@ record_fields = record {
 }
 
 unfoldable pub close_record : Xdr CloseRecord
-close_record = struct_of record_fields (u32 ⨾ whole transaction_set ⨾ whole stellar_value)
+close_record = struct_of record_fields (u32 ⨾ entire transaction_set ⨾ entire stellar_value)

@@ -1,7 +1,7 @@
 //! Records of closes.
 
 ghost use Rattle.std.specs.Prelude.{◌≡◌, ◌++◌, OnOk};
-ghost use Rattle.xdr_core.specs.Place.{Reads};
+ghost use Rattle.xdr_core.specs.Position.{Reads};
 ghost use Rattle.xdr_core.specs.ReadFault.{cause_of};
 ghost use Rattle.xdr_header.specs.Records as spec;
 
@@ -32,7 +32,7 @@ pub fn read_close_record(alloc: Global, cursor: &mut Cursor<'_>) -> Result<Close
 #[tactic(auto, using(xdr_core::proofs::FormatLaws::written, crate::proofs::HeaderLaws::close_record_laws))]
 pub fn write_close_record(value: &CloseRecord, builder: &mut Builder) -> Result<(), AllocError>
     requires { spec.close_record.within value.now }
-    ensures { OnOk result (builder.new ≡ builder.old ++ spec.close_record.spell value.now) }
+    ensures { OnOk result (builder.new ≡ builder.old ++ spec.close_record.encoding value.now) }
 {
     write_record_fields(value, builder)
 }

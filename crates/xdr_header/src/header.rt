@@ -1,7 +1,7 @@
 //! Ledger headers.
 
 ghost use Rattle.std.specs.Prelude.{◌≡◌, ◌++◌, OnOk};
-ghost use Rattle.xdr_core.specs.Place.{Reads, itself};
+ghost use Rattle.xdr_core.specs.Position.{Reads, itself};
 ghost use Rattle.xdr_core.specs.ReadFault.{cause_of};
 ghost use Rattle.xdr_core.specs.Combinators.{times};
 ghost use Rattle.xdr_entries.specs.Basic.{hash};
@@ -68,7 +68,7 @@ fn write_skip_list(skip_list: &[Hash; 4], builder: &mut Builder) -> Result<(), A
     Ok(())
 }
 
-/// What bounds the next ledgers, and what stands behind it in a header.
+/// What bounds the next ledgers, and what follows it in a header.
 #[derive(Drop)]
 struct Limits {
     base_fee: u32,
@@ -78,7 +78,7 @@ struct Limits {
     ext: Option<LedgerHeaderExtensionV1>,
 }
 
-/// What a header counts, and what stands behind that.
+/// What a header counts, and what follows that.
 #[derive(Drop)]
 struct Counts {
     ledger_seq: u32,
@@ -89,7 +89,7 @@ struct Counts {
     limits: Limits,
 }
 
-/// Reads what bounds the next ledgers, and what stands behind it.
+/// Reads what bounds the next ledgers, and what follows it.
 #[tactic(auto, unfolding(crate::specs::Header::limits))]
 fn read_limits(alloc: Global, cursor: &mut Cursor<'_>) -> Result<Limits, ReadFault>
     ensures { Reads cause_of result cursor.old cursor.new (spec.limits.read cursor.old) }
@@ -110,7 +110,7 @@ fn read_limits(alloc: Global, cursor: &mut Cursor<'_>) -> Result<Limits, ReadFau
     })
 }
 
-/// Reads what a header counts, and what stands behind that.
+/// Reads what a header counts, and what follows that.
 #[tactic(auto, unfolding(crate::specs::Header::counts))]
 fn read_counts(alloc: Global, cursor: &mut Cursor<'_>) -> Result<Counts, ReadFault>
     ensures { Reads cause_of result cursor.old cursor.new (spec.counts.read cursor.old) }
@@ -170,7 +170,7 @@ pub fn read_ledger_header(alloc: Global, cursor: &mut Cursor<'_>) -> Result<Ledg
 #[tactic(auto, using(xdr_core::proofs::FormatLaws::written, crate::proofs::HeaderLaws::ledger_header_laws))]
 pub fn write_ledger_header(value: &LedgerHeader, builder: &mut Builder) -> Result<(), AllocError>
     requires { spec.ledger_header.within value.now }
-    ensures { OnOk result (builder.new ≡ builder.old ++ spec.ledger_header.spell value.now) }
+    ensures { OnOk result (builder.new ≡ builder.old ++ spec.ledger_header.encoding value.now) }
 {
     write_header_fields(value, builder)
 }
@@ -189,7 +189,7 @@ fn write_header_fields(value: &LedgerHeader, builder: &mut Builder) -> Result<()
     write_counts(value, builder)
 }
 
-/// Writes what a header counts, and what stands behind that.
+/// Writes what a header counts, and what follows that.
 #[tactic(auto, unfolding(crate::specs::Header::counts))]
 fn write_counts(value: &LedgerHeader, builder: &mut Builder) -> Result<(), AllocError>
     requires { spec.counts.within (spec.counts_of value.now) }
@@ -203,7 +203,7 @@ fn write_counts(value: &LedgerHeader, builder: &mut Builder) -> Result<(), Alloc
     write_limits(value, builder)
 }
 
-/// Writes what bounds the next ledgers, and what stands behind it.
+/// Writes what bounds the next ledgers, and what follows it.
 #[tactic(auto, unfolding(crate::specs::Header::limits))]
 fn write_limits(value: &LedgerHeader, builder: &mut Builder) -> Result<(), AllocError>
     requires { spec.limits.within (spec.limits_of value.now) }

@@ -1,4 +1,4 @@
-//! The spellings of ledger headers, of the records that close ledgers and of the images that ledgers start from, read
+//! The encodings of ledger headers, of the records that close ledgers and of the images that ledgers start from, read
 //! and written. Headers and values are those of protocol 18 (over RFC 4506); the record and the image are this ledger's
 //! own.
 #![tactic(auto)]

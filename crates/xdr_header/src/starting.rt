@@ -1,7 +1,7 @@
 //! Start images.
 
 ghost use Rattle.std.specs.Prelude.{◌≡◌, ◌++◌, ◌≤◌, length, IfOk, OnOk};
-ghost use Rattle.xdr_core.specs.Place.{Reads, ReadsBy, itself};
+ghost use Rattle.xdr_core.specs.Position.{Reads, ReadsBy, itself};
 ghost use Rattle.xdr_core.specs.ReadFault.{cause_of};
 ghost use Rattle.xdr_header.specs.Image as spec;
 
@@ -22,7 +22,7 @@ const FILES: u32 = 22;
 /// The most bytes of the files together.
 const MAX_FILES_LEN: u64 = 536870912;
 
-/// Reads at most `max` bytes behind their number, with no padding. A number above `max` is `TooLong`.
+/// Reads at most `max` bytes after their number, with no padding. A number above `max` is `TooLong`.
 #[tactic(auto, unfolding(crate::specs::Image::file))]
 fn read_file<'a>(max: u64, cursor: &mut Cursor<'a>) -> Result<&'a [u8], XdrFault>
     ensures reads { ReadsBy (λ bytes. bytes.now) itself result cursor.old cursor.new ((spec.file max).read cursor.old) }
@@ -59,7 +59,7 @@ fn read_files(
     Ok(files)
 }
 
-/// Writes files one behind another, each behind its length.
+/// Writes files one after another, each after its length.
 fn write_files(files: &[ItemList<u8>], left: u64, builder: &mut Builder) -> Result<(), AllocError>
     requires { (spec.files FILES left).within files.now }
     ensures { OnOk result (builder.new ≡ (spec.files FILES left).onto builder.old files.now) }
@@ -88,7 +88,7 @@ pub fn read_start_image(alloc: Global, cursor: &mut Cursor<'_>) -> Result<StartI
 #[tactic(auto, using(xdr_core::proofs::FormatLaws::written, crate::proofs::ImageLaws::start_image_laws))]
 pub fn write_start_image(value: &StartImage, builder: &mut Builder) -> Result<(), AllocError>
     requires { spec.start_image.within value.now }
-    ensures { OnOk result (builder.new ≡ builder.old ++ spec.start_image.spell value.now) }
+    ensures { OnOk result (builder.new ≡ builder.old ++ spec.start_image.encoding value.now) }
 {
     write_image_fields(value, builder)
 }

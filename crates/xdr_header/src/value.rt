@@ -1,7 +1,7 @@
 //! What the network agrees upon, and upgrades.
 
 ghost use Rattle.std.specs.Prelude.{◌≡◌, ◌++◌, OnOk};
-ghost use Rattle.xdr_core.specs.Place.{Reads, itself};
+ghost use Rattle.xdr_core.specs.Position.{Reads, itself};
 ghost use Rattle.xdr_core.specs.ReadFault.{cause_of};
 ghost use Rattle.xdr_core.specs.Leaves.{var};
 ghost use Rattle.xdr_header.specs.Header as spec;
@@ -90,7 +90,7 @@ pub fn read_stellar_value(alloc: Global, cursor: &mut Cursor<'_>) -> Result<Stel
 #[tactic(auto, using(xdr_core::proofs::FormatLaws::written, crate::proofs::HeaderLaws::stellar_value_laws))]
 pub fn write_stellar_value(value: &StellarValue, builder: &mut Builder) -> Result<(), AllocError>
     requires { spec.stellar_value.within value.now }
-    ensures { OnOk result (builder.new ≡ builder.old ++ spec.stellar_value.spell value.now) }
+    ensures { OnOk result (builder.new ≡ builder.old ++ spec.stellar_value.encoding value.now) }
 {
     write_value_fields(value, builder)
 }
@@ -128,12 +128,12 @@ pub fn read_ledger_upgrade(cursor: &mut Cursor<'_>) -> Result<LedgerUpgrade, Xdr
 /// Writes an upgrade.
 #[tactic(auto, using(xdr_core::proofs::FormatLaws::written, crate::proofs::HeaderLaws::ledger_upgrade_laws))]
 pub fn write_ledger_upgrade(value: &LedgerUpgrade, builder: &mut Builder) -> Result<(), AllocError>
-    ensures { OnOk result (builder.new ≡ builder.old ++ spec.ledger_upgrade.spell value.now) }
+    ensures { OnOk result (builder.new ≡ builder.old ++ spec.ledger_upgrade.encoding value.now) }
 {
     write_upgrade_arm(value, builder)
 }
 
-/// Writes the type of an upgrade and what stands behind it.
+/// Writes the type of an upgrade and what follows it.
 #[tactic(auto, unfolding(crate::specs::Header::ledger_upgrade))]
 fn write_upgrade_arm(value: &LedgerUpgrade, builder: &mut Builder) -> Result<(), AllocError>
     ensures { OnOk result (builder.new ≡ spec.ledger_upgrade.onto builder.old value.now) }

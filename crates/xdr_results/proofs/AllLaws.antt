@@ -1,6 +1,6 @@
 -- The laws of each format, and what follows of them, as one set.
 use Rattle.xdr_core.proofs.Grammar.{prefix_free, faults_rightly}
-use Rattle.xdr_core.proofs.FormatLaws.{lawful_of, faults_placed}
+use Rattle.xdr_core.proofs.FormatLaws.{lawful_of, faults_located}
 use Rattle.xdr_results.proofs.PayloadLaws.{claim_atom_laws, simple_payment_result_laws, path_payment_success_laws}
 use Rattle.xdr_results.proofs.PayloadLaws.{manage_offer_effect_laws, manage_offer_success_laws, inflation_payout_laws}
 use Rattle.xdr_results.proofs.AnswerLaws.{create_account_result_laws, payment_result_laws}
@@ -24,7 +24,7 @@ pub ruleset all_laws = (
   prefix_free,
   faults_rightly,
   lawful_of,
-  faults_placed,
+  faults_located,
   claim_atom_laws,
   simple_payment_result_laws,
   path_payment_success_laws,

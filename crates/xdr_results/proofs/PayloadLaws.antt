@@ -1,4 +1,4 @@
--- The laws of the formats of what stands behind codes.
+-- The laws of the formats of what follows codes.
 use Rattle.std.proofs.Common.{pos, refl, arith}
 use Rattle.xdr_core.proofs.FormatLaws.{Laws, i64_laws, fixed_laws, empty_laws, ◌&◌, struct_laws, list_laws, arm_laws}
 use Rattle.xdr_core.proofs.FormatLaws.{found, union_laws}

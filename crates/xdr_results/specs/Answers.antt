@@ -104,7 +104,7 @@ atom_part (atoms.LiquidityPool pool sold amount_sold bought amount_bought) =
 unfoldable pub claim_atom : Xdr ClaimAtom
 claim_atom = union_of atom_part atom_arms
 
--- ---- what stands behind codes
+-- ---- what follows codes
 
 abbrev pub simple_fields : Fields (AccountId × (Asset × ℤ)) SimplePaymentResult
 simple_fields = record {

@@ -1,7 +1,7 @@
 //! What operations on claimable balances answer.
 
 ghost use Rattle.std.specs.Prelude.{◌≡◌, OnOk};
-ghost use Rattle.xdr_core.specs.Place.{Reads, itself};
+ghost use Rattle.xdr_core.specs.Position.{Reads, itself};
 ghost use Rattle.xdr_results.specs.Answers as spec;
 
 use crate::coded::{plain_value, read_code, write_code};

@@ -1,7 +1,7 @@
 //! What trades moved.
 
 ghost use Rattle.std.specs.Prelude.{◌≡◌, OnOk};
-ghost use Rattle.xdr_core.specs.Place.{Reads, itself};
+ghost use Rattle.xdr_core.specs.Position.{Reads, itself};
 ghost use Rattle.xdr_core.specs.Combinators.{arm_at};
 ghost use Rattle.xdr_results.specs.Answers as spec;
 

@@ -1,7 +1,7 @@
-//! Values that have nothing behind their discriminant.
+//! Values that have nothing after their discriminant.
 
 ghost use Rattle.std.specs.Prelude.{◌≡◌, OnOk, MatchResult, Ok, Err};
-ghost use Rattle.xdr_core.specs.Place.{Place, Reads, itself};
+ghost use Rattle.xdr_core.specs.Position.{Position, Reads, itself};
 ghost use Rattle.xdr_core.specs.Combinators.{pick};
 ghost use Rattle.xdr_core.specs.Xdr.{no_arm};
 ghost use Rattle.xdr_results.specs.Coded.{plain_arms, codes};
@@ -10,12 +10,12 @@ use op_types::Coded;
 use std::alloc::AllocError;
 use xdr_core::{Builder, Cursor, XdrFault, XdrKind};
 
-/// The value whose discriminant is `code`, and that has nothing behind it. `start` stands at the discriminant.
+/// The value whose discriminant is `code`, and that has nothing after it. `start` is at the discriminant.
 #[tactic(auto, using(crate::proofs::Plain::pick_plain))]
 pub fn plain_value<C: Coded>(code: i32, start: &Cursor<'_>) -> Result<C, XdrFault>
     ensures { MatchResult result
-        (λ value. (p : Place) → pick (plain_arms C.number C.values) no_arm start.now (code, p) ≡ Ok (value, p))
-        (λ fault. (p : Place) → pick (plain_arms C.number C.values) no_arm start.now (code, p) ≡ Err fault) }
+        (λ value. (p : Position) → pick (plain_arms C.number C.values) no_arm start.now (code, p) ≡ Ok (value, p))
+        (λ fault. (p : Position) → pick (plain_arms C.number C.values) no_arm start.now (code, p) ≡ Err fault) }
 {
     match C::from_code(code) {
         Some(value) => Ok(value),
@@ -23,7 +23,7 @@ pub fn plain_value<C: Coded>(code: i32, start: &Cursor<'_>) -> Result<C, XdrFaul
     }
 }
 
-/// Reads a value that has nothing behind its discriminant.
+/// Reads a value that has nothing after its discriminant.
 pub fn read_code<C: Coded>(cursor: &mut Cursor<'_>) -> Result<C, XdrFault>
     ensures { Reads itself result cursor.old cursor.new ((codes C.number C.values).read cursor.old) }
 {
@@ -33,7 +33,7 @@ pub fn read_code<C: Coded>(cursor: &mut Cursor<'_>) -> Result<C, XdrFault>
     Ok(value)
 }
 
-/// Writes a value that has nothing behind its discriminant.
+/// Writes a value that has nothing after its discriminant.
 pub fn write_code<C: Coded>(value: &C, builder: &mut Builder) -> Result<(), AllocError>
     ensures { OnOk result (builder.new ≡ (codes C.number C.values).onto builder.old value.now) }
 {

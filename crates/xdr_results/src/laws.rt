@@ -1,12 +1,12 @@
 //! The laws of the formats, as contracts.
 
-ghost use Rattle.xdr_core.specs.Format.{Lawful, IsPrefixFree, FaultsRightly, PlacesFaults};
+ghost use Rattle.xdr_core.specs.Format.{Lawful, IsPrefixFree, FaultsRightly, LocatesFaults};
 ghost use Rattle.xdr_results.specs.Answers as answer_formats;
 ghost use Rattle.xdr_results.specs.Results as result_formats;
 
-/// What is read is spelled so, what is spelled so is read whatever follows, and writing puts the spelling at the end.
+/// What is read is encoded so, what is encoded so is read whatever follows, and writing puts the encoding at the end.
 #[tactic(auto, using(crate::proofs::AllLaws::all_laws))]
-pub fn reading_and_spelling_agree()
+pub fn reading_and_encoding_agree()
     ensures claim_atoms { Lawful answer_formats.claim_atom }
     ensures simple_payment_results { Lawful answer_formats.simple_payment_result }
     ensures path_payment_success { Lawful answer_formats.path_payment_success }
@@ -46,9 +46,9 @@ pub fn reading_and_spelling_agree()
     ensures transaction_result_sets { Lawful result_formats.transaction_result_set }
 {}
 
-/// No spelling of a type begins another of that type.
+/// No encoding of a type is a prefix of another of that type.
 #[tactic(auto, using(crate::proofs::AllLaws::all_laws))]
-pub fn no_spelling_begins_another()
+pub fn no_encoding_begins_another()
     ensures claim_atoms { IsPrefixFree answer_formats.claim_atom }
     ensures simple_payment_results { IsPrefixFree answer_formats.simple_payment_result }
     ensures path_payment_success { IsPrefixFree answer_formats.path_payment_success }
@@ -88,9 +88,9 @@ pub fn no_spelling_begins_another()
     ensures transaction_result_sets { IsPrefixFree result_formats.transaction_result_set }
 {}
 
-/// A fault comes only where no front of the text is a spelling.
+/// A fault comes only where no prefix of the text is an encoding.
 #[tactic(auto, using(crate::proofs::AllLaws::all_laws))]
-pub fn faults_come_only_without_spelling()
+pub fn faults_come_only_without_encoding()
     ensures claim_atoms { FaultsRightly answer_formats.claim_atom }
     ensures simple_payment_results { FaultsRightly answer_formats.simple_payment_result }
     ensures path_payment_success { FaultsRightly answer_formats.path_payment_success }
@@ -130,45 +130,45 @@ pub fn faults_come_only_without_spelling()
     ensures transaction_result_sets { FaultsRightly result_formats.transaction_result_set }
 {}
 
-/// Where a text ends too early the fault's place is the text's end, and any other fault stays the same whatever bytes
+/// Where a text ends too early the fault's offset is the text's end, and any other fault stays the same whatever bytes
 /// follow.
 #[tactic(auto, using(crate::proofs::AllLaws::all_laws))]
-pub fn faults_are_placed()
-    ensures claim_atoms { PlacesFaults answer_formats.claim_atom }
-    ensures simple_payment_results { PlacesFaults answer_formats.simple_payment_result }
-    ensures path_payment_success { PlacesFaults answer_formats.path_payment_success }
-    ensures manage_offer_effects { PlacesFaults answer_formats.manage_offer_effect }
-    ensures manage_offer_success { PlacesFaults answer_formats.manage_offer_success }
-    ensures inflation_payouts { PlacesFaults answer_formats.inflation_payout }
-    ensures create_account_results { PlacesFaults answer_formats.create_account_result }
-    ensures payment_results { PlacesFaults answer_formats.payment_result }
-    ensures path_payment_strict_receive_results { PlacesFaults answer_formats.path_payment_strict_receive_result }
-    ensures path_payment_strict_send_results { PlacesFaults answer_formats.path_payment_strict_send_result }
-    ensures manage_offer_results { PlacesFaults answer_formats.manage_offer_result }
-    ensures set_options_results { PlacesFaults answer_formats.set_options_result }
-    ensures change_trust_results { PlacesFaults answer_formats.change_trust_result }
-    ensures allow_trust_results { PlacesFaults answer_formats.allow_trust_result }
-    ensures account_merge_results { PlacesFaults answer_formats.account_merge_result }
-    ensures inflation_results { PlacesFaults answer_formats.inflation_result }
-    ensures manage_data_results { PlacesFaults answer_formats.manage_data_result }
-    ensures bump_sequence_results { PlacesFaults answer_formats.bump_sequence_result }
-    ensures create_claimable_balance_results { PlacesFaults answer_formats.create_claimable_balance_result }
-    ensures claim_claimable_balance_results { PlacesFaults answer_formats.claim_claimable_balance_result }
-    ensures begun_sponsorships { PlacesFaults answer_formats.begin_sponsoring_future_reserves_result }
-    ensures ended_sponsorships { PlacesFaults answer_formats.end_sponsoring_future_reserves_result }
-    ensures revoke_sponsorship_results { PlacesFaults answer_formats.revoke_sponsorship_result }
-    ensures clawback_results { PlacesFaults answer_formats.clawback_result }
-    ensures clawback_claimable_balance_results { PlacesFaults answer_formats.clawback_claimable_balance_result }
-    ensures set_trust_line_flags_results { PlacesFaults answer_formats.set_trust_line_flags_result }
-    ensures liquidity_pool_deposit_results { PlacesFaults answer_formats.liquidity_pool_deposit_result }
-    ensures liquidity_pool_withdraw_results { PlacesFaults answer_formats.liquidity_pool_withdraw_result }
-    ensures operation_result_trs { PlacesFaults result_formats.operation_result_tr }
-    ensures operation_results { PlacesFaults result_formats.operation_result }
-    ensures inner_transaction_outcomes { PlacesFaults result_formats.inner_transaction_outcome }
-    ensures inner_transaction_results { PlacesFaults result_formats.inner_transaction_result }
-    ensures inner_transaction_result_pairs { PlacesFaults result_formats.inner_transaction_result_pair }
-    ensures transaction_outcomes { PlacesFaults result_formats.transaction_outcome }
-    ensures transaction_results { PlacesFaults result_formats.transaction_result }
-    ensures transaction_result_pairs { PlacesFaults result_formats.transaction_result_pair }
-    ensures transaction_result_sets { PlacesFaults result_formats.transaction_result_set }
+pub fn faults_are_located()
+    ensures claim_atoms { LocatesFaults answer_formats.claim_atom }
+    ensures simple_payment_results { LocatesFaults answer_formats.simple_payment_result }
+    ensures path_payment_success { LocatesFaults answer_formats.path_payment_success }
+    ensures manage_offer_effects { LocatesFaults answer_formats.manage_offer_effect }
+    ensures manage_offer_success { LocatesFaults answer_formats.manage_offer_success }
+    ensures inflation_payouts { LocatesFaults answer_formats.inflation_payout }
+    ensures create_account_results { LocatesFaults answer_formats.create_account_result }
+    ensures payment_results { LocatesFaults answer_formats.payment_result }
+    ensures path_payment_strict_receive_results { LocatesFaults answer_formats.path_payment_strict_receive_result }
+    ensures path_payment_strict_send_results { LocatesFaults answer_formats.path_payment_strict_send_result }
+    ensures manage_offer_results { LocatesFaults answer_formats.manage_offer_result }
+    ensures set_options_results { LocatesFaults answer_formats.set_options_result }
+    ensures change_trust_results { LocatesFaults answer_formats.change_trust_result }
+    ensures allow_trust_results { LocatesFaults answer_formats.allow_trust_result }
+    ensures account_merge_results { LocatesFaults answer_formats.account_merge_result }
+    ensures inflation_results { LocatesFaults answer_formats.inflation_result }
+    ensures manage_data_results { LocatesFaults answer_formats.manage_data_result }
+    ensures bump_sequence_results { LocatesFaults answer_formats.bump_sequence_result }
+    ensures create_claimable_balance_results { LocatesFaults answer_formats.create_claimable_balance_result }
+    ensures claim_claimable_balance_results { LocatesFaults answer_formats.claim_claimable_balance_result }
+    ensures begun_sponsorships { LocatesFaults answer_formats.begin_sponsoring_future_reserves_result }
+    ensures ended_sponsorships { LocatesFaults answer_formats.end_sponsoring_future_reserves_result }
+    ensures revoke_sponsorship_results { LocatesFaults answer_formats.revoke_sponsorship_result }
+    ensures clawback_results { LocatesFaults answer_formats.clawback_result }
+    ensures clawback_claimable_balance_results { LocatesFaults answer_formats.clawback_claimable_balance_result }
+    ensures set_trust_line_flags_results { LocatesFaults answer_formats.set_trust_line_flags_result }
+    ensures liquidity_pool_deposit_results { LocatesFaults answer_formats.liquidity_pool_deposit_result }
+    ensures liquidity_pool_withdraw_results { LocatesFaults answer_formats.liquidity_pool_withdraw_result }
+    ensures operation_result_trs { LocatesFaults result_formats.operation_result_tr }
+    ensures operation_results { LocatesFaults result_formats.operation_result }
+    ensures inner_transaction_outcomes { LocatesFaults result_formats.inner_transaction_outcome }
+    ensures inner_transaction_results { LocatesFaults result_formats.inner_transaction_result }
+    ensures inner_transaction_result_pairs { LocatesFaults result_formats.inner_transaction_result_pair }
+    ensures transaction_outcomes { LocatesFaults result_formats.transaction_outcome }
+    ensures transaction_results { LocatesFaults result_formats.transaction_result }
+    ensures transaction_result_pairs { LocatesFaults result_formats.transaction_result_pair }
+    ensures transaction_result_sets { LocatesFaults result_formats.transaction_result_set }
 {}

@@ -1,7 +1,7 @@
 //! What operations answer.
 
 ghost use Rattle.std.specs.Prelude.{◌≡◌, OnOk};
-ghost use Rattle.xdr_core.specs.Place.{Reads};
+ghost use Rattle.xdr_core.specs.Position.{Reads};
 ghost use Rattle.xdr_core.specs.ReadFault.{cause_of};
 ghost use Rattle.xdr_core.specs.Combinators.{pick};
 ghost use Rattle.xdr_core.specs.Xdr.{no_arm};
@@ -83,7 +83,7 @@ pub fn read_operation_result_tr(
     Ok(answer)
 }
 
-/// Reads what an operation answers whose type is 6 or above. `start` stands at the operation's type.
+/// Reads what an operation answers whose type is 6 or above. `start` is at the operation's type.
 #[tactic(auto, unfolding(crate::specs::Results::second_run_arms))]
 fn read_second_run(
     alloc: Global,
@@ -108,7 +108,7 @@ fn read_second_run(
     Ok(answer)
 }
 
-/// Reads what an operation answers whose type is 12 or above. `start` stands at the operation's type.
+/// Reads what an operation answers whose type is 12 or above. `start` is at the operation's type.
 #[tactic(auto, unfolding(crate::specs::Results::third_run_arms))]
 fn read_third_run(
     alloc: Global,
@@ -145,7 +145,7 @@ fn read_third_run(
     Ok(answer)
 }
 
-/// Reads what an operation answers whose type is 18 or above. `start` stands at the operation's type.
+/// Reads what an operation answers whose type is 18 or above. `start` is at the operation's type.
 #[tactic(auto, unfolding(crate::specs::Results::last_run_arms))]
 fn read_last_run(
     alloc: Global,

@@ -1,7 +1,7 @@
 //! What transactions answer.
 
 ghost use Rattle.std.specs.Prelude.{◌≡◌, ◌++◌, OnOk};
-ghost use Rattle.xdr_core.specs.Place.{Reads};
+ghost use Rattle.xdr_core.specs.Position.{Reads};
 ghost use Rattle.xdr_core.specs.ReadFault.{cause_of};
 ghost use Rattle.xdr_results.specs.Results as spec;
 
@@ -263,7 +263,7 @@ pub fn write_transaction_result_pair(
     builder: &mut Builder,
 ) -> Result<(), AllocError>
     requires { spec.transaction_result_pair.within value.now }
-    ensures { OnOk result (builder.new ≡ builder.old ++ spec.transaction_result_pair.spell value.now) }
+    ensures { OnOk result (builder.new ≡ builder.old ++ spec.transaction_result_pair.encoding value.now) }
 {
     write_pair_fields(value, builder)
 }
@@ -320,12 +320,12 @@ pub fn write_transaction_result_set(
     builder: &mut Builder,
 ) -> Result<(), AllocError>
     requires { spec.transaction_result_set.within value.now }
-    ensures { OnOk result (builder.new ≡ builder.old ++ spec.transaction_result_set.spell value.now) }
+    ensures { OnOk result (builder.new ≡ builder.old ++ spec.transaction_result_set.encoding value.now) }
 {
     write_set_fields(value, builder)
 }
 
-/// Writes the results of a set one behind another, behind their number.
+/// Writes the results of a set one after another, after their number.
 #[tactic(auto, unfolding(crate::specs::Results::transaction_result_set))]
 fn write_set_fields(value: &TransactionResultSet, builder: &mut Builder) -> Result<(), AllocError>
     requires { spec.transaction_result_set.within value.now }

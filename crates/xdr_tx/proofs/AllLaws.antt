@@ -1,6 +1,6 @@
 -- The laws of each format, and what follows of them, as one set.
 use Rattle.xdr_core.proofs.Grammar.{prefix_free, faults_rightly}
-use Rattle.xdr_core.proofs.FormatLaws.{lawful_of, faults_placed}
+use Rattle.xdr_core.proofs.FormatLaws.{lawful_of, faults_located}
 use Rattle.xdr_tx.proofs.OperationLaws.{create_account_op_laws, set_options_op_laws, account_merge_op_laws}
 use Rattle.xdr_tx.proofs.OperationLaws.{manage_data_op_laws, bump_sequence_op_laws, payment_op_laws}
 use Rattle.xdr_tx.proofs.OperationLaws.{path_payment_strict_receive_op_laws, path_payment_strict_send_op_laws}
@@ -21,7 +21,7 @@ pub ruleset all_laws = (
   prefix_free,
   faults_rightly,
   lawful_of,
-  faults_placed,
+  faults_located,
   create_account_op_laws,
   set_options_op_laws,
   account_merge_op_laws,

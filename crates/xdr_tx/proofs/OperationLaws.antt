@@ -1,6 +1,6 @@
 -- The laws of the formats of operations.
 use Rattle.std.proofs.Common.{pos, refl, arith}
-use Rattle.xdr_core.proofs.FormatLaws.{Laws, u32_laws, i64_laws, fixed_laws, var_laws, ◌&◌, struct_laws, whole_laws}
+use Rattle.xdr_core.proofs.FormatLaws.{Laws, u32_laws, i64_laws, fixed_laws, var_laws, ◌&◌, struct_laws, entire_laws}
 use Rattle.xdr_core.proofs.FormatLaws.{option_laws, list_laws, arm_laws, found, union_laws}
 use Rattle.xdr_core.proofs.Unions.{IsFound}
 use Rattle.xdr_entries.proofs.BasicLaws.{hash_laws, account_id_laws, claimable_balance_id_laws, muxed_account_laws}
@@ -131,14 +131,14 @@ begin_sponsoring_future_reserves_op_laws = struct_laws begin_sponsoring_future_r
 
 revoke_sponsorship_op_found : (v : RevokeSponsorshipOp) → IsFound revoke_part revoke_arms v
 revoke_sponsorship_op_found (revoking.LedgerEntry key) =
-    found revoke_entry key (whole_laws ledger_key_laws) tt refl refl (λ _ _ _. refl)
+    found revoke_entry key (entire_laws ledger_key_laws) tt refl refl (λ _ _ _. refl)
 revoke_sponsorship_op_found (revoking.Signer id key) =
     found revoke_signer (id, key) (account_id_laws & signer_key_laws) tt refl refl (λ _ _ _. refl)
 
 pub revoke_sponsorship_op_laws : Laws revoke_sponsorship_op
 unfolding revoke_sponsorship_op
 revoke_sponsorship_op_laws = union_laws (
-  arm_laws (whole_laws ledger_key_laws) (λ x. refl),
+  arm_laws (entire_laws ledger_key_laws) (λ x. refl),
   (arm_laws (account_id_laws & signer_key_laws) (λ x. refl), tt),
 )
     revoke_sponsorship_op_found

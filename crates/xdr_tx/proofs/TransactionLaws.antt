@@ -1,7 +1,7 @@
 -- The laws of the formats of transactions, envelopes and sets.
 use Rattle.std.proofs.Common.{pos, refl, arith}
 use Rattle.xdr_core.proofs.FormatLaws.{Laws, written, u32_laws, u64_laws, i64_laws, fixed_laws, var_laws, empty_laws}
-use Rattle.xdr_core.proofs.FormatLaws.{◌&◌, struct_laws, whole_laws, marked_laws, closed_laws, tag_laws, option_laws}
+use Rattle.xdr_core.proofs.FormatLaws.{◌&◌, struct_laws, entire_laws, marked_laws, closed_laws, tag_laws, option_laws}
 use Rattle.xdr_core.proofs.FormatLaws.{list_laws, arm_laws, found, union_laws}
 use Rattle.xdr_core.proofs.Unions.{IsFound}
 use Rattle.xdr_entries.proofs.BasicLaws.{hash_laws, muxed_account_laws}
@@ -12,7 +12,7 @@ use Rattle.op_types.specs.declared.transaction.TransactionEnvelope.TheVariants a
 use Rattle.xdr_tx.proofs.BodyLaws.{operation_laws}
 use Rattle.xdr_tx.specs.Transactions.{memo_none, memo_text, memo_id, memo_hash, memo_return, memo_arms, memo_part, memo}
 use Rattle.xdr_tx.specs.Transactions.{time_bounds_fields, time_bounds, signature_fields, decorated_signature}
-use Rattle.xdr_tx.specs.Transactions.{behind_source_fields, behind_source, transaction_fields, transaction}
+use Rattle.xdr_tx.specs.Transactions.{after_source_fields, after_source, transaction_fields, transaction}
 use Rattle.xdr_tx.specs.Transactions.{transaction_v0_fields, transaction_v0, v1_fields, transaction_v1_envelope}
 use Rattle.xdr_tx.specs.Transactions.{v0_fields, transaction_v0_envelope, fee_bump_fields, fee_bump_transaction}
 use Rattle.xdr_tx.specs.Transactions.{bump_fields, fee_bump_envelope, envelope_v0, envelope_v1, envelope_fee_bump}
@@ -50,29 +50,29 @@ pub decorated_signature_laws : Laws decorated_signature
 unfolding decorated_signature
 decorated_signature_laws = struct_laws signature_fields (fixed_laws 4 & var_laws 64 (omega arith))
 
-pub behind_source_laws : Laws behind_source
-unfolding behind_source
-behind_source_laws = struct_laws behind_source_fields
+pub after_source_laws : Laws after_source
+unfolding after_source
+after_source_laws = struct_laws after_source_fields
     (u32_laws & i64_laws & option_laws time_bounds_laws & memo_laws
     & closed_laws (list_laws 100 (omega arith) operation_laws) (tag_laws (pos 0) tt))
 
 pub transaction_laws : Laws transaction
 unfolding transaction
-transaction_laws = struct_laws transaction_fields (muxed_account_laws & behind_source_laws)
+transaction_laws = struct_laws transaction_fields (muxed_account_laws & after_source_laws)
 
 pub transaction_v0_laws : Laws transaction_v0
 unfolding transaction_v0
-transaction_v0_laws = struct_laws transaction_v0_fields (fixed_laws 32 & behind_source_laws)
+transaction_v0_laws = struct_laws transaction_v0_fields (fixed_laws 32 & after_source_laws)
 
 pub transaction_v1_envelope_laws : Laws transaction_v1_envelope
 unfolding transaction_v1_envelope
 transaction_v1_envelope_laws = struct_laws v1_fields
-    (whole_laws transaction_laws & list_laws 20 (omega arith) decorated_signature_laws)
+    (entire_laws transaction_laws & list_laws 20 (omega arith) decorated_signature_laws)
 
 pub transaction_v0_envelope_laws : Laws transaction_v0_envelope
 unfolding transaction_v0_envelope
 transaction_v0_envelope_laws = struct_laws v0_fields
-    (whole_laws transaction_v0_laws & list_laws 20 (omega arith) decorated_signature_laws)
+    (entire_laws transaction_v0_laws & list_laws 20 (omega arith) decorated_signature_laws)
 
 pub fee_bump_transaction_laws : Laws fee_bump_transaction
 unfolding fee_bump_transaction
@@ -83,7 +83,7 @@ fee_bump_transaction_laws = struct_laws fee_bump_fields
 pub fee_bump_envelope_laws : Laws fee_bump_envelope
 unfolding fee_bump_envelope
 fee_bump_envelope_laws = struct_laws bump_fields
-    (whole_laws fee_bump_transaction_laws & list_laws 20 (omega arith) decorated_signature_laws)
+    (entire_laws fee_bump_transaction_laws & list_laws 20 (omega arith) decorated_signature_laws)
 
 transaction_envelope_found : (v : TransactionEnvelope) → IsFound envelope_part envelope_arms v
 transaction_envelope_found (envelope.V0 inner) =

@@ -2,7 +2,7 @@
 use Rattle.std.specs.Prelude.{ℕ, ℤ, pos, List, [], ◌∷◌, Option, refl}
 use Rattle.xdr_core.specs.declared.fault.XdrFault.{XdrFault}
 use Rattle.xdr_core.specs.Leaves.{u32, i64, fixed, var}
-use Rattle.xdr_core.specs.Combinators.{◌⨾◌, Fields, struct_of, whole, empty, Arm, Part, part}
+use Rattle.xdr_core.specs.Combinators.{◌⨾◌, Fields, struct_of, entire, empty, Arm, Part, part}
 use Rattle.xdr_core.specs.Xdr.{Xdr, optional, list_of, union_of}
 use Rattle.ledger_types.specs.declared.ids.AccountId.{AccountId}
 use Rattle.ledger_types.specs.declared.ids.MuxedAccount.{MuxedAccount}
@@ -63,7 +63,7 @@ create_account_op_fields = record {
 unfoldable pub create_account_op : Xdr CreateAccountOp
 create_account_op = struct_of create_account_op_fields (account_id ⨾ i64)
 
--- the thresholds that are set, and what stands behind them
+-- the thresholds that are set, and what follows them
 abbrev pub ThresholdParts : Type 0
 ThresholdParts = Option ℕ × (Option ℕ × (Option ℕ × (Option (List ℕ) × Option Signer)))
 
@@ -373,7 +373,7 @@ unfoldable pub begin_sponsoring_future_reserves_op : Xdr BeginSponsoringFutureRe
 begin_sponsoring_future_reserves_op = struct_of begin_sponsoring_future_reserves_op_fields (account_id)
 
 abbrev pub revoke_entry : Arm XdrFault RevokeSponsorshipOp
-revoke_entry = arm (pos 0) (whole ledger_key) revoking.LedgerEntry
+revoke_entry = arm (pos 0) (entire ledger_key) revoking.LedgerEntry
 
 abbrev pub revoke_signer : Arm XdrFault RevokeSponsorshipOp
 revoke_signer = arm (pos 1) (account_id ⨾ signer_key) (λ v. revoking.Signer v.0 v.1)

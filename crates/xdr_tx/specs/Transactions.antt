@@ -3,7 +3,7 @@
 use Rattle.std.specs.Prelude.{ℕ, ℤ, pos, List, [], ◌∷◌, Option, refl}
 use Rattle.xdr_core.specs.declared.fault.XdrFault.{XdrFault}
 use Rattle.xdr_core.specs.Leaves.{u32, u64, i64, fixed, var}
-use Rattle.xdr_core.specs.Combinators.{◌⨾◌, Fields, struct_of, whole, marked, closed, empty, Arm, Part, part}
+use Rattle.xdr_core.specs.Combinators.{◌⨾◌, Fields, struct_of, entire, marked, closed, empty, Arm, Part, part}
 use Rattle.xdr_core.specs.Xdr.{Xdr, tag, optional, list_of, union_of}
 use Rattle.ledger_types.specs.declared.envelope_type.TheConstants as types
 use Rattle.ledger_types.specs.declared.ids.MuxedAccount.{MuxedAccount}
@@ -23,7 +23,7 @@ use Rattle.op_types.specs.declared.transaction.TransactionEnvelope.{TransactionE
 use Rattle.op_types.specs.declared.transaction.TransactionSet.{TransactionSet}
 use Rattle.op_types.specs.declared.transaction.TransactionEnvelope.TheVariants as envelope
 use Rattle.xdr_entries.specs.Basic.{arm, hash, muxed_account}
-use Rattle.xdr_tx.specs.declared.transaction.BehindSource.{BehindSource}
+use Rattle.xdr_tx.specs.declared.transaction.AfterSource.{AfterSource}
 use Rattle.xdr_tx.specs.Operations.{operation}
 
 -- ---- parts of transactions
@@ -80,9 +80,9 @@ decorated_signature = struct_of signature_fields (fixed 4 ⨾ var 64)
 
 -- ---- transactions
 
--- what both versions of a transaction have behind their source
-abbrev pub behind_source_fields : Fields (ℕ × (ℤ × (Option TimeBounds × (Memo × List Operation)))) BehindSource
-behind_source_fields = record {
+-- what both versions of a transaction have after their source
+abbrev pub after_source_fields : Fields (ℕ × (ℤ × (Option TimeBounds × (Memo × List Operation)))) AfterSource
+after_source_fields = record {
   to = λ (fee, (seq_num, (bounds, (note, operations)))). record {
     fee = fee;
     seq_num = seq_num;
@@ -95,8 +95,8 @@ behind_source_fields = record {
   back = λ _. refl;
 }
 
-abbrev pub behind : ℕ → ℤ → Option TimeBounds → Memo → List Operation → BehindSource
-behind fee seq_num bounds note operations = record {
+abbrev pub after : ℕ → ℤ → Option TimeBounds → Memo → List Operation → AfterSource
+after fee seq_num bounds note operations = record {
   fee = fee;
   seq_num = seq_num;
   time_bounds = bounds;
@@ -104,47 +104,47 @@ behind fee seq_num bounds note operations = record {
   operations = operations;
 }
 
-unfoldable pub behind_source : Xdr BehindSource
-behind_source =
-    struct_of behind_source_fields
+unfoldable pub after_source : Xdr AfterSource
+after_source =
+    struct_of after_source_fields
     (u32 ⨾ i64 ⨾ optional time_bounds ⨾ memo ⨾ closed (list_of 100 operation) (tag (pos 0)))
 
-abbrev pub transaction_fields : Fields (MuxedAccount × BehindSource) Transaction
+abbrev pub transaction_fields : Fields (MuxedAccount × AfterSource) Transaction
 transaction_fields = record {
-  to = λ (source, behind). record {
+  to = λ (source, after). record {
     source_account = source;
-    fee = behind.fee;
-    seq_num = behind.seq_num;
-    time_bounds = behind.time_bounds;
-    memo = behind.memo;
-    operations = behind.operations;
+    fee = after.fee;
+    seq_num = after.seq_num;
+    time_bounds = after.time_bounds;
+    memo = after.memo;
+    operations = after.operations;
   };
-  from = λ t. (t.source_account, behind t.fee t.seq_num t.time_bounds t.memo t.operations);
+  from = λ t. (t.source_account, after t.fee t.seq_num t.time_bounds t.memo t.operations);
   there = λ _. refl;
   back = λ _. refl;
 }
 
 unfoldable pub transaction : Xdr Transaction
-transaction = struct_of transaction_fields (muxed_account ⨾ behind_source)
+transaction = struct_of transaction_fields (muxed_account ⨾ after_source)
 
-abbrev pub transaction_v0_fields : Fields (List ℕ × BehindSource) TransactionV0
+abbrev pub transaction_v0_fields : Fields (List ℕ × AfterSource) TransactionV0
 transaction_v0_fields = record {
-  to = λ (key, behind). record {
+  to = λ (key, after). record {
     source_account_ed25519 = key;
-    fee = behind.fee;
-    seq_num = behind.seq_num;
-    time_bounds = behind.time_bounds;
-    memo = behind.memo;
-    operations = behind.operations;
+    fee = after.fee;
+    seq_num = after.seq_num;
+    time_bounds = after.time_bounds;
+    memo = after.memo;
+    operations = after.operations;
   };
-  from = λ t. (t.source_account_ed25519, behind t.fee t.seq_num t.time_bounds t.memo t.operations);
+  from = λ t. (t.source_account_ed25519, after t.fee t.seq_num t.time_bounds t.memo t.operations);
   there = λ _. refl;
   back = λ _. refl;
 }
 
 -- its source is a key without a type
 unfoldable pub transaction_v0 : Xdr TransactionV0
-transaction_v0 = struct_of transaction_v0_fields (fixed 32 ⨾ behind_source)
+transaction_v0 = struct_of transaction_v0_fields (fixed 32 ⨾ after_source)
 
 -- ---- envelopes
 
@@ -157,7 +157,7 @@ v1_fields = record {
 }
 
 unfoldable pub transaction_v1_envelope : Xdr TransactionV1Envelope
-transaction_v1_envelope = struct_of v1_fields (whole transaction ⨾ list_of 20 decorated_signature)
+transaction_v1_envelope = struct_of v1_fields (entire transaction ⨾ list_of 20 decorated_signature)
 
 abbrev pub v0_fields : Fields (TransactionV0 × List DecoratedSignature) TransactionV0Envelope
 v0_fields = record {
@@ -168,7 +168,7 @@ v0_fields = record {
 }
 
 unfoldable pub transaction_v0_envelope : Xdr TransactionV0Envelope
-transaction_v0_envelope = struct_of v0_fields (whole transaction_v0 ⨾ list_of 20 decorated_signature)
+transaction_v0_envelope = struct_of v0_fields (entire transaction_v0 ⨾ list_of 20 decorated_signature)
 
 abbrev pub fee_bump_fields : Fields (MuxedAccount × (ℤ × TransactionV1Envelope)) FeeBumpTransaction
 fee_bump_fields = record {
@@ -194,7 +194,7 @@ bump_fields = record {
 }
 
 unfoldable pub fee_bump_envelope : Xdr FeeBumpTransactionEnvelope
-fee_bump_envelope = struct_of bump_fields (whole fee_bump_transaction ⨾ list_of 20 decorated_signature)
+fee_bump_envelope = struct_of bump_fields (entire fee_bump_transaction ⨾ list_of 20 decorated_signature)
 
 abbrev pub envelope_v0 : Arm XdrFault TransactionEnvelope
 envelope_v0 = arm types.ENVELOPE_TYPE_TX_V0 transaction_v0_envelope envelope.V0

@@ -1,7 +1,7 @@
 //! Transactions with their signatures, and sets of them.
 
 ghost use Rattle.std.specs.Prelude.{◌≡◌, ◌++◌, OnOk};
-ghost use Rattle.xdr_core.specs.Place.{Reads};
+ghost use Rattle.xdr_core.specs.Position.{Reads};
 ghost use Rattle.xdr_core.specs.ReadFault.{cause_of};
 ghost use Rattle.xdr_tx.specs.Transactions as spec;
 
@@ -113,7 +113,7 @@ pub fn write_fee_bump_transaction(
     builder: &mut Builder,
 ) -> Result<(), AllocError>
     requires { spec.fee_bump_transaction.within value.now }
-    ensures { OnOk result (builder.new ≡ builder.old ++ spec.fee_bump_transaction.spell value.now) }
+    ensures { OnOk result (builder.new ≡ builder.old ++ spec.fee_bump_transaction.encoding value.now) }
 {
     write_fee_bump_fields(value, builder)
 }
@@ -194,12 +194,12 @@ pub fn write_transaction_envelope(
     builder: &mut Builder,
 ) -> Result<(), AllocError>
     requires { spec.transaction_envelope.within value.now }
-    ensures { OnOk result (builder.new ≡ builder.old ++ spec.transaction_envelope.spell value.now) }
+    ensures { OnOk result (builder.new ≡ builder.old ++ spec.transaction_envelope.encoding value.now) }
 {
     write_envelope_arm(value, builder)
 }
 
-/// Writes the type of an envelope and what stands behind it.
+/// Writes the type of an envelope and what follows it.
 #[tactic(auto, unfolding(crate::specs::Transactions::transaction_envelope))]
 fn write_envelope_arm(value: &TransactionEnvelope, builder: &mut Builder) -> Result<(), AllocError>
     requires { spec.transaction_envelope.within value.now }
@@ -267,7 +267,7 @@ pub fn write_transaction_set(
     builder: &mut Builder,
 ) -> Result<(), AllocError>
     requires { spec.transaction_set.within value.now }
-    ensures { OnOk result (builder.new ≡ builder.old ++ spec.transaction_set.spell value.now) }
+    ensures { OnOk result (builder.new ≡ builder.old ++ spec.transaction_set.encoding value.now) }
 {
     write_set_fields(value, builder)
 }

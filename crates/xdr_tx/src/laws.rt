@@ -1,12 +1,12 @@
 //! The laws of the formats, as contracts.
 
-ghost use Rattle.xdr_core.specs.Format.{Lawful, IsPrefixFree, FaultsRightly, PlacesFaults};
+ghost use Rattle.xdr_core.specs.Format.{Lawful, IsPrefixFree, FaultsRightly, LocatesFaults};
 ghost use Rattle.xdr_tx.specs.Operations as operation_formats;
 ghost use Rattle.xdr_tx.specs.Transactions as transaction_formats;
 
-/// What is read is spelled so, what is spelled so is read whatever follows, and writing puts the spelling at the end.
+/// What is read is encoded so, what is encoded so is read whatever follows, and writing puts the encoding at the end.
 #[tactic(auto, using(crate::proofs::AllLaws::all_laws))]
-pub fn reading_and_spelling_agree()
+pub fn reading_and_encoding_agree()
     ensures create_account_ops { Lawful operation_formats.create_account_op }
     ensures set_options_ops { Lawful operation_formats.set_options_op }
     ensures account_merge_ops { Lawful operation_formats.account_merge_op }
@@ -45,9 +45,9 @@ pub fn reading_and_spelling_agree()
     ensures transaction_sets { Lawful transaction_formats.transaction_set }
 {}
 
-/// No spelling of a type begins another of that type.
+/// No encoding of a type is a prefix of another of that type.
 #[tactic(auto, using(crate::proofs::AllLaws::all_laws))]
-pub fn no_spelling_begins_another()
+pub fn no_encoding_begins_another()
     ensures create_account_ops { IsPrefixFree operation_formats.create_account_op }
     ensures set_options_ops { IsPrefixFree operation_formats.set_options_op }
     ensures account_merge_ops { IsPrefixFree operation_formats.account_merge_op }
@@ -86,9 +86,9 @@ pub fn no_spelling_begins_another()
     ensures transaction_sets { IsPrefixFree transaction_formats.transaction_set }
 {}
 
-/// A fault comes only where no front of the text is a spelling.
+/// A fault comes only where no prefix of the text is an encoding.
 #[tactic(auto, using(crate::proofs::AllLaws::all_laws))]
-pub fn faults_come_only_without_spelling()
+pub fn faults_come_only_without_encoding()
     ensures create_account_ops { FaultsRightly operation_formats.create_account_op }
     ensures set_options_ops { FaultsRightly operation_formats.set_options_op }
     ensures account_merge_ops { FaultsRightly operation_formats.account_merge_op }
@@ -127,44 +127,44 @@ pub fn faults_come_only_without_spelling()
     ensures transaction_sets { FaultsRightly transaction_formats.transaction_set }
 {}
 
-/// Where a text ends too early the fault's place is the text's end, and any other fault stays the same whatever bytes
+/// Where a text ends too early the fault's offset is the text's end, and any other fault stays the same whatever bytes
 /// follow.
 #[tactic(auto, using(crate::proofs::AllLaws::all_laws))]
-pub fn faults_are_placed()
-    ensures create_account_ops { PlacesFaults operation_formats.create_account_op }
-    ensures set_options_ops { PlacesFaults operation_formats.set_options_op }
-    ensures account_merge_ops { PlacesFaults operation_formats.account_merge_op }
-    ensures manage_data_ops { PlacesFaults operation_formats.manage_data_op }
-    ensures bump_sequence_ops { PlacesFaults operation_formats.bump_sequence_op }
-    ensures payment_ops { PlacesFaults operation_formats.payment_op }
-    ensures path_payment_strict_receive_ops { PlacesFaults operation_formats.path_payment_strict_receive_op }
-    ensures path_payment_strict_send_ops { PlacesFaults operation_formats.path_payment_strict_send_op }
-    ensures manage_sell_offer_ops { PlacesFaults operation_formats.manage_sell_offer_op }
-    ensures create_passive_sell_offer_ops { PlacesFaults operation_formats.create_passive_sell_offer_op }
-    ensures manage_buy_offer_ops { PlacesFaults operation_formats.manage_buy_offer_op }
-    ensures change_trust_ops { PlacesFaults operation_formats.change_trust_op }
-    ensures asset_codes { PlacesFaults operation_formats.asset_code }
-    ensures allow_trust_ops { PlacesFaults operation_formats.allow_trust_op }
-    ensures set_trust_line_flags_ops { PlacesFaults operation_formats.set_trust_line_flags_op }
-    ensures clawback_ops { PlacesFaults operation_formats.clawback_op }
-    ensures create_claimable_balance_ops { PlacesFaults operation_formats.create_claimable_balance_op }
-    ensures claim_claimable_balance_ops { PlacesFaults operation_formats.claim_claimable_balance_op }
-    ensures clawback_claimable_balance_ops { PlacesFaults operation_formats.clawback_claimable_balance_op }
-    ensures begin_sponsoring_future_reserves_ops { PlacesFaults operation_formats.begin_sponsoring_future_reserves_op }
-    ensures revoke_sponsorship_ops { PlacesFaults operation_formats.revoke_sponsorship_op }
-    ensures liquidity_pool_deposit_ops { PlacesFaults operation_formats.liquidity_pool_deposit_op }
-    ensures liquidity_pool_withdraw_ops { PlacesFaults operation_formats.liquidity_pool_withdraw_op }
-    ensures operation_bodies { PlacesFaults operation_formats.operation_body }
-    ensures operations { PlacesFaults operation_formats.operation }
-    ensures memos { PlacesFaults transaction_formats.memo }
-    ensures time_bounds { PlacesFaults transaction_formats.time_bounds }
-    ensures decorated_signatures { PlacesFaults transaction_formats.decorated_signature }
-    ensures transactions { PlacesFaults transaction_formats.transaction }
-    ensures transaction_v0s { PlacesFaults transaction_formats.transaction_v0 }
-    ensures transaction_v1_envelopes { PlacesFaults transaction_formats.transaction_v1_envelope }
-    ensures transaction_v0_envelopes { PlacesFaults transaction_formats.transaction_v0_envelope }
-    ensures fee_bump_transactions { PlacesFaults transaction_formats.fee_bump_transaction }
-    ensures fee_bump_envelopes { PlacesFaults transaction_formats.fee_bump_envelope }
-    ensures transaction_envelopes { PlacesFaults transaction_formats.transaction_envelope }
-    ensures transaction_sets { PlacesFaults transaction_formats.transaction_set }
+pub fn faults_are_located()
+    ensures create_account_ops { LocatesFaults operation_formats.create_account_op }
+    ensures set_options_ops { LocatesFaults operation_formats.set_options_op }
+    ensures account_merge_ops { LocatesFaults operation_formats.account_merge_op }
+    ensures manage_data_ops { LocatesFaults operation_formats.manage_data_op }
+    ensures bump_sequence_ops { LocatesFaults operation_formats.bump_sequence_op }
+    ensures payment_ops { LocatesFaults operation_formats.payment_op }
+    ensures path_payment_strict_receive_ops { LocatesFaults operation_formats.path_payment_strict_receive_op }
+    ensures path_payment_strict_send_ops { LocatesFaults operation_formats.path_payment_strict_send_op }
+    ensures manage_sell_offer_ops { LocatesFaults operation_formats.manage_sell_offer_op }
+    ensures create_passive_sell_offer_ops { LocatesFaults operation_formats.create_passive_sell_offer_op }
+    ensures manage_buy_offer_ops { LocatesFaults operation_formats.manage_buy_offer_op }
+    ensures change_trust_ops { LocatesFaults operation_formats.change_trust_op }
+    ensures asset_codes { LocatesFaults operation_formats.asset_code }
+    ensures allow_trust_ops { LocatesFaults operation_formats.allow_trust_op }
+    ensures set_trust_line_flags_ops { LocatesFaults operation_formats.set_trust_line_flags_op }
+    ensures clawback_ops { LocatesFaults operation_formats.clawback_op }
+    ensures create_claimable_balance_ops { LocatesFaults operation_formats.create_claimable_balance_op }
+    ensures claim_claimable_balance_ops { LocatesFaults operation_formats.claim_claimable_balance_op }
+    ensures clawback_claimable_balance_ops { LocatesFaults operation_formats.clawback_claimable_balance_op }
+    ensures begin_sponsoring_future_reserves_ops { LocatesFaults operation_formats.begin_sponsoring_future_reserves_op }
+    ensures revoke_sponsorship_ops { LocatesFaults operation_formats.revoke_sponsorship_op }
+    ensures liquidity_pool_deposit_ops { LocatesFaults operation_formats.liquidity_pool_deposit_op }
+    ensures liquidity_pool_withdraw_ops { LocatesFaults operation_formats.liquidity_pool_withdraw_op }
+    ensures operation_bodies { LocatesFaults operation_formats.operation_body }
+    ensures operations { LocatesFaults operation_formats.operation }
+    ensures memos { LocatesFaults transaction_formats.memo }
+    ensures time_bounds { LocatesFaults transaction_formats.time_bounds }
+    ensures decorated_signatures { LocatesFaults transaction_formats.decorated_signature }
+    ensures transactions { LocatesFaults transaction_formats.transaction }
+    ensures transaction_v0s { LocatesFaults transaction_formats.transaction_v0 }
+    ensures transaction_v1_envelopes { LocatesFaults transaction_formats.transaction_v1_envelope }
+    ensures transaction_v0_envelopes { LocatesFaults transaction_formats.transaction_v0_envelope }
+    ensures fee_bump_transactions { LocatesFaults transaction_formats.fee_bump_transaction }
+    ensures fee_bump_envelopes { LocatesFaults transaction_formats.fee_bump_envelope }
+    ensures transaction_envelopes { LocatesFaults transaction_formats.transaction_envelope }
+    ensures transaction_sets { LocatesFaults transaction_formats.transaction_set }
 {}

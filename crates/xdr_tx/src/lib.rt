@@ -1,9 +1,9 @@
-//! The spellings of operations, transactions, their envelopes and sets of them, read and written (protocol 18, over RFC
+//! The encodings of operations, transactions, their envelopes and sets of them, read and written (protocol 18, over RFC
 //! 4506).
 //!
-//! A reader answers the value that a front of the text spells, and the cursor stands behind it; else it answers the
-//! first fault in reading order, and the cursor stands where it stood. A writer puts the spelling at the end of a text.
-//! Where a value has no list or optional field its reader takes no memory, and answers no want of it.
+//! A reader answers the value that a prefix of the text encodes, and the cursor is after it; else it answers the first
+//! fault in reading order, and the cursor is where it was. A writer puts the encoding at the end of a text. Where a
+//! value has no list or optional field its reader takes no memory, and answers no allocation failure.
 #![tactic(auto)]
 
 mod account_ops;

@@ -1,7 +1,7 @@
 //! Operations.
 
 ghost use Rattle.std.specs.Prelude.{◌≡◌, OnOk};
-ghost use Rattle.xdr_core.specs.Place.{Place, Reads};
+ghost use Rattle.xdr_core.specs.Position.{Position, Reads};
 ghost use Rattle.xdr_core.specs.ReadFault.{cause_of};
 ghost use Rattle.xdr_core.specs.Combinators.{pick};
 ghost use Rattle.xdr_core.specs.Xdr.{no_arm};
@@ -76,7 +76,7 @@ pub fn read_operation_body(
     Ok(body)
 }
 
-/// Reads what an operation does whose type is 6 or above. `start` stands at the operation's type.
+/// Reads what an operation does whose type is 6 or above. `start` is at the operation's type.
 #[tactic(auto, unfolding(crate::specs::Operations::second_body_arms))]
 fn read_second_body(
     alloc: Global,
@@ -101,7 +101,7 @@ fn read_second_body(
     Ok(body)
 }
 
-/// Reads what an operation does whose type is 12 or above. `start` stands at the operation's type.
+/// Reads what an operation does whose type is 12 or above. `start` is at the operation's type.
 #[tactic(auto, unfolding(crate::specs::Operations::third_body_arms))]
 fn read_third_body(
     alloc: Global,
@@ -134,7 +134,7 @@ fn read_third_body(
     Ok(body)
 }
 
-/// Reads what an operation does whose type is 18 or above. `start` stands at the operation's type.
+/// Reads what an operation does whose type is 18 or above. `start` is at the operation's type.
 #[tactic(auto, unfolding(crate::specs::Operations::last_body_arms))]
 fn read_last_body(
     alloc: Global,

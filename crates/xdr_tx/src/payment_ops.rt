@@ -1,7 +1,7 @@
 //! Payments.
 
 ghost use Rattle.std.specs.Prelude.{◌≡◌, OnOk};
-ghost use Rattle.xdr_core.specs.Place.{Reads, itself};
+ghost use Rattle.xdr_core.specs.Position.{Reads, itself};
 ghost use Rattle.xdr_core.specs.ReadFault.{cause_of};
 ghost use Rattle.xdr_tx.specs.Operations as spec;
 
@@ -83,7 +83,7 @@ pub fn write_path_payment_strict_receive_op(
     write_list::<AssetFormat>(value.path.as_slice(), MAX_PATH_LEN, builder)
 }
 
-/// Reads a payment along a path whose front is fixed.
+/// Reads a payment along a path whose start is fixed.
 #[tactic(auto, unfolding(crate::specs::Operations::path_payment_strict_send_op))]
 pub fn read_path_payment_strict_send_op(
     alloc: Global,
@@ -109,7 +109,7 @@ pub fn read_path_payment_strict_send_op(
     })
 }
 
-/// Writes a payment along a path whose front is fixed.
+/// Writes a payment along a path whose start is fixed.
 #[tactic(auto, unfolding(crate::specs::Operations::path_payment_strict_send_op))]
 pub fn write_path_payment_strict_send_op(
     value: &PathPaymentStrictSendOp,

@@ -1,7 +1,7 @@
 //! Liquidity pools.
 
 ghost use Rattle.std.specs.Prelude.{◌≡◌, OnOk};
-ghost use Rattle.xdr_core.specs.Place.{Reads, itself};
+ghost use Rattle.xdr_core.specs.Position.{Reads, itself};
 ghost use Rattle.xdr_tx.specs.Operations as spec;
 
 use op_types::{LiquidityPoolDepositOp, LiquidityPoolWithdrawOp};

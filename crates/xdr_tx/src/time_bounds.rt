@@ -1,7 +1,7 @@
 //! Time bounds.
 
 ghost use Rattle.std.specs.Prelude.{◌≡◌, OnOk};
-ghost use Rattle.xdr_core.specs.Place.{Reads, itself};
+ghost use Rattle.xdr_core.specs.Position.{Reads, itself};
 ghost use Rattle.xdr_tx.specs.Transactions as spec;
 
 use op_types::TimeBounds;

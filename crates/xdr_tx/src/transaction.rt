@@ -1,7 +1,7 @@
 //! Transactions without their signatures.
 
 ghost use Rattle.std.specs.Prelude.{◌≡◌, ◌++◌, OnOk};
-ghost use Rattle.xdr_core.specs.Place.{Reads};
+ghost use Rattle.xdr_core.specs.Position.{Reads};
 ghost use Rattle.xdr_core.specs.ReadFault.{cause_of};
 ghost use Rattle.xdr_tx.specs.Transactions as spec;
 
@@ -17,9 +17,9 @@ use xdr_entries::{read_muxed_account, write_muxed_account};
 /// The most operations of a transaction (MAX_OPS_PER_TX in Stellar-transaction.x).
 const MAX_OPERATIONS: u32 = 100;
 
-/// What both versions of a transaction have behind their source.
+/// What both versions of a transaction have after their source.
 #[derive(Drop)]
-struct BehindSource {
+struct AfterSource {
     fee: u32,
     seq_num: i64,
     time_bounds: Option<TimeBounds>,
@@ -27,10 +27,10 @@ struct BehindSource {
     operations: ItemList<Operation>,
 }
 
-/// Reads what both versions have behind their source.
-#[tactic(auto, unfolding(crate::specs::Transactions::behind_source))]
-fn read_behind_source(alloc: Global, cursor: &mut Cursor<'_>) -> Result<BehindSource, ReadFault>
-    ensures { Reads cause_of result cursor.old cursor.new (spec.behind_source.read cursor.old) }
+/// Reads what both versions have after their source.
+#[tactic(auto, unfolding(crate::specs::Transactions::after_source))]
+fn read_after_source(alloc: Global, cursor: &mut Cursor<'_>) -> Result<AfterSource, ReadFault>
+    ensures { Reads cause_of result cursor.old cursor.new (spec.after_source.read cursor.old) }
 {
     let mut ahead = cursor.fork();
     let fee = ahead.u32()?;
@@ -40,7 +40,7 @@ fn read_behind_source(alloc: Global, cursor: &mut Cursor<'_>) -> Result<BehindSo
     let operations = read_list::<OperationFormat>(alloc, MAX_OPERATIONS, &mut ahead)?;
     ahead.tag(0)?;
     *cursor = ahead;
-    Ok(BehindSource {
+    Ok(AfterSource {
         fee,
         seq_num,
         time_bounds,
@@ -49,9 +49,9 @@ fn read_behind_source(alloc: Global, cursor: &mut Cursor<'_>) -> Result<BehindSo
     })
 }
 
-/// Writes what both versions have behind their source.
-#[tactic(auto, unfolding(crate::specs::Transactions::behind_source, xdr_core::specs::Combinators::constant))]
-fn write_behind_source(
+/// Writes what both versions have after their source.
+#[tactic(auto, unfolding(crate::specs::Transactions::after_source, xdr_core::specs::Combinators::constant))]
+fn write_after_source(
     fee: u32,
     seq_num: i64,
     time_bounds: &Option<TimeBounds>,
@@ -59,9 +59,9 @@ fn write_behind_source(
     operations: &[Operation],
     builder: &mut Builder,
 ) -> Result<(), AllocError>
-    requires { spec.behind_source.within (spec.behind fee seq_num time_bounds.now memo.now operations.now) }
+    requires { spec.after_source.within (spec.after fee seq_num time_bounds.now memo.now operations.now) }
     ensures { OnOk result (builder.new
-        ≡ spec.behind_source.onto builder.old (spec.behind fee seq_num time_bounds.now memo.now operations.now)) }
+        ≡ spec.after_source.onto builder.old (spec.after fee seq_num time_bounds.now memo.now operations.now)) }
 {
     builder.u32(fee)?;
     builder.i64(seq_num)?;
@@ -78,15 +78,15 @@ pub fn read_transaction(alloc: Global, cursor: &mut Cursor<'_>) -> Result<Transa
 {
     let mut ahead = cursor.fork();
     let source_account = read_muxed_account(&mut ahead)?;
-    let behind = read_behind_source(alloc, &mut ahead)?;
+    let after = read_after_source(alloc, &mut ahead)?;
     *cursor = ahead;
     Ok(Transaction {
         source_account,
-        fee: behind.fee,
-        seq_num: behind.seq_num,
-        time_bounds: behind.time_bounds,
-        memo: behind.memo,
-        operations: behind.operations,
+        fee: after.fee,
+        seq_num: after.seq_num,
+        time_bounds: after.time_bounds,
+        memo: after.memo,
+        operations: after.operations,
     })
 }
 
@@ -94,7 +94,7 @@ pub fn read_transaction(alloc: Global, cursor: &mut Cursor<'_>) -> Result<Transa
 #[tactic(auto, using(xdr_core::proofs::FormatLaws::written, crate::proofs::TransactionLaws::transaction_laws))]
 pub fn write_transaction(value: &Transaction, builder: &mut Builder) -> Result<(), AllocError>
     requires { spec.transaction.within value.now }
-    ensures { OnOk result (builder.new ≡ builder.old ++ spec.transaction.spell value.now) }
+    ensures { OnOk result (builder.new ≡ builder.old ++ spec.transaction.encoding value.now) }
 {
     write_transaction_fields(value, builder)
 }
@@ -106,7 +106,7 @@ fn write_transaction_fields(value: &Transaction, builder: &mut Builder) -> Resul
     ensures { OnOk result (builder.new ≡ spec.transaction.onto builder.old value.now) }
 {
     write_muxed_account(&value.source_account, builder)?;
-    write_behind_source(
+    write_after_source(
         value.fee,
         value.seq_num,
         &value.time_bounds,
@@ -126,15 +126,15 @@ pub fn read_transaction_v0(
 {
     let mut ahead = cursor.fork();
     let source_account_ed25519 = ahead.array::<32>()?;
-    let behind = read_behind_source(alloc, &mut ahead)?;
+    let after = read_after_source(alloc, &mut ahead)?;
     *cursor = ahead;
     Ok(TransactionV0 {
         source_account_ed25519,
-        fee: behind.fee,
-        seq_num: behind.seq_num,
-        time_bounds: behind.time_bounds,
-        memo: behind.memo,
-        operations: behind.operations,
+        fee: after.fee,
+        seq_num: after.seq_num,
+        time_bounds: after.time_bounds,
+        memo: after.memo,
+        operations: after.operations,
     })
 }
 
@@ -142,7 +142,7 @@ pub fn read_transaction_v0(
 #[tactic(auto, using(xdr_core::proofs::FormatLaws::written, crate::proofs::TransactionLaws::transaction_v0_laws))]
 pub fn write_transaction_v0(value: &TransactionV0, builder: &mut Builder) -> Result<(), AllocError>
     requires { spec.transaction_v0.within value.now }
-    ensures { OnOk result (builder.new ≡ builder.old ++ spec.transaction_v0.spell value.now) }
+    ensures { OnOk result (builder.new ≡ builder.old ++ spec.transaction_v0.encoding value.now) }
 {
     write_transaction_v0_fields(value, builder)
 }
@@ -157,7 +157,7 @@ fn write_transaction_v0_fields(
     ensures { OnOk result (builder.new ≡ spec.transaction_v0.onto builder.old value.now) }
 {
     builder.fixed(&value.source_account_ed25519)?;
-    write_behind_source(
+    write_after_source(
         value.fee,
         value.seq_num,
         &value.time_bounds,

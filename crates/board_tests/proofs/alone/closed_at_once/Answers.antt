@@ -1,6 +1,5 @@
-use Rattle.std.proofs.Common.{◌≡◌, List, [], ◌∷◌, ◌++◌, length, ap, sym, subst, ◌∙◌, arith}
-use Rattle.std.specs.List.{AllByRecursion}
-use Rattle.merge_board.specs.Parts.{IsWorkerEndOf}
+use Rattle.board_tests.proofs.Prelude.{◌≡◌, List, [], ◌∷◌, ◌++◌, length, ap, sym, subst, ◌∙◌, arith, AllByRecursion}
+use Rattle.board_tests.proofs.Prelude.{IsWorkerEndOf}
 use Rattle.merge_board.specs.declared.parts.WorkerEnd.{WorkerEnd}
 use Rattle.board_tests.proofs.alone.closed_at_once.Goals as goal
 

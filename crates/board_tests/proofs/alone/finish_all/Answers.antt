@@ -1,7 +1,6 @@
-use Rattle.std.proofs.Common.{◌+◌, [], ◌∷◌, length, length-append, ap, sym, subst, arith}
-use Rattle.std.specs.List.{AllByRecursion}
-use Rattle.merge_board.specs.Parts.{IsWorkerOf, IsWorkerEndOf}
-use Rattle.merge_board.proofs.Lists.{every_front, every_snoc}
+use Rattle.board_tests.proofs.Prelude.{◌+◌, [], ◌∷◌, length, length-append, ap, sym, subst, arith, AllByRecursion}
+use Rattle.board_tests.proofs.Prelude.{IsWorkerOf, IsWorkerEndOf}
+use Rattle.merge_board.proofs.Lists.{every_prefix, every_snoc}
 use Rattle.board_tests.proofs.alone.finish_all.Goals as goal
 
 pub loop-worker-preserved : goal.loop-worker-preserved
@@ -12,7 +11,7 @@ loop-worker-preserved c =
     let worker = c.in-Some.worker in
     let is = c.in-Some.ensures.items in
     let more = c.in_ok-push.ensures.items in
-    let all = every_front (IsWorkerOf room) rest worker
+    let all = every_prefix (IsWorkerOf room) rest worker
     (subst (AllByRecursion (IsWorkerOf room)) is it.invariant.workers) in
     let count = it.invariant.count in record {
       workers = all.0;

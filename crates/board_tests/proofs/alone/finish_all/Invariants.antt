@@ -1,6 +1,4 @@
-use Rattle.std.proofs.Common.{◌≡◌, ◌+◌, length, vec_len}
-use Rattle.std.specs.List.{AllByRecursion}
-use Rattle.merge_board.specs.Parts.{IsWorkerOf, IsWorkerEndOf}
+use Rattle.board_tests.proofs.Prelude.{◌≡◌, ◌+◌, length, vec_len, AllByRecursion, IsWorkerOf, IsWorkerEndOf}
 use Rattle.board_tests.proofs.alone.finish_all.Given as goal
 
 abbrev pub invariant-loop-worker : goal.invariant-loop-worker

@@ -1,5 +1,4 @@
-use Rattle.std.proofs.Common.{◌≡◌}
-use Rattle.merge_board.specs.Parts.{IsBoardIn, board_parts}
+use Rattle.board_tests.proofs.Prelude.{◌≡◌, IsBoardIn, board_parts}
 use Rattle.board_tests.proofs.alone.post_all.Given as goal
 
 abbrev pub invariant-loop-seq : goal.invariant-loop-seq

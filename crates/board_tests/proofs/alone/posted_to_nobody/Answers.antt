@@ -1,4 +1,4 @@
-use Rattle.std.proofs.Common.{arith}
+use Rattle.board_tests.proofs.Prelude.{arith}
 use Rattle.board_tests.proofs.alone.posted_to_nobody.Goals as goal
 
 pub settle-requires : goal.settle-requires

@@ -1,15 +1,14 @@
-use Rattle.std.proofs.Common.{◌≡◌, ◌+◌, subst, arith}
+use Rattle.board_tests.proofs.Prelude.{◌≡◌, ◌+◌, subst, arith, IsBoardEndIn, board_end_parts}
 use Rattle.std.specs.Prelude.{Option, IfSome}
-use Rattle.merge_board.specs.Parts.{IsBoardEndIn, board_end_parts}
 use Rattle.merge_board.specs.declared.parts.BoardEnd.{BoardEnd}
 use Rattle.board_tests.proofs.beside.account.Goals as goal
 
 pub settle-requires : goal.settle-requires
 settle-requires g c =
-    let front = c.args.front in
-    let has = c.requires.front in
+    let side = c.args.side in
+    let has = c.requires.side in
     let board = subst (λ (o : Option BoardEnd). IfSome o (λ (b : BoardEnd). IsBoardEndIn c.args.room b
-    × (board_end_parts b + front.workers ≡ 16))) c.in-Some.is has.board_end in
+    × (board_end_parts b + side.workers ≡ 16))) c.in-Some.is has.board_end in
     let board_has = board.1 in
     let collector_has = has.collector_has in
     let len = c.args.ends.ok.0 in

@@ -1,5 +1,4 @@
-use Rattle.std.proofs.Common.{◌≡◌}
-use Rattle.merge_board.specs.Parts.{IsCollectorIn, collector_parts}
+use Rattle.board_tests.proofs.Prelude.{◌≡◌, IsCollectorIn, collector_parts}
 use Rattle.board_tests.proofs.beside.collect_all.Given as goal
 
 abbrev pub invariant-loop : goal.invariant-loop

@@ -1,5 +1,4 @@
-use Rattle.std.proofs.Common.{ap, ◌∙◌}
-use Rattle.bucket_core.specs.Hash.{file_hash}
+use Rattle.bucket_core.proofs.Prelude.{ap, ◌∙◌, file_hash}
 use Rattle.bucket_core.proofs.bucket.bucket_of.Goals as goal
 
 pub invariant_of-result : goal.invariant_of-result

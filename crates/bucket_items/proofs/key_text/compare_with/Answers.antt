@@ -1,6 +1,4 @@
-use Rattle.std.proofs.Common.{◌≡◌, ◌∙◌}
-use Rattle.ledger_types.specs.KeyOrder.{key_cmp}
-use Rattle.bucket_items.specs.KeyRef.{key_seen}
+use Rattle.bucket_items.proofs.Prelude.{◌≡◌, ◌∙◌, key_cmp, key_seen}
 use Rattle.bucket_items.proofs.RefOrder.{refs_compared, seen_key, no_fault}
 use Rattle.bucket_items.proofs.key_text.compare_with.Goals as goal
 

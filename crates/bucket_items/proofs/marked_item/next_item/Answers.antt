@@ -1,8 +1,5 @@
-use Rattle.std.proofs.Common.{◌≡◌, ℕ, List, length, refl, sym, ap, subst, Ok, arith}
-use Rattle.xdr_core.specs.Place.{Place}
-use Rattle.xdr_core.proofs.Marks.{marked_leaves}
-use Rattle.bucket_items.specs.Item.{whole_at}
-use Rattle.bucket_items.specs.MarkedItem.{behind_mark, max_item_len}
+use Rattle.bucket_items.proofs.Prelude.{◌≡◌, ℕ, List, length, refl, sym, ap, subst, Ok, arith, Position, marked_leaves}
+use Rattle.bucket_items.proofs.Prelude.{entire_at, after_mark, max_item_len}
 use Rattle.bucket_items.proofs.Marking.{item_says, takes_shown}
 use Rattle.bucket_items.proofs.marked_item.next_item.Goals as goal
 
@@ -12,10 +9,10 @@ returns-in-Ok-clause-item c = λ e q h.
     let text = c.in-Ok.text.now in
     let says = item_says old e q h in
     let same : (text, c.mark.new.self) ≡ (says.0, q) = cc (c.in-Ok.ensures, says.1) in
-    let whole : whole_at (behind_mark old text) ≡ Ok e =
-    subst (λ (t : List ℕ). whole_at (behind_mark old t) ≡ Ok e) (sym (ap (λ (x : List ℕ × Place). x.0) same)) says.2 in
-    takes_shown c.shown.result c.mark.new.self e q text (ap (λ (x : List ℕ × Place). x.1) same)
-    (c.shown.ensures (behind_mark old text) e refl whole)
+    let entire : entire_at (after_mark old text) ≡ Ok e =
+    subst (λ (t : List ℕ). entire_at (after_mark old t) ≡ Ok e) (sym (ap (λ (x : List ℕ × Position). x.0) same)) says.2 in
+    takes_shown c.shown.result c.mark.new.self e q text (ap (λ (x : List ℕ × Position). x.1) same)
+    (c.shown.ensures (after_mark old text) e refl entire)
 
 pub returns-in-Ok-clause-end : goal.returns-in-Ok-clause-end
 returns-in-Ok-clause-end c = λ h.

@@ -1,4 +1,4 @@
-use Rattle.std.proofs.Common.{◌≡◌, take}
+use Rattle.bucket_levels.proofs.Prelude.{◌≡◌, take}
 use Rattle.bucket_levels.proofs.hand_in.difference.Given as goal
 
 -- the texts are one up to here

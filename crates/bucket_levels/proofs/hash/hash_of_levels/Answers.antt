@@ -1,13 +1,7 @@
-use Rattle.std.proofs.Common.{◌≡◌, ℕ, List, sym, ap, ◌∙◌, take}
-use Rattle.std.specs.List.{flat_map}
-use Rattle.std.proofs.lemmas.List.{take_all}
-use Rattle.std.proofs.lemmas.List.Folds.{flat_map-map}
+use Rattle.bucket_levels.proofs.Prelude.{◌≡◌, ℕ, List, sym, ap, ◌∙◌, take, flat_map, take_all, flat_map-map, LevelPair}
+use Rattle.bucket_levels.proofs.Prelude.{Pair, pair_of, level_hash}
 use Rattle.sha2.specs.Sha256.{sha256}
 use Rattle.ledger_types.specs.declared.ids.Hash.{Hash}
-use Rattle.bucket_levels.specs.declared.pair.LevelPair.{LevelPair}
-use Rattle.bucket_levels.specs.Pairs.{Pair}
-use Rattle.bucket_levels.specs.Levels.{pair_of}
-use Rattle.bucket_levels.specs.Hash.{level_hash}
 use Rattle.bucket_levels.proofs.hash.hash_of_levels.Goals as goal
 
 abbrev hashed : List ℕ → Hash
@@ -18,8 +12,8 @@ text_of pair = (level_hash (pair_of pair)).0
 
 pub returns : goal.returns
 returns c =
-    let whole : take c.loop-pair.pair-index c.args.pairs.now ≡ c.args.pairs.now =
+    let entire : take c.loop-pair.pair-index c.args.pairs.now ≡ c.args.pairs.now =
     take_all c.loop-pair.pair-index c.args.pairs.now c.loop-pair-test.false in
-    let text = ap (flat_map text_of) whole
+    let text = ap (flat_map text_of) entire
     ∙ sym (flat_map-map (λ (pair : Pair). (level_hash pair).0) pair_of c.args.pairs.now) in
     ap hashed (c.finalize.ensures _ c.loop-pair.invariant ∙ ap sha256 text)

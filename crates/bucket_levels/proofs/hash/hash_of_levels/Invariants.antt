@@ -1,8 +1,5 @@
-use Rattle.std.proofs.Common.{take}
-use Rattle.std.specs.List.{flat_map}
+use Rattle.bucket_levels.proofs.Prelude.{take, flat_map, pair_of, level_hash}
 use Rattle.sha2.specs.Hashers.{Holds256}
-use Rattle.bucket_levels.specs.Levels.{pair_of}
-use Rattle.bucket_levels.specs.Hash.{level_hash}
 use Rattle.bucket_levels.proofs.hash.hash_of_levels.Given as goal
 
 -- the hasher holds the hashes of the levels so far

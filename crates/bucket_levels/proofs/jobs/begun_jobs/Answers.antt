@@ -1,7 +1,4 @@
-use Rattle.std.proofs.Common.{◌+◌, List, Option, None, map, sym, subst}
-use Rattle.bucket_merge.specs.Job.{Job}
-use Rattle.bucket_levels.specs.Levels.{pair_of}
-use Rattle.bucket_levels.specs.Held.{IsBegun, AreBegun}
+use Rattle.bucket_levels.proofs.Prelude.{◌+◌, List, Option, None, map, sym, subst, Job, pair_of, IsBegun, AreBegun}
 use Rattle.bucket_levels.proofs.Planning.{one_more_level}
 use Rattle.bucket_levels.proofs.jobs.begun_jobs.Goals as goal
 

@@ -1,5 +1,4 @@
-use Rattle.std.proofs.Common.{map}
-use Rattle.bucket_levels.specs.Levels.{pair_of}
+use Rattle.bucket_levels.proofs.Prelude.{map, pair_of}
 use Rattle.bucket_levels.specs.Held as spec
 use Rattle.bucket_levels.proofs.jobs.begun_jobs.Given as goal
 

@@ -1,7 +1,5 @@
-use Rattle.std.proofs.Common.{◌+◌, List, map, sym, subst}
-use Rattle.bucket_levels.specs.Levels.{pair_of}
-use Rattle.bucket_levels.specs.Held.{nothing_pending, IsUndrawn, AreUndrawn}
-use Rattle.bucket_levels.specs.declared.pending.PendingMerge.{PendingMerge}
+use Rattle.bucket_levels.proofs.Prelude.{◌+◌, List, map, sym, subst, pair_of, nothing_pending, IsUndrawn, AreUndrawn}
+use Rattle.bucket_levels.proofs.Prelude.{PendingMerge}
 use Rattle.bucket_levels.proofs.Planning.{one_more_level}
 use Rattle.bucket_levels.proofs.jobs.pending_merges.Goals as goal
 

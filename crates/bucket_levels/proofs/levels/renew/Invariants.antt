@@ -1,4 +1,4 @@
-use Rattle.bucket_levels.specs.Held.{AreRenewedTo}
+use Rattle.bucket_levels.proofs.Prelude.{AreRenewedTo}
 use Rattle.bucket_levels.proofs.levels.renew.Given as goal
 
 abbrev pub invariant-loop-level : goal.invariant-loop-level

@@ -1,7 +1,4 @@
-use Rattle.std.proofs.Common.{◌≡◌, ◌≤◌, ◌*◌, ◌^◌, take}
-use Rattle.std.specs.List.{sum_by}
-use Rattle.bucket_levels.specs.Levels.{pair_of}
-use Rattle.bucket_levels.specs.Size.{pair_size}
+use Rattle.bucket_levels.proofs.Prelude.{◌≡◌, ◌≤◌, ◌*◌, ◌^◌, take, sum_by, pair_of, pair_size}
 use Rattle.bucket_levels.proofs.size.file_total.Given as goal
 
 -- each level adds less than 2 ^ 65

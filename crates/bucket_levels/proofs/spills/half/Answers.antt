@@ -1,4 +1,4 @@
-use Rattle.std.proofs.Common.{arith}
+use Rattle.bucket_levels.proofs.Prelude.{arith}
 use Rattle.bucket_levels.proofs.Halves.{size_fits, half_is_positive}
 use Rattle.bucket_levels.proofs.spills.half.Goals as goal
 

@@ -1,6 +1,4 @@
-use Rattle.std.proofs.Common.{◌∙◌}
-use Rattle.bucket_merge.specs.Merge.{greater_version}
-use Rattle.bucket_merge.specs.Walk.{changes_of, merge_of}
+use Rattle.bucket_merge.proofs.Prelude.{◌∙◌, greater_version, changes_of, merge_of}
 use Rattle.bucket_merge.proofs.Merging.{merge_has_file}
 use Rattle.bucket_merge.proofs.Sides.{file_written}
 use Rattle.bucket_merge.proofs.merge.merge.Goals as goal

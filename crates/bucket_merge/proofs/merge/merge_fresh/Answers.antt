@@ -1,5 +1,4 @@
-use Rattle.std.proofs.Common.{sym, subst}
-use Rattle.bucket_merge.specs.Merge.{IsMerge}
+use Rattle.bucket_merge.proofs.Prelude.{sym, subst, IsMerge}
 use Rattle.bucket_merge.proofs.Merging.{pass_is_merge}
 use Rattle.bucket_merge.proofs.merge.merge_fresh.Goals as goal
 

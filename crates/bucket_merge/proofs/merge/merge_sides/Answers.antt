@@ -1,6 +1,4 @@
-use Rattle.std.proofs.Common.{◌++◌, refl, arith}
-use Rattle.bucket_merge.specs.Walk.{walk}
-use Rattle.bucket_merge.specs.Pending.{records_of}
+use Rattle.bucket_merge.proofs.Prelude.{◌++◌, refl, arith, walk, records_of}
 use Rattle.bucket_merge.proofs.Sides.{stepped, step_shortens, left_over, none_over, all_written, all_taken}
 use Rattle.bucket_merge.proofs.merge.merge_sides.Goals as goal
 

@@ -1,6 +1,4 @@
-use Rattle.std.proofs.Common.{◌≡◌, ◌+◌, ◌++◌, List, length}
-use Rattle.bucket_merge.specs.Walk.{Pair, walk}
-use Rattle.bucket_merge.specs.Pending.{Has, GoesTo, records_of, size_of}
+use Rattle.bucket_merge.proofs.Prelude.{◌≡◌, ◌+◌, ◌++◌, List, length, Pair, walk, Has, GoesTo, records_of, size_of}
 use Rattle.bucket_merge.proofs.merge.merge_sides.Given as goal
 
 abbrev pub invariant-loop-older : goal.invariant-loop-older

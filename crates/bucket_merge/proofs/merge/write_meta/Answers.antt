@@ -1,7 +1,4 @@
-use Rattle.std.proofs.Common.{ℕ, List, ◌++◌, Option, ap, sym, ◌∙◌}
-use Rattle.std.proofs.lemmas.Result.{on_ok_weaker}
-use Rattle.byteorder.specs.Endian.{big_bytes}
-use Rattle.bucket_merge.specs.Pending.{meta_of}
+use Rattle.bucket_merge.proofs.Prelude.{ℕ, List, ◌++◌, Option, ap, sym, ◌∙◌, on_ok_weaker, big_bytes, meta_of}
 use Rattle.bucket_merge.proofs.Sides.{meta_record}
 use Rattle.bucket_merge.proofs.merge.write_meta.Goals as goal
 

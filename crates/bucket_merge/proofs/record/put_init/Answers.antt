@@ -1,4 +1,4 @@
-use Rattle.std.proofs.Common.{◌∙◌, arith}
+use Rattle.bucket_merge.proofs.Prelude.{◌∙◌, arith}
 use Rattle.bucket_merge.proofs.Writing.{text_is_short, grew_by_item, live_parts, init_text}
 use Rattle.bucket_merge.proofs.record.put_init.Goals as goal
 

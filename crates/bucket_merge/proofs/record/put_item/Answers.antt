@@ -1,5 +1,4 @@
-use Rattle.std.proofs.Common.{◌∙◌, arith}
-use Rattle.std.proofs.lemmas.List.{append-nil}
+use Rattle.bucket_merge.proofs.Prelude.{◌∙◌, arith, append-nil}
 use Rattle.bucket_merge.proofs.Writing.{text_is_short, grew_by_item}
 use Rattle.bucket_merge.proofs.record.put_item.Goals as goal
 
@@ -11,4 +10,4 @@ pub returns : goal.returns
 returns c = λ e h.
     let text = c.args.item.now.bytes.now in
     grew_by_item c.put_record.result c.put_record.new.file.items c.args.file.now.items _ e
-    (append-nil text ∙ h.reads.spelled) c.put_record.ensures
+    (append-nil text ∙ h.reads.encoded) c.put_record.ensures

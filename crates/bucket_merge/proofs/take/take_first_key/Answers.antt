@@ -1,4 +1,4 @@
-use Rattle.std.proofs.Common.{sym, ◌∙◌}
+use Rattle.bucket_merge.proofs.Prelude.{sym, ◌∙◌}
 use Rattle.bucket_merge.proofs.Stepping.{took_older, took_newer, took_both, older_first, newer_first, both_first}
 use Rattle.bucket_merge.proofs.take.take_first_key.Goals as goal
 

@@ -1,13 +1,11 @@
-use Rattle.std.proofs.Common.{sym, ◌∙◌}
-use Rattle.bucket_core.specs.File.{item_of}
-use Rattle.bucket_merge.specs.Merge.{kept}
+use Rattle.bucket_merge.proofs.Prelude.{sym, ◌∙◌, item_of, kept}
 use Rattle.bucket_merge.proofs.Writing.{dropped_is, kept_is, grew_by_none, grew_by_change}
 use Rattle.bucket_merge.proofs.write.write_kept.Goals as goal
 
 pub put_item-requires : goal.put_item-requires
 put_item-requires c =
     let t = c.requires.2 in
-    (item_of (c.requires.0, c.requires.1), t.shown, t.spelled)
+    (item_of (c.requires.0, c.requires.1), t.shown, t.encoded)
 
 pub returns-then-is_dropped : goal.returns-then-is_dropped
 returns-then-is_dropped c = λ k d t.

@@ -1,7 +1,5 @@
-use Rattle.std.proofs.Common.{◌≡◌, ◌≤◌, ◌∙◌, sym, subst, inl, inr, length, true≢false}
-use Rattle.std.specs.Prelude.{string_bytes}
-use Rattle.std.proofs.lemmas.List.{length-map}
-use Rattle.command_words.specs.Words.{words_of}
+use Rattle.command_words.proofs.Prelude.{◌≡◌, ◌≤◌, ◌∙◌, sym, subst, inl, inr, length, true≢false, string_bytes}
+use Rattle.command_words.proofs.Prelude.{length-map, words_of}
 use Rattle.command_words.proofs.Judging.{cut_options, options_cut}
 use Rattle.command_words.proofs.judge.are_sample_options.Goals as goal
 

@@ -1,5 +1,4 @@
-use Rattle.std.proofs.Common.{◌≡◌, ◌∙◌, ℕ, sym, subst, inl, inr, List, true≢false}
-use Rattle.command_words.specs.Judging.{AreSeedAndLedgers}
+use Rattle.command_words.proofs.Prelude.{◌≡◌, ◌∙◌, ℕ, sym, subst, inl, inr, List, true≢false, AreSeedAndLedgers}
 use Rattle.command_words.proofs.Judging.{parts_of}
 use Rattle.command_words.proofs.judge.are_sample_options_cut.Goals as goal
 

@@ -1,5 +1,4 @@
-use Rattle.std.proofs.Common.{codes}
-use Rattle.command_words.specs.Words.{words_of, IsOption}
+use Rattle.command_words.proofs.Prelude.{codes, words_of, IsOption}
 use Rattle.command_words.proofs.Judging.{found_iff}
 use Rattle.command_words.proofs.judge.is_network.Goals as goal
 

@@ -1,7 +1,5 @@
-use Rattle.std.proofs.Common.{◌≡◌, ◌≤◌, ℕ, List, arith, sym, subst, length}
-use Rattle.std.proofs.lemmas.Bool.{leb-true, le-leb}
-use Rattle.std.specs.Str.Parse.{IsNumeral, digits_value}
-use Rattle.command_words.specs.Words.{IsOption, IsNumberOption, words_of}
+use Rattle.command_words.proofs.Prelude.{◌≡◌, ◌≤◌, ℕ, List, arith, sym, subst, length, leb-true, le-leb, IsNumeral}
+use Rattle.command_words.proofs.Prelude.{digits_value, IsOption, IsNumberOption, words_of}
 use Rattle.command_words.proofs.Options.{option_one, number_one}
 use Rattle.command_words.proofs.Judging.{never_true}
 use Rattle.command_words.proofs.number.is_number_within.Goals as goal

@@ -1,4 +1,4 @@
-use Rattle.std.proofs.Common.{◌∙◌, sym, codes}
+use Rattle.command_words.proofs.Prelude.{◌∙◌, sym, codes}
 use Rattle.std.proofs.lemmas.Str.Pattern.{starts_text}
 use Rattle.command_words.proofs.Numbers.{number_read}
 use Rattle.command_words.proofs.number.number_of.Goals as goal

@@ -1,6 +1,4 @@
-use Rattle.std.proofs.Common.{◌∙◌, ap}
-use Rattle.std.proofs.lemmas.Result.{IfOk-weaker}
-use Rattle.clap.specs.Words.{App, app_of, with_subcommand}
+use Rattle.command_words.proofs.Prelude.{◌∙◌, ap, IfOk-weaker, App, app_of, with_subcommand}
 use Rattle.command_words.proofs.parser.with_number_command.Goals as goal
 
 pub returns : goal.returns

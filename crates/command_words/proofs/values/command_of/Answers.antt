@@ -1,8 +1,5 @@
-use Rattle.std.proofs.Common.{◌≡◌, ◌∙◌, ap, ap₂, sym, inl, List, ℕ, codes}
-use Rattle.clap.specs.Words.{found_of, rows_of}
-use Rattle.clap.specs.declared.parser.ArgMatches.{ArgMatches}
-use Rattle.command_words.specs.Words.{Command, Init, Run, CatchUp, Show, Sample, name_of}
-use Rattle.command_words.specs.Found.{FindsOptions}
+use Rattle.command_words.proofs.Prelude.{◌≡◌, ◌∙◌, ap, ap₂, sym, inl, List, ℕ, codes, found_of, rows_of, ArgMatches}
+use Rattle.command_words.proofs.Prelude.{Command, Init, Run, CatchUp, Show, Sample, name_of, FindsOptions}
 use Rattle.command_words.proofs.Names.{of_init, of_run, of_catchup, of_show, of_sample}
 use Rattle.command_words.proofs.values.command_of.Goals as goal
 

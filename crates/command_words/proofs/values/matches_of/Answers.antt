@@ -1,7 +1,5 @@
-use Rattle.std.proofs.Common.{◌∙◌, ap}
-use Rattle.std.proofs.lemmas.Result.{IfErr-weaker, IfOk-weaker}
-use Rattle.clap.specs.Words.{is_simple, subcommand_of, takes}
-use Rattle.command_words.specs.Words.{words_of}
+use Rattle.command_words.proofs.Prelude.{◌∙◌, ap, IfErr-weaker, IfOk-weaker, is_simple, words_of}
+use Rattle.clap.specs.Words.{subcommand_of, takes}
 use Rattle.command_words.proofs.Reading.{command_read, is_simple_program}
 use Rattle.command_words.proofs.values.matches_of.Goals as goal
 

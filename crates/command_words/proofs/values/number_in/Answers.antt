@@ -1,9 +1,6 @@
-use Rattle.std.proofs.Common.{◌∙◌, ℕ, sym, ap, inl, inr, List, Result}
-use Rattle.std.specs.Str.Parse.{ParsesUnsigned, ExplainsUnsignedError, HasUnsignedDigitsIfOk}
+use Rattle.command_words.proofs.Prelude.{◌∙◌, ℕ, sym, ap, inl, inr, List, Result, ParsesUnsigned, ExplainsUnsignedError}
+use Rattle.command_words.proofs.Prelude.{HasUnsignedDigitsIfOk, unwrap_or, found_of, one_text-rows}
 use Rattle.std.specs.declared.num.ParseIntError.{ParseIntError}
-use Rattle.std.specs.Option.{unwrap_or}
-use Rattle.clap.specs.Words.{found_of}
-use Rattle.clap.proofs.WalkLemmas.{one_text-rows}
 use Rattle.command_words.proofs.Numbers.{number_found}
 use Rattle.command_words.proofs.values.number_in.Goals as goal
 

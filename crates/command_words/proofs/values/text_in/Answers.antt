@@ -1,7 +1,6 @@
-use Rattle.std.proofs.Common.{◌≡◌, ◌∙◌, Option, Some, None, Bor}
-use Rattle.std.specs.Option.{option_map, unwrap_or}
-use Rattle.clap.specs.Words.{Text, found_of}
-use Rattle.clap.proofs.WalkLemmas.{first_value-rows}
+use Rattle.command_words.proofs.Prelude.{◌≡◌, ◌∙◌, Option, Some, None, Bor, option_map, unwrap_or, found_of}
+use Rattle.command_words.proofs.Prelude.{first_value-rows}
+use Rattle.clap.specs.Words.{Text}
 use Rattle.command_words.proofs.values.text_in.Goals as goal
 
 text_found : (found : Option (Bor Text)) (other read : Bor Text) (value : Text)

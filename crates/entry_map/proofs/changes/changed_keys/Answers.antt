@@ -1,4 +1,4 @@
-use Rattle.std.proofs.lemmas.Result.{IfOk-weaker}
+use Rattle.entry_map.proofs.Prelude.{IfOk-weaker}
 use Rattle.entry_map.proofs.Batches.{changed_keys_are}
 use Rattle.entry_map.proofs.changes.changed_keys.Goals as goal
 

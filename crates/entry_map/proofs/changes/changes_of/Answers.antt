@@ -1,9 +1,5 @@
-use Rattle.std.proofs.Common.{rules, [], ◌∷◌, ◌++◌, sym, ap, subst, ◌∙◌, append_assoc}
-use Rattle.std.specs.Vec.Iter.{into_iter_items}
-use Rattle.ledger_types.specs.Keys.{key_of}
-use Rattle.entry_map.specs.Layers.{under, under_one}
-use Rattle.entry_map.specs.Batch.{IsNew, IsChanged, IsGone}
-use Rattle.entry_map.specs.Noting.{AreChangedKeys}
+use Rattle.entry_map.proofs.Prelude.{rules, [], ◌∷◌, ◌++◌, sym, ap, subst, ◌∙◌, append_assoc, into_iter_items, key_of}
+use Rattle.entry_map.proofs.Prelude.{under, under_one, IsNew, IsChanged, IsGone, AreChangedKeys}
 use Rattle.entry_map.proofs.Batches.{picks_more, batch_is, all_yielded}
 use Rattle.entry_map.proofs.changes.changes_of.Goals as goal
 

@@ -1,9 +1,5 @@
-use Rattle.std.proofs.Common.{◌++◌}
-use Rattle.std.specs.Vec.Iter.{into_iter_items}
-use Rattle.ledger_types.specs.Keys.{key_of}
-use Rattle.entry_map.specs.Layers.{under, under_one}
-use Rattle.entry_map.specs.Batch.{IsNew, IsChanged, IsGone}
-use Rattle.entry_map.specs.Noting.{AreChangedKeys}
+use Rattle.entry_map.proofs.Prelude.{◌++◌, into_iter_items, key_of, under, under_one, IsNew, IsChanged, IsGone}
+use Rattle.entry_map.proofs.Prelude.{AreChangedKeys}
 use Rattle.entry_map.proofs.Batches.{Picks}
 use Rattle.entry_map.proofs.changes.changes_of.Given as goal
 

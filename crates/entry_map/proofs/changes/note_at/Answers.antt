@@ -1,7 +1,4 @@
-use Rattle.std.proofs.Common.{◌≡◌, sym, subst, IfSome}
-use Rattle.std.proofs.lemmas.Result.{on_ok_weaker}
-use Rattle.ledger_types.specs.Keys.{key_of}
-use Rattle.entry_map.specs.Layers.{under, under_one}
+use Rattle.entry_map.proofs.Prelude.{◌≡◌, sym, subst, IfSome, on_ok_weaker, key_of, under, under_one}
 use Rattle.entry_map.proofs.Batches.{noted}
 use Rattle.entry_map.proofs.changes.note_at.Goals as goal
 

@@ -1,10 +1,5 @@
-use Rattle.std.proofs.Common.{sym, ap, subst, ◌∙◌}
-use Rattle.std.specs.Option.{option_copied}
-use Rattle.std.proofs.lemmas.Result.{IfOk-weaker}
-use Rattle.std.specs.FinMap.{get}
-use Rattle.entry_map.specs.EntryMap.{put}
-use Rattle.entry_map.specs.Indexes.{IsIndexOf}
-use Rattle.entry_map.proofs.Books.{index_kept, put_made}
+use Rattle.entry_map.proofs.Prelude.{sym, ap, subst, ◌∙◌, option_copied, IfOk-weaker, get, put, IsIndexOf}
+use Rattle.entry_map.proofs.Aggregates.{index_kept, put_made}
 use Rattle.entry_map.proofs.entries.index_with.Goals as goal
 
 pub returns-in_default : goal.returns-in_default

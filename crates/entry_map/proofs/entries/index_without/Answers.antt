@@ -1,8 +1,5 @@
-use Rattle.std.proofs.Common.{sym, subst, ◌∙◌}
-use Rattle.std.proofs.lemmas.Result.{IfOk-weaker}
-use Rattle.entry_map.specs.EntryMap.{erase}
-use Rattle.entry_map.specs.Indexes.{IsIndexOf}
-use Rattle.entry_map.proofs.Books.{index_left, erase_made}
+use Rattle.entry_map.proofs.Prelude.{sym, subst, ◌∙◌, IfOk-weaker, erase, IsIndexOf}
+use Rattle.entry_map.proofs.Aggregates.{index_left, erase_made}
 use Rattle.entry_map.proofs.entries.index_without.Goals as goal
 
 pub returns-then-not-is_of_offer : goal.returns-then-not-is_of_offer

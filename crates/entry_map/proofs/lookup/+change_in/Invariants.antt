@@ -1,4 +1,4 @@
-use Rattle.std.proofs.Common.{length}
+use Rattle.entry_map.proofs.Prelude.{length}
 use Rattle.entry_map.proofs.lookup.+change_in.Given as goal
 
 abbrev pub decreases-change_in : goal.decreases-change_in

@@ -1,7 +1,4 @@
-use Rattle.std.proofs.Common.{sym, ap, ◌∙◌}
-use Rattle.std.specs.Option.{unwrap_or}
-use Rattle.std.specs.FinMap.{get}
-use Rattle.std.proofs.lemmas.Result.{IfOk-weaker}
+use Rattle.entry_map.proofs.Prelude.{sym, ap, ◌∙◌, unwrap_or, get, IfOk-weaker}
 use Rattle.entry_map.proofs.Under.{get-current}
 use Rattle.entry_map.proofs.lookup.entry_at.Goals as goal
 

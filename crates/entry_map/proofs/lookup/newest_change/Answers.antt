@@ -1,4 +1,4 @@
-use Rattle.std.proofs.Common.{Some}
+use Rattle.entry_map.proofs.Prelude.{Some}
 use Rattle.entry_map.proofs.Layers.{keyed_found}
 use Rattle.entry_map.proofs.lookup.newest_change.Goals as goal
 

@@ -1,7 +1,5 @@
-use Rattle.std.proofs.Common.{◌-◌, length, take, drop, sym, subst}
-use Rattle.std.specs.Option.{option_copied}
-use Rattle.std.specs.FinMap.{contains_key}
-use Rattle.entry_map.specs.Layers.{is_changed, lesser_of, IsNextKey}
+use Rattle.entry_map.proofs.Prelude.{◌-◌, length, take, drop, sym, subst, option_copied, contains_key, is_changed}
+use Rattle.entry_map.proofs.Prelude.{lesser_of, IsNextKey}
 use Rattle.entry_map.proofs.KnownKeys.{next_either, first_and_rest}
 use Rattle.entry_map.proofs.walk.+next_changed.Goals as goal
 

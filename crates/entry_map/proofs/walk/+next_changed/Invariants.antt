@@ -1,4 +1,4 @@
-use Rattle.std.proofs.Common.{length}
+use Rattle.entry_map.proofs.Prelude.{length}
 use Rattle.entry_map.proofs.walk.+next_changed.Given as goal
 
 abbrev pub decreases-next_changed : goal.decreases-next_changed

@@ -1,7 +1,4 @@
-use Rattle.std.proofs.Common.{◌≡◌, sym, ◌∙◌, Some, None}
-use Rattle.ledger_types.specs.Keys.{key_of}
-use Rattle.entry_map.specs.Layers.{is_known}
-use Rattle.entry_map.proofs.Layers.{is_some_of}
+use Rattle.entry_map.proofs.Prelude.{◌≡◌, sym, ◌∙◌, Some, None, key_of, is_known, if_some_at}
 use Rattle.entry_map.proofs.KnownKeys.{seen_first, seen_next, found_next, ended, known_falls, next_is}
 use Rattle.entry_map.proofs.walk.entry_after.Goals as goal
 
@@ -15,7 +12,7 @@ returns-in-Some-2 g c =
     (next_is (is_known (g.B.Base.entries c.args.base.now) c.args.lower.now c.args.top.now) c.loop-at.at
     c.in_ok-next.field-0 (Some c.in-Some.next) c.in-Some.is c.in_ok-next.ensures)
     (sym c.in_ok-entry.ensures.found ∙ c.in-Some-2.is)
-    (is_some_of (λ e. key_of e
+    (if_some_at (λ e. key_of e
     ≡ c.in-Some.next) c.in_ok-entry.field-0 c.in-Some-2.entry c.in_ok-entry.ensures.keyed c.in-Some-2.is)
 
 pub loop-at-smaller : goal.loop-at-smaller

@@ -1,7 +1,4 @@
-use Rattle.std.proofs.Common.{sym, subst, Some}
-use Rattle.std.specs.Option.{option_copied}
-use Rattle.std.specs.FinMap.{contains_key}
-use Rattle.entry_map.specs.Layers.{is_changed, is_known, IsLeastKey}
+use Rattle.entry_map.proofs.Prelude.{sym, subst, Some, option_copied, contains_key, is_changed, is_known, IsLeastKey}
 use Rattle.entry_map.proofs.KnownKeys.{next_of_three}
 use Rattle.entry_map.proofs.walk.next_known.Goals as goal
 

@@ -1,9 +1,7 @@
-use Rattle.std.proofs.Common.{◌≡◌, ℕ, suc, ◌+◌, ◌<◌, sym, ap, ◌∙◌, arith, None, Option, map, take, length, List, []}
-use Rattle.std.proofs.Common.{◌∷◌, ◌++◌}
+use Rattle.entry_slots.proofs.Prelude.{◌≡◌, ℕ, suc, ◌+◌, ◌<◌, sym, ap, ◌∙◌, arith, None, Option, map, take, length}
+use Rattle.entry_slots.proofs.Prelude.{List, [], ◌∷◌, ◌++◌, AccountId, Signer}
 use Rattle.std.proofs.Math.Seq.{take-suc}
 use Rattle.std.proofs.lemmas.List.{map-append}
-use Rattle.entry_map.specs.ledger_types.declared.ids.AccountId.{AccountId}
-use Rattle.entry_map.specs.ledger_types.declared.signer.Signer.{Signer}
 use Rattle.entry_map.specs.ledger_types.declared.signer.SignerKey.TheVariants.{Ed25519}
 use Rattle.entry_slots.proofs.account_extensions.no_sponsors.Goals as goal
 

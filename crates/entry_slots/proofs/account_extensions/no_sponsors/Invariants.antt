@@ -1,6 +1,4 @@
-use Rattle.std.proofs.Common.{◌≡◌, None, Option, map, take}
-use Rattle.entry_map.specs.ledger_types.declared.ids.AccountId.{AccountId}
-use Rattle.entry_map.specs.ledger_types.declared.signer.Signer.{Signer}
+use Rattle.entry_slots.proofs.Prelude.{◌≡◌, None, Option, map, take, AccountId, Signer}
 use Rattle.entry_slots.proofs.account_extensions.no_sponsors.Given as goal
 
 -- none for each signer so far

@@ -1,5 +1,4 @@
-use Rattle.std.proofs.Common.{◌≡◌, take}
-use Rattle.entry_table.specs.Rows.{putting}
+use Rattle.entry_table.proofs.Prelude.{◌≡◌, take, putting}
 use Rattle.entry_table.proofs.next.puts_of.Given as goal
 
 abbrev pub invariant-loop-kept : goal.invariant-loop-kept

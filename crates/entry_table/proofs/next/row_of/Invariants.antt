@@ -1,5 +1,4 @@
-use Rattle.std.proofs.Common.{◌≡◌, take, map}
-use Rattle.entry_table.specs.Rows.{with_key}
+use Rattle.entry_table.proofs.Prelude.{◌≡◌, take, map, with_key}
 use Rattle.entry_table.proofs.next.row_of.Given as goal
 
 abbrev pub invariant-loop-entry : goal.invariant-loop-entry

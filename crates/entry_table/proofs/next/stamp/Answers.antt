@@ -1,6 +1,5 @@
-use Rattle.std.proofs.Common.{ap, sym, ◌∙◌, slice_set}
+use Rattle.entry_table.proofs.Prelude.{ap, sym, ◌∙◌, slice_set, stamped}
 use Rattle.std.proofs.lemmas.List.Edits.{map_over_more}
-use Rattle.entry_changes.specs.Next.{stamped}
 use Rattle.entry_table.proofs.next.stamp.Goals as goal
 
 pub loop-entry-preserved : goal.loop-entry-preserved

@@ -1,5 +1,4 @@
-use Rattle.std.proofs.Common.{◌≡◌, ◌++◌, take, drop, map}
-use Rattle.entry_changes.specs.Next.{stamped}
+use Rattle.entry_table.proofs.Prelude.{◌≡◌, ◌++◌, take, drop, map, stamped}
 use Rattle.entry_table.proofs.next.stamp.Given as goal
 
 -- the entries so far have the number, and the others are as they were

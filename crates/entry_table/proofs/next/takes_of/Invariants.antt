@@ -1,5 +1,4 @@
-use Rattle.std.proofs.Common.{◌≡◌, take}
-use Rattle.entry_table.specs.Rows.{taking}
+use Rattle.entry_table.proofs.Prelude.{◌≡◌, take, taking}
 use Rattle.entry_table.proofs.next.takes_of.Given as goal
 
 abbrev pub invariant-loop-key : goal.invariant-loop-key

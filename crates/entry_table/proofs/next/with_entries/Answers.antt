@@ -1,12 +1,5 @@
-use Rattle.std.proofs.Common.{ap, sym, subst, ◌∙◌, List, Option, T, map}
-use Rattle.std.proofs.lemmas.Result.{IfOk-weaker}
-use Rattle.std.specs.FinMap.Entries.{is_sorted}
-use Rattle.ledger_types.specs.declared.key.LedgerKey.{LedgerKey}
-use Rattle.ledger_types.specs.declared.entry.LedgerEntry.{LedgerEntry}
-use Rattle.ledger_types.specs.KeyOrder.{key_cmp}
-use Rattle.entry_map.proofs.KeyMaps.{derived, derived_is}
-use Rattle.shared_tree.specs.Rows.{all_changed}
-use Rattle.entry_table.specs.Rows.{putting, with_key}
+use Rattle.entry_table.proofs.Prelude.{ap, sym, subst, ◌∙◌, List, Option, T, map, IfOk-weaker, is_sorted, LedgerKey}
+use Rattle.entry_table.proofs.Prelude.{LedgerEntry, key_cmp, derived, derived_is, all_changed, putting, with_key}
 use Rattle.entry_table.proofs.Walks.{derived_sorted}
 use Rattle.entry_table.proofs.Turns.{putting_sorted, overlaid}
 use Rattle.entry_table.proofs.Tables.{sorted_keys}

@@ -1,14 +1,8 @@
-use Rattle.std.proofs.Common.{◌≡◌, refl, arith, List, [], ◌∷◌, ◌++◌, sym, ap, subst, ◌∙◌, append_assoc, append-nil}
-use Rattle.std.proofs.Common.{length}
-use Rattle.std.specs.FinMap.{get, from_entries}
-use Rattle.ledger_types.specs.declared.key.LedgerKey.{LedgerKey}
-use Rattle.ledger_types.specs.declared.entry.LedgerEntry.{LedgerEntry}
-use Rattle.ledger_types.specs.Keys.{key_of}
-use Rattle.ledger_types.specs.KeyOrder.{key_cmp}
-use Rattle.entry_map.specs.Indexes.{IsIndexOf}
-use Rattle.entry_map.proofs.Books.{index_empty}
-use Rattle.entry_table.specs.Rows.{IsTableRow}
-use Rattle.entry_table.proofs.Stamped.{row_behind_part, not_behind, put_in_front}
+use Rattle.entry_table.proofs.Prelude.{◌≡◌, refl, arith, List, [], ◌∷◌, ◌++◌, sym, ap, subst, ◌∙◌, append_assoc}
+use Rattle.entry_table.proofs.Prelude.{append-nil, length, get, from_entries, LedgerKey, LedgerEntry, key_of, key_cmp}
+use Rattle.entry_table.proofs.Prelude.{IsIndexOf, IsTableRow}
+use Rattle.entry_map.proofs.Aggregates.{index_empty}
+use Rattle.entry_table.proofs.Stamped.{row_after_part, not_after, put_first}
 use Rattle.entry_table.proofs.offers.offers_in_row.Goals as goal
 
 pub loop-last-init : goal.loop-last-init
@@ -22,12 +16,12 @@ loop-last-preserved c =
     sym (append_assoc c.in-Some.earlier.now (last ∷ []) done)
     ∙ ap (λ r. r ++ done) (sym c.in-Some.ensures.cases.0) ∙ c.loop-last.invariant.1 in
     let here : IsTableRow (last ∷ done) =
-    row_behind_part c.in-Some.earlier.now (last ∷ done) (subst IsTableRow (sym all) c.requires) in (
+    row_after_part c.in-Some.earlier.now (last ∷ done) (subst IsTableRow (sym all) c.requires) in (
       last ∷ done,
       all,
-      put_in_front last done c.value.result.now c.in_ok-offers.offers here c.value.ensures
+      put_first last done c.value.result.now c.in_ok-offers.offers here c.value.ensures
           (c.in_ok-offers.ensures.map (from_entries done) c.loop-last.invariant.2
-          (ap (λ e. get {R = key_cmp} (from_entries done) (key_of e)) c.value.ensures ∙ not_behind last done here)),
+          (ap (λ e. get {R = key_cmp} (from_entries done) (key_of e)) c.value.ensures ∙ not_after last done here)),
     )
 
 pub returns : goal.returns

@@ -1,10 +1,7 @@
-use Rattle.std.proofs.Common.{◌≡◌, ◌+◌, ◌++◌, length}
-use Rattle.ledger_types.specs.KeyOrder.{key_cmp}
-use Rattle.shared_tree.specs.Rows.{all_changed}
-use Rattle.entry_table.specs.Rows.{putting, IsRising}
+use Rattle.entry_table.proofs.Prelude.{◌≡◌, ◌+◌, ◌++◌, length, key_cmp, all_changed, putting, IsRising}
 use Rattle.entry_table.proofs.rows.overlay.Given as goal
 
--- what was written goes on to the whole
+-- what was written goes on to the entire row
 abbrev pub invariant-loop-ahead : goal.invariant-loop-ahead
 invariant-loop-ahead g l = record {
   same : l.all.items ++ all_changed key_cmp (putting l.turns) l.ahead ≡ all_changed key_cmp (putting l.newer) l.older;

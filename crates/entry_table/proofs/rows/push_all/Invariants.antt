@@ -1,4 +1,4 @@
-use Rattle.std.proofs.Common.{◌≡◌, ◌++◌, take}
+use Rattle.entry_table.proofs.Prelude.{◌≡◌, ◌++◌, take}
 use Rattle.entry_table.proofs.rows.push_all.Given as goal
 
 abbrev pub invariant-loop-value : goal.invariant-loop-value

@@ -1,6 +1,4 @@
-use Rattle.std.proofs.Common.{sym, ◌∙◌}
-use Rattle.ledger_types.specs.KeyOrder.{key_cmp}
-use Rattle.ledger_types.proofs.KeyOrdering.{keys_compared}
+use Rattle.entry_table.proofs.Prelude.{sym, ◌∙◌, key_cmp, keys_compared}
 use Rattle.entry_table.proofs.Passes.{older_passed, both_passed, newer_passed}
 use Rattle.entry_table.proofs.rows.push_first.Goals as goal
 

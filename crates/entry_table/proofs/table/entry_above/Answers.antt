@@ -1,6 +1,4 @@
-use Rattle.std.proofs.Common.{Some, ap, ◌∙◌, option_map}
-use Rattle.entry_map.proofs.KeyMaps.{derived_is}
-use Rattle.shared_tree.specs.Rows.{first_above}
+use Rattle.entry_table.proofs.Prelude.{Some, ap, ◌∙◌, option_map, derived_is, first_above}
 use Rattle.entry_table.proofs.Walks.{derived_sorted}
 use Rattle.entry_table.proofs.table.entry_above.Goals as goal
 

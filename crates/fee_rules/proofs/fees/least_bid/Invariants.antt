@@ -1,4 +1,4 @@
-use Rattle.std.proofs.Common.{◌≡◌, ◌≤◌, ◌<◌, ◌^◌, drop, length}
+use Rattle.fee_rules.proofs.Prelude.{◌≡◌, ◌≤◌, ◌<◌, ◌^◌, drop, length}
 use Rattle.std.specs.Option.{ForSome}
 use Rattle.fee_rules.specs.Fees as spec
 use Rattle.fee_rules.proofs.fees.least_bid.Given as goal

@@ -1,5 +1,4 @@
-use Rattle.std.proofs.Common.{◌≡◌, ◌≤◌, ◌*◌, ◌^◌, take}
-use Rattle.std.specs.List.{sum_by}
+use Rattle.fee_rules.proofs.Prelude.{◌≡◌, ◌≤◌, ◌*◌, ◌^◌, take, sum_by}
 use Rattle.fee_rules.specs.Envelopes.{operation_count}
 use Rattle.fee_rules.proofs.fees.total_operations.Given as goal
 

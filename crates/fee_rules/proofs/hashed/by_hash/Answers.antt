@@ -1,6 +1,4 @@
-use Rattle.std.proofs.Common.{sym}
-use Rattle.fee_rules.specs.Runs.{no_tx}
-use Rattle.fee_rules.specs.SetHash.{hashed_of}
+use Rattle.fee_rules.proofs.Prelude.{sym, no_tx, hashed_of}
 use Rattle.fee_rules.proofs.Orders.{hashed_total}
 use Rattle.fee_rules.proofs.Ranking.{sorted_is_ranked}
 use Rattle.fee_rules.proofs.hashed.by_hash.Goals as goal

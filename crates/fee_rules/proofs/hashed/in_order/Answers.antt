@@ -1,9 +1,5 @@
-use Rattle.std.proofs.Common.{List, sym, subst}
-use Rattle.std.specs.List.{IsDistinct}
-use Rattle.std.specs.Ordering.{eq_by_cmp}
-use Rattle.fee_rules.specs.declared.hashed.Hashed.{Hashed}
-use Rattle.fee_rules.specs.SetHash.{hashed_cmp}
-use Rattle.fee_rules.proofs.Places.{apart_hashes}
+use Rattle.fee_rules.proofs.Prelude.{List, sym, subst, IsDistinct, eq_by_cmp, Hashed, hashed_cmp}
+use Rattle.fee_rules.proofs.Indices.{apart_hashes}
 use Rattle.fee_rules.proofs.hashed.in_order.Goals as goal
 
 pub by_hash-requires : goal.by_hash-requires

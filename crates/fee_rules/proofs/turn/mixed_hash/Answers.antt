@@ -1,7 +1,5 @@
-use Rattle.std.proofs.Common.{◌≡◌, List, ℕ, [], ◌∷◌, ◌++◌, take, take_all, length, ap, ◌∙◌, sym, arith}
-use Rattle.std.proofs.lemmas.List.{take_more_set, length-set}
-use Rattle.std.specs.Prelude.{bit_xor, slice_index}
-use Rattle.fee_rules.specs.Turns.{mixed_bytes}
+use Rattle.fee_rules.proofs.Prelude.{◌≡◌, List, ℕ, [], ◌∷◌, ◌++◌, take, take_all, length, ap, ◌∙◌, sym, arith}
+use Rattle.fee_rules.proofs.Prelude.{take_more_set, length-set, bit_xor, slice_index, mixed_bytes}
 use Rattle.fee_rules.proofs.Longer.{mixed_more}
 use Rattle.fee_rules.proofs.turn.mixed_hash.Goals as goal
 

@@ -1,5 +1,4 @@
-use Rattle.std.proofs.Common.{◌≡◌, take, length}
-use Rattle.fee_rules.specs.Turns.{mixed_bytes}
+use Rattle.fee_rules.proofs.Prelude.{◌≡◌, take, length, mixed_bytes}
 use Rattle.fee_rules.proofs.turn.mixed_hash.Given as goal
 
 abbrev pub invariant-loop-i : goal.invariant-loop-i

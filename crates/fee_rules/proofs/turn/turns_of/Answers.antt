@@ -1,9 +1,5 @@
-use Rattle.std.proofs.Common.{◌≤◌, ◌<◌, ◌-◌, ◌+◌, ℕ, List, [], ◌∷◌, ◌++◌, length, refl, sym, subst, arith}
-use Rattle.ledger_types.specs.declared.ids.Hash.{Hash}
-use Rattle.fee_rules.specs.declared.turn.Turn.{Turn}
-use Rattle.ledger_types.specs.KeyOrder.{account_cmp}
-use Rattle.fee_rules.specs.Runs.{at}
-use Rattle.fee_rules.specs.Turns.{mixed_hash}
+use Rattle.fee_rules.proofs.Prelude.{◌≤◌, ◌<◌, ◌-◌, ◌+◌, ℕ, List, [], ◌∷◌, ◌++◌, length, refl, sym, subst, arith, Hash}
+use Rattle.fee_rules.proofs.Prelude.{Turn, account_cmp, at, mixed_hash}
 use Rattle.fee_rules.proofs.Ranks.{SoFar, next_low, step}
 use Rattle.fee_rules.proofs.turn.turns_of.Goals as goal
 
@@ -24,11 +20,11 @@ loop-i-preserved c =
     subst (λ (ts : List Turn). SoFar set_hash txs ts c.run_start-start.result (i + 1)) (sym c.in_ok-push.ensures.items)
     (subst (λ (h : Hash). SoFar set_hash txs
     (c.loop-i.turns.items
-    ++ record { queue_rank = i - c.run_start-start.result; mixed = h; place = (at txs i).place } ∷ [])
+    ++ record { queue_rank = i - c.run_start-start.result; mixed = h; index = (at txs i).index } ∷ [])
     c.run_start-start.result (i + 1))
     (sym c.mixed_hash.ensures)
     (subst (λ (n : ℕ). SoFar set_hash txs
     (c.loop-i.turns.items
-    ++ record { queue_rank = i - n; mixed = mixed_hash (at txs i).full_hash set_hash; place = (at txs i).place } ∷ [])
+    ++ record { queue_rank = i - n; mixed = mixed_hash (at txs i).full_hash set_hash; index = (at txs i).index } ∷ [])
     n (i + 1))
     (sym c.run_start-start.ensures) made))

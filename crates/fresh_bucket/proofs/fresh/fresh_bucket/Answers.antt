@@ -1,37 +1,29 @@
-use Rattle.std.proofs.Common.{sym, subst, ap, All, List, [], ◌∷◌}
-use Rattle.std.specs.List.{AllByRecursion}
-use Rattle.std.proofs.lemmas.Result.{IfOk-weaker}
-use Rattle.std.proofs.lemmas.List.Elements.{All-from_recursion}
-use Rattle.ledger_types.specs.declared.key.LedgerKey.{LedgerKey}
-use Rattle.bucket_core.specs.bucket_items.MarkedItem.{IsSpellable}
-use Rattle.bucket_core.specs.Bucket.{version_of}
-use Rattle.bucket_levels.specs.Fresh.{IsFresh}
-use Rattle.fresh_bucket.specs.Items.{bucket_of}
-use Rattle.fresh_bucket.specs.declared.item_ref.ItemRef.{ItemRef}
-use Rattle.fresh_bucket.specs.ItemRefs.{item_at, items_at}
-use Rattle.fresh_bucket.proofs.Told.{is_fresh}
-use Rattle.fresh_bucket.proofs.Spelled.{row_spelled, told_file}
+use Rattle.fresh_bucket.proofs.Prelude.{sym, subst, ap, All, List, [], ◌∷◌, AllByRecursion, IfOk-weaker}
+use Rattle.fresh_bucket.proofs.Prelude.{All-from_recursion, LedgerKey, IsEncodable, version_of, IsFresh, bucket_of}
+use Rattle.fresh_bucket.proofs.Prelude.{ItemRef, item_at, items_at}
+use Rattle.fresh_bucket.proofs.Stated.{is_fresh}
+use Rattle.fresh_bucket.proofs.Encoded.{row_encoded, stated_file}
 use Rattle.fresh_bucket.proofs.fresh.fresh_bucket.Goals as goal
 
--- what holds of the items that stand in a row holds where they stand
-where_they_stand : (row : List (LedgerKey × ItemRef)) → AllByRecursion (λ x. IsSpellable x.1) (items_at row)
-    → AllByRecursion (λ (x : LedgerKey × ItemRef). IsSpellable (item_at x.1)) row
-where_they_stand [] h = tt
-where_they_stand (x ∷ xs) h = (h.0, where_they_stand xs h.1)
+-- what holds of the items in a row holds where they are
+where_they_are : (row : List (LedgerKey × ItemRef)) → AllByRecursion (λ x. IsEncodable x.1) (items_at row)
+    → AllByRecursion (λ (x : LedgerKey × ItemRef). IsEncodable (item_at x.1)) row
+where_they_are [] h = tt
+where_they_are (x ∷ xs) h = (h.0, where_they_are xs h.1)
 
 pub file_of-requires : goal.file_of-requires
 file_of-requires c =
     let r = c.requires in
-    subst (All (λ (x : LedgerKey × ItemRef). IsSpellable (item_at x.1))) (sym c.as_slice.ensures.value)
-    (All-from_recursion (λ (x : LedgerKey × ItemRef). IsSpellable (item_at x.1)) c.in_ok-row.row.items
-    (where_they_stand c.in_ok-row.row.items
-    (row_spelled c.args.version c.ranges.version.fits r.0 r.1 c.args.batch.now r.2 r.3 r.4 r.5
+    subst (All (λ (x : LedgerKey × ItemRef). IsEncodable (item_at x.1))) (sym c.as_slice.ensures.value)
+    (All-from_recursion (λ (x : LedgerKey × ItemRef). IsEncodable (item_at x.1)) c.in_ok-row.row.items
+    (where_they_are c.in_ok-row.row.items
+    (row_encoded c.args.version c.ranges.version.fits r.0 r.1 c.args.batch.now r.2 r.3 r.4 r.5
     (items_at c.in_ok-row.row.items) c.in_ok-row.ensures)))
 
 pub of_file_to_merge-requires : goal.of_file_to_merge-requires
 of_file_to_merge-requires c =
     let r = c.requires in
-    let t = told_file c.args.version c.ranges.version.fits r.0 r.1 c.args.batch.now r.2 r.3 r.4 r.5
+    let t = stated_file c.args.version c.ranges.version.fits r.0 r.1 c.args.batch.now r.2 r.3 r.4 r.5
     (items_at c.in_ok-row.row.items) c.in_ok-row.ensures (items_at c.as_slice.result.now) c.in_ok-file.file.items
     (ap items_at c.as_slice.ensures.value)
     c.in_ok-file.ensures in
@@ -40,7 +32,7 @@ of_file_to_merge-requires c =
 pub returns-clause-fresh : goal.returns-clause-fresh
 returns-clause-fresh c before after x keyed =
     let r = c.requires in
-    let t = told_file c.args.version c.ranges.version.fits r.0 r.1 c.args.batch.now r.2 r.3 r.4 r.5
+    let t = stated_file c.args.version c.ranges.version.fits r.0 r.1 c.args.batch.now r.2 r.3 r.4 r.5
     (items_at c.in_ok-row.row.items) c.in_ok-row.ensures (items_at c.as_slice.result.now) c.in_ok-file.file.items
     (ap items_at c.as_slice.ensures.value)
     c.in_ok-file.ensures in
@@ -52,7 +44,7 @@ returns-clause-fresh c before after x keyed =
 pub returns-clause-version : goal.returns-clause-version
 returns-clause-version c =
     let r = c.requires in
-    let t = told_file c.args.version c.ranges.version.fits r.0 r.1 c.args.batch.now r.2 r.3 r.4 r.5
+    let t = stated_file c.args.version c.ranges.version.fits r.0 r.1 c.args.batch.now r.2 r.3 r.4 r.5
     (items_at c.in_ok-row.row.items) c.in_ok-row.ensures (items_at c.as_slice.result.now) c.in_ok-file.file.items
     (ap items_at c.as_slice.ensures.value)
     c.in_ok-file.ensures in

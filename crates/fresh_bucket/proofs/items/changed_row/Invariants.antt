@@ -1,6 +1,4 @@
-use Rattle.std.proofs.Common.{◌≡◌, take, map}
-use Rattle.fresh_bucket.specs.Items.{changed}
-use Rattle.fresh_bucket.specs.ItemRefs.{items_at}
+use Rattle.fresh_bucket.proofs.Prelude.{◌≡◌, take, map, changed, items_at}
 use Rattle.fresh_bucket.proofs.items.changed_row.Given as goal
 
 abbrev pub invariant-loop-entry : goal.invariant-loop-entry

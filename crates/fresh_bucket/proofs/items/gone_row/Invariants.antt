@@ -1,6 +1,4 @@
-use Rattle.std.proofs.Common.{◌≡◌, take, map}
-use Rattle.fresh_bucket.specs.Items.{gone}
-use Rattle.fresh_bucket.specs.ItemRefs.{items_at}
+use Rattle.fresh_bucket.proofs.Prelude.{◌≡◌, take, map, gone, items_at}
 use Rattle.fresh_bucket.proofs.items.gone_row.Given as goal
 
 abbrev pub invariant-loop-key : goal.invariant-loop-key

@@ -1,20 +1,13 @@
-use Rattle.std.proofs.Common.{◌≡◌, sym, subst, ap, ◌∙◌, map, List}
-use Rattle.std.proofs.lemmas.Result.{IfOk-weaker}
-use Rattle.ledger_types.specs.declared.key.LedgerKey.{LedgerKey}
-use Rattle.ledger_types.specs.declared.bucket.BucketEntry.{BucketEntry}
+use Rattle.fresh_bucket.proofs.Prelude.{◌≡◌, sym, subst, ap, ◌∙◌, map, List, IfOk-weaker, LedgerKey, BucketEntry}
+use Rattle.fresh_bucket.proofs.Prelude.{key_of, AreRising, IsRising, IsOverlaid, ItemRef, made, changed, gone, item_at}
+use Rattle.fresh_bucket.proofs.Prelude.{items_at}
 use Rattle.ledger_types.specs.declared.bucket.BucketEntry.TheVariants as bucket
-use Rattle.ledger_types.specs.Keys.{key_of}
-use Rattle.entry_map.specs.KeyMaps.{AreRising}
-use Rattle.entry_table.specs.Rows.{IsRising, IsOverlaid}
-use Rattle.fresh_bucket.specs.declared.item_ref.ItemRef.{ItemRef}
-use Rattle.fresh_bucket.specs.Items.{made, changed, gone}
-use Rattle.fresh_bucket.specs.ItemRefs.{item_at, items_at}
 use Rattle.fresh_bucket.proofs.Listed.{sorted}
 use Rattle.fresh_bucket.proofs.Revalued.{sorted_before, overlaid}
-use Rattle.fresh_bucket.proofs.Told.{themselves, all_items}
+use Rattle.fresh_bucket.proofs.Stated.{themselves, all_items}
 use Rattle.fresh_bucket.proofs.items.item_row.Goals as goal
 
--- a row rises where the items that stand there do
+-- a row rises where the items in it do
 rises : (row : List (LedgerKey × ItemRef)) (items : List (LedgerKey × BucketEntry)) → items_at row ≡ items
     → IsRising items → IsRising row
 rises row items is h = sorted_before item_at row (subst (λ (r : List (LedgerKey × BucketEntry)). IsRising r) (sym is) h)

@@ -1,6 +1,4 @@
-use Rattle.std.proofs.Common.{◌≡◌, take, map}
-use Rattle.fresh_bucket.specs.Items.{made}
-use Rattle.fresh_bucket.specs.ItemRefs.{items_at}
+use Rattle.fresh_bucket.proofs.Prelude.{◌≡◌, take, map, made, items_at}
 use Rattle.fresh_bucket.proofs.items.made_row.Given as goal
 
 abbrev pub invariant-loop-entry : goal.invariant-loop-entry

@@ -1,7 +1,4 @@
-use Rattle.std.proofs.Common.{◌≡◌, ◌++◌, take, map}
-use Rattle.std.specs.List.{flat_map}
-use Rattle.bucket_core.specs.bucket_items.MarkedItem.{record_of}
-use Rattle.fresh_bucket.specs.ItemRefs.{items_at}
+use Rattle.fresh_bucket.proofs.Prelude.{◌≡◌, ◌++◌, take, map, flat_map, record_of, items_at}
 use Rattle.fresh_bucket.proofs.write.write_items.Given as goal
 
 -- the records of the items so far

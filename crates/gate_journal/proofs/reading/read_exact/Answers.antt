@@ -1,6 +1,5 @@
-use Rattle.std.proofs.Common.{◌≡◌, ℕ, ◌+◌, length, take, drop, refl, sym, ◌∙◌, ap, arith, length-append}
-use Rattle.std.proofs.lemmas.List.{take_all}
-use Rattle.outside.specs.Disk.{Image}
+use Rattle.gate_journal.proofs.Prelude.{◌≡◌, ℕ, ◌+◌, length, take, drop, refl, sym, ◌∙◌, ap, arith, length-append}
+use Rattle.gate_journal.proofs.Prelude.{take_all, Image}
 use Rattle.gate_journal.proofs.Staying.{stays_none, stays_more}
 use Rattle.gate_journal.proofs.Pieces.{read_more}
 use Rattle.gate_journal.proofs.reading.read_exact.Goals as goal
@@ -8,22 +7,22 @@ use Rattle.gate_journal.proofs.reading.read_exact.Goals as goal
 pub loop-done-init : goal.loop-done-init
 loop-done-init g c = record {
   within = omega arith;
-  bytes = λ told. refl;
+  bytes = λ reported. refl;
   stays =
       stays_none (g.V.Volume.disk c.args.vol.now);
   later = omega arith;
 }
 
 pub read_at-requires-clause-within : goal.read_at-requires-clause-within
-read_at-requires-clause-within g c = λ told.
-    let asked = c.requires.within told in
+read_at-requires-clause-within g c = λ reported.
+    let asked = c.requires.within reported in
     let same = ap (λ (f : Image). length (f c.args.file)) c.loop-done.invariant.stays.reads in
     omega (arith, asked, same, c.split_at_mut-rest.ensures.back_len, c.loop-done.auto.buf)
 
 pub loop-done-preserved : goal.loop-done-preserved
 loop-done-preserved g c =
     let before = c.loop-done.invariant in
-    let front = c.split_at_mut-rest.result.0.now in
+    let prefix = c.split_at_mut-rest.result.0.now in
     let reads = (g.V.Volume.disk c.args.vol.now).reads in
     let old = g.V.Volume.disk c.args.vol.now in
     let mid = g.V.Volume.disk c.loop-done.vol in
@@ -33,15 +32,15 @@ loop-done-preserved g c =
         arith,
         c.in-Ok.ensures.most,
         c.split_at_mut-rest.ensures.front_len,
-        length-append front
+        length-append prefix
             c.read_at.new.buf,
       );
-      bytes = λ told.
+      bytes = λ reported.
           let same = ap (λ (f : Image). take c.in-Ok.count (drop (c.args.at + c.loop-done.done) (f c.args.file)))
           (c.read_at.ensures.stays.reads ∙ before.stays.reads) in
-          read_more c.loop-done.done c.in-Ok.count c.args.at front c.read_at.new.buf (reads c.args.file)
+          read_more c.loop-done.done c.in-Ok.count c.args.at prefix c.read_at.new.buf (reads c.args.file)
           (sym c.split_at_mut-rest.ensures.front_len)
-          (c.split_at_mut-rest.ensures.front ∙ before.bytes told) (c.in-Ok.ensures.bytes told ∙ same);
+          (c.split_at_mut-rest.ensures.front ∙ before.bytes reported) (c.in-Ok.ensures.bytes reported ∙ same);
       stays = stays_more old mid new before.stays c.read_at.ensures.stays;
       later = omega (arith, before.later, c.read_at.ensures.cause.later);
     }
@@ -60,10 +59,10 @@ returns-in-Err-clause-cause g c =
     }
 
 pub returns-clause-bytes : goal.returns-clause-bytes
-returns-clause-bytes g c = λ told.
+returns-clause-bytes g c = λ reported.
     let done : c.loop-done.done ≡ length c.loop-done.buf =
     omega (arith, c.loop-done.invariant.within, c.loop-done-test.false) in
-    sym (take_all c.loop-done.done c.loop-done.buf (omega arith)) ∙ c.loop-done.invariant.bytes told
+    sym (take_all c.loop-done.done c.loop-done.buf (omega arith)) ∙ c.loop-done.invariant.bytes reported
     ∙ ap (λ (n : ℕ). take n (drop c.args.at ((g.V.Volume.disk c.args.vol.now).reads c.args.file))) done
 
 pub returns-clause-stays : goal.returns-clause-stays

@@ -1,5 +1,4 @@
-use Rattle.std.proofs.Common.{Ok, sym, ap, ◌≡◌, ◌++◌, ◌∙◌, List, ℕ, Result, take}
-use Rattle.std.specs.List.{flat_map}
+use Rattle.hash_ids.proofs.Prelude.{Ok, sym, ap, ◌≡◌, ◌++◌, ◌∙◌, List, ℕ, Result, take, flat_map}
 use Rattle.std.specs.declared.alloc.AllocError.{AllocError}
 use Rattle.std.proofs.lemmas.List.{take_all}
 use Rattle.sha2.specs.Sha256.{sha256}
@@ -12,9 +11,9 @@ answered digest = Ok (record { 0 = digest })
 
 pub returns : goal.returns
 returns g c =
-    let whole : take c.loop-envelope.envelope-index c.args.envelopes.now
+    let entire : take c.loop-envelope.envelope-index c.args.envelopes.now
     ≡ c.args.envelopes.now =
     take_all c.loop-envelope.envelope-index c.args.envelopes.now c.loop-envelope-test.false in
-    let text = ap (flat_map (λ e. g.T.AsSlice.items e)) whole
+    let text = ap (flat_map (λ e. g.T.AsSlice.items e)) entire
     ∙ sym (flat_map-map (λ e. g.T.AsSlice.items e) c.args.envelopes.now) in
     ap answered (c.finalize.ensures _ c.loop-envelope.invariant ∙ ap (λ t. sha256 (c.args.previous.now.0 ++ t)) text)

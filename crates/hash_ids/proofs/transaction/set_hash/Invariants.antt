@@ -1,5 +1,4 @@
-use Rattle.std.proofs.Common.{◌++◌, take}
-use Rattle.std.specs.List.{flat_map}
+use Rattle.hash_ids.proofs.Prelude.{◌++◌, take, flat_map}
 use Rattle.sha2.specs.Hashers.{Holds256}
 use Rattle.hash_ids.proofs.transaction.set_hash.Given as goal
 

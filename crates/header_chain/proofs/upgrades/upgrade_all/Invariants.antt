@@ -1,8 +1,7 @@
-use Rattle.std.proofs.Common.{◌≡◌, ◌≤◌, ◌-◌, length, map, drop}
-use Rattle.header_chain.specs.Upgrades.{upgrade_in, all_upgraded}
+use Rattle.header_chain.proofs.Prelude.{◌≡◌, ◌≤◌, ◌-◌, length, map, drop, upgrade_in, all_upgraded}
 use Rattle.header_chain.proofs.upgrades.upgrade_all.Given as goal
 
--- those so far and those that are left make the whole
+-- those so far and those that are left make up all of them
 abbrev pub invariant-loop-i : goal.invariant-loop-i
 invariant-loop-i l =
     (all_upgraded l.header (map upgrade_in (drop l.i l.upgrades))

@@ -1,5 +1,4 @@
-use Rattle.std.proofs.Common.{refl, arith}
-use Rattle.close_rules.specs.legal_rules.Legal.{AreLinesAuthorized}
+use Rattle.image_rules.proofs.Prelude.{refl, arith, AreLinesAuthorized}
 use Rattle.image_rules.proofs.Listed.{holds_of_all, holds_at}
 use Rattle.image_rules.proofs.authorized.are_all_authorized.Goals as goal
 
@@ -8,13 +7,13 @@ returns-then-not-authorized c =
     let m = c.args.entries.now in (
       λ no. absurd (cc),
       λ all.
-          let holds = c.in_ok-authorized.ensures.1 (holds_at (λ e. AreLinesAuthorized m e.body) m c.loop-place.place
+          let holds = c.in_ok-authorized.ensures.1 (holds_at (λ e. AreLinesAuthorized m e.body) m c.loop-index.index
           c.entry.result.now all c.entry.ensures.entry) in cc,
     )
 
 pub returns : goal.returns
 returns c =
     let m = c.args.entries.now in (
-      λ _. holds_of_all (λ e. AreLinesAuthorized m e.body) m c.loop-place.place (omega arith) c.loop-place.invariant,
+      λ _. holds_of_all (λ e. AreLinesAuthorized m e.body) m c.loop-index.index (omega arith) c.loop-index.invariant,
       λ _. refl,
     )

@@ -1,6 +1,4 @@
-use Rattle.std.proofs.Common.{subst, sym}
-use Rattle.std.specs.Prelude.{◌↔◌, IsTrue, IfOk}
-use Rattle.close_rules.specs.legal_rules.Legal.{AreLinesAuthorized}
+use Rattle.image_rules.proofs.Prelude.{subst, sym, ◌↔◌, IsTrue, IfOk, AreLinesAuthorized}
 use Rattle.image_rules.proofs.authorized.are_lines_authorized.Goals as goal
 
 pub returns-in-Offer : goal.returns-in-Offer

@@ -1,8 +1,4 @@
-use Rattle.std.proofs.Common.{subst, sym, OnOk}
-use Rattle.std.proofs.lemmas.Result.{on_ok_weaker}
-use Rattle.std.specs.Prelude.{pos}
-use Rattle.close_rules.specs.legal_rules.EntryKeys.{for_key}
-use Rattle.image_rules.specs.Counts.{Adds}
+use Rattle.image_rules.proofs.Prelude.{subst, sym, OnOk, on_ok_weaker, pos, for_key, Adds}
 use Rattle.image_rules.proofs.Counting.{added_for, added_nothing}
 use Rattle.image_rules.proofs.counts.add_at.Goals as goal
 

@@ -1,7 +1,4 @@
-use Rattle.std.proofs.Common.{subst, OnOk}
-use Rattle.std.specs.Prelude.{pos}
-use Rattle.close_rules.specs.legal_rules.EntryKeys.{for_key}
-use Rattle.image_rules.specs.Counts.{Adds}
+use Rattle.image_rules.proofs.Prelude.{subst, OnOk, pos, for_key, Adds}
 use Rattle.image_rules.proofs.counts.add_for.Goals as goal
 
 pub returns : goal.returns

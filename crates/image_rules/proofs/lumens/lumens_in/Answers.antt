@@ -1,9 +1,5 @@
-use Rattle.std.proofs.Common.{sym, ap, ◌∙◌, rules}
-use Rattle.std.proofs.lemmas.Int.{to_z-of_z}
-use Rattle.std.specs.Prelude.{FitsSigned}
-use Rattle.std.specs.Int.{w64}
+use Rattle.image_rules.proofs.Prelude.{sym, ap, ◌∙◌, rules, to_z-of_z, FitsSigned, w64, of_asset}
 use Rattle.ledger_types.specs.declared.asset.Asset.TheVariants as asset
-use Rattle.close_rules.specs.legal_rules.Supply.{of_asset}
 use Rattle.image_rules.proofs.Bounded.{lumens_of_pool}
 use Rattle.image_rules.proofs.lumens.lumens_in.Goals as goal
 

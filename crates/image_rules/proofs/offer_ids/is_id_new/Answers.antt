@@ -1,8 +1,4 @@
-use Rattle.std.proofs.Common.{subst, sym, rules}
-use Rattle.std.proofs.lemmas.Int.{to_z-of_z}
-use Rattle.std.specs.Prelude.{FitsSigned}
-use Rattle.std.specs.Int.{w64}
-use Rattle.image_rules.specs.OfferSets.{Brings}
+use Rattle.image_rules.proofs.Prelude.{subst, sym, rules, to_z-of_z, FitsSigned, w64, Brings}
 use Rattle.image_rules.proofs.Distinct.{brought_as}
 use Rattle.image_rules.proofs.offer_ids.is_id_new.Goals as goal
 

@@ -1,8 +1,5 @@
-use Rattle.std.proofs.Common.{◌≢◌, None, subst, All, IsTrue, ◌↔◌}
-use Rattle.std.specs.FinMap.{get}
-use Rattle.ledger_types.specs.declared.key.LedgerKey.{LedgerKey}
-use Rattle.close_rules.specs.legal_rules.Needs.{account_keys}
-use Rattle.close_rules.specs.legal_rules.Legal.{pools_in}
+use Rattle.image_rules.proofs.Prelude.{◌≢◌, None, subst, All, get, LedgerKey, account_keys, pools_in}
+use Rattle.std.proofs.Common.{IsTrue, ◌↔◌}
 use Rattle.image_rules.proofs.Naming.{needed_iff}
 use Rattle.image_rules.proofs.owners.is_owned.Goals as goal
 

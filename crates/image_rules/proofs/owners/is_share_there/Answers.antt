@@ -1,10 +1,6 @@
-use Rattle.std.proofs.Common.{◌≢◌, None, subst, All, IsTrue, ◌↔◌}
-use Rattle.std.proofs.lemmas.List.Elements.{All-cons, All-tail}
-use Rattle.std.specs.FinMap.{get}
-use Rattle.ledger_types.specs.declared.key.LedgerKey.{LedgerKey}
+use Rattle.image_rules.proofs.Prelude.{◌≢◌, None, subst, All, All-cons, All-tail, get, LedgerKey, share_keys, pools_in}
+use Rattle.std.proofs.Common.{IsTrue, ◌↔◌}
 use Rattle.ledger_types.specs.declared.key.LedgerKey.TheVariants as key
-use Rattle.close_rules.specs.legal_rules.Needs.{share_keys}
-use Rattle.close_rules.specs.legal_rules.Legal.{pools_in}
 use Rattle.image_rules.proofs.owners.is_share_there.Goals as goal
 
 pub returns-then-pool : goal.returns-then-pool

@@ -1,6 +1,4 @@
-use Rattle.std.proofs.Common.{subst, sym}
-use Rattle.std.specs.Prelude.{◌↔◌, IsTrue, IfOk}
-use Rattle.image_rules.specs.PoolRanges.{HasPoolId}
+use Rattle.image_rules.proofs.Prelude.{subst, sym, ◌↔◌, IsTrue, IfOk, HasPoolId}
 use Rattle.image_rules.proofs.pool_ranges.has_pool_id.Goals as goal
 
 pub returns-in-LiquidityPool : goal.returns-in-LiquidityPool

@@ -1,5 +1,4 @@
-use Rattle.std.proofs.Common.{arith}
-use Rattle.std.proofs.lemmas.Int.{ints, to_z-of_z}
+use Rattle.image_rules.proofs.Prelude.{arith, ints, to_z-of_z}
 use Rattle.image_rules.proofs.room.fits_within.Goals as goal
 
 pub returns : goal.returns

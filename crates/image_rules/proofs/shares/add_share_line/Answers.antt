@@ -1,7 +1,4 @@
-use Rattle.std.proofs.lemmas.Result.{on_ok_weaker}
-use Rattle.std.specs.Prelude.{pos}
-use Rattle.close_rules.specs.legal_rules.EntryKeys.{for_key}
-use Rattle.close_rules.specs.legal_rules.PoolShares.{share_lines}
+use Rattle.image_rules.proofs.Prelude.{on_ok_weaker, pos, for_key, share_lines}
 use Rattle.image_rules.proofs.Counting.{added_as}
 use Rattle.image_rules.proofs.Naming.{lined_at}
 use Rattle.image_rules.proofs.shares.add_share_line.Goals as goal

@@ -1,6 +1,4 @@
-use Rattle.std.proofs.lemmas.Result.{on_ok_weaker}
-use Rattle.close_rules.specs.legal_rules.PoolShares.{uses_of, uses_by}
-use Rattle.close_rules.specs.legal_rules.Legal.{pools_in}
+use Rattle.image_rules.proofs.Prelude.{on_ok_weaker, uses_of, uses_by, pools_in}
 use Rattle.image_rules.proofs.Counting.{added_as}
 use Rattle.image_rules.proofs.Naming.{used_by}
 use Rattle.image_rules.proofs.shares.add_uses_by.Goals as goal

@@ -1,8 +1,4 @@
-use Rattle.std.proofs.Common.{Some}
-use Rattle.std.proofs.lemmas.Result.{on_ok_weaker}
-use Rattle.std.specs.Prelude.{pos}
-use Rattle.close_rules.specs.legal_rules.EntryKeys.{for_key}
-use Rattle.close_rules.specs.legal_rules.PoolShares.{uses_of}
+use Rattle.image_rules.proofs.Prelude.{Some, on_ok_weaker, pos, for_key, uses_of}
 use Rattle.image_rules.proofs.Counting.{added_both}
 use Rattle.image_rules.proofs.Naming.{used_both}
 use Rattle.image_rules.proofs.shares.add_uses_of.Goals as goal

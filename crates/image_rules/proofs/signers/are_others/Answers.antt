@@ -1,6 +1,4 @@
-use Rattle.std.proofs.Common.{◌≢◌, subst, All, Some, refl, arith}
-use Rattle.std.proofs.lemmas.List.{take_all}
-use Rattle.std.proofs.lemmas.List.Elements.{All-more}
+use Rattle.image_rules.proofs.Prelude.{◌≢◌, subst, All, Some, refl, arith, take_all, All-more}
 use Rattle.image_rules.proofs.signers.are_others.Goals as goal
 
 pub loop-sponsor-preserved : goal.loop-sponsor-preserved

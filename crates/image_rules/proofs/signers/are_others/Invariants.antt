@@ -1,4 +1,4 @@
-use Rattle.std.proofs.Common.{◌≢◌, All, Some, take}
+use Rattle.image_rules.proofs.Prelude.{◌≢◌, All, Some, take}
 use Rattle.image_rules.proofs.signers.are_others.Given as goal
 
 abbrev pub invariant-loop-sponsor : goal.invariant-loop-sponsor

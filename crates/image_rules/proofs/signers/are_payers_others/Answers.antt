@@ -1,4 +1,4 @@
-use Rattle.std.proofs.Common.{refl, sym}
+use Rattle.image_rules.proofs.Prelude.{refl, sym}
 use Rattle.image_rules.proofs.Naming.{others_by_none}
 use Rattle.image_rules.proofs.signers.are_payers_others.Goals as goal
 

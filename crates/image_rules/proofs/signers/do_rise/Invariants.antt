@@ -1,5 +1,5 @@
 use Rattle.image_rules.proofs.Rising.{RiseBefore}
 use Rattle.image_rules.proofs.signers.do_rise.Given as goal
 
-abbrev pub invariant-loop-place : goal.invariant-loop-place
-invariant-loop-place l = RiseBefore l.signers l.place
+abbrev pub invariant-loop-index : goal.invariant-loop-index
+invariant-loop-index l = RiseBefore l.signers l.index

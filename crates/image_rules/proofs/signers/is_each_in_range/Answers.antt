@@ -1,7 +1,4 @@
-use Rattle.std.proofs.Common.{subst, All, refl, arith}
-use Rattle.std.proofs.lemmas.List.{take_all}
-use Rattle.std.proofs.lemmas.List.Elements.{All-more}
-use Rattle.image_rules.specs.Signers.{IsSignerInRange}
+use Rattle.image_rules.proofs.Prelude.{subst, All, refl, arith, take_all, All-more, IsSignerInRange}
 use Rattle.image_rules.proofs.signers.is_each_in_range.Goals as goal
 
 pub loop-signer-preserved : goal.loop-signer-preserved

@@ -1,5 +1,4 @@
-use Rattle.std.proofs.Common.{All, take}
-use Rattle.image_rules.specs.Signers.{IsSignerInRange}
+use Rattle.image_rules.proofs.Prelude.{All, take, IsSignerInRange}
 use Rattle.image_rules.proofs.signers.is_each_in_range.Given as goal
 
 abbrev pub invariant-loop-signer : goal.invariant-loop-signer

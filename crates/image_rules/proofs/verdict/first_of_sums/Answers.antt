@@ -1,4 +1,4 @@
-use Rattle.std.proofs.Common.{refl, [], ◌∷◌, Some, None}
+use Rattle.image_rules.proofs.Prelude.{refl, [], ◌∷◌, Some, None}
 use Rattle.close_rules.specs.declared.image_fault.ImageRule.TheVariants as rule
 use Rattle.image_rules.proofs.Judged.{broken_first, kept_first}
 use Rattle.image_rules.proofs.verdict.first_of_sums.Goals as goal

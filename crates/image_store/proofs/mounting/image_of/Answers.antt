@@ -1,10 +1,10 @@
-use Rattle.std.proofs.Common.{List, ℕ}
-use Rattle.image_store.proofs.Whole.{all_behind, told_image}
+use Rattle.image_store.proofs.Prelude.{List, ℕ}
+use Rattle.image_store.proofs.Complete.{all_after, reported_image}
 use Rattle.image_store.proofs.mounting.image_of.Goals as goal
 
-pub returns-clause-told : goal.returns-clause-told
-returns-clause-told g c = λ told.
+pub returns-clause-reported : goal.returns-clause-reported
+returns-clause-reported g c = λ reported.
     let file : List ℕ = (g.V.Volume.disk c.args.vol.now).reads c.args.file in
-    told_image c.args.file file c.in_ok-bytes.bytes.items c.whole_image.result
-    (all_behind file c.in_ok-bytes.bytes.items c.args.len (c.requires.size told) (c.in_ok-bytes.ensures.bytes told))
-    c.whole_image.ensures
+    reported_image c.args.file file c.in_ok-bytes.bytes.items c.complete_image.result
+    (all_after file c.in_ok-bytes.bytes.items c.args.len (c.requires.size reported) (c.in_ok-bytes.ensures.bytes reported))
+    c.complete_image.ensures

@@ -1,6 +1,4 @@
-use Rattle.std.proofs.Common.{◌≡◌, sym, ap, ◌∙◌, List, ℕ, ◌++◌, take, drop}
-use Rattle.std.proofs.lemmas.List.{append_assoc, drop-drop}
-use Rattle.byteorder.specs.Endian.{big_bytes}
+use Rattle.image_store.proofs.Prelude.{◌≡◌, sym, ap, ◌∙◌, List, ℕ, ◌++◌, take, drop, append_assoc, drop-drop, big_bytes}
 use Rattle.image_store.proofs.piece.put_length.Goals as goal
 
 pub returns-clause-put : goal.returns-clause-put

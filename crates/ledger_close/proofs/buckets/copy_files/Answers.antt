@@ -1,8 +1,5 @@
-use Rattle.std.proofs.Common.{◌≡◌, ◌<◌, List, [], ◌∷◌, ◌++◌, length, sym, subst, arith, rules}
-use Rattle.bucket_core.specs.File.{file_of}
-use Rattle.bucket_levels.specs.Pairs.{Pair}
-use Rattle.bucket_levels.specs.Levels.{pair_of}
-use Rattle.close_rules.specs.Images.{AreFilesOf}
+use Rattle.ledger_close.proofs.Prelude.{◌≡◌, ◌<◌, List, [], ◌∷◌, ◌++◌, length, sym, subst, arith, rules, file_of, Pair}
+use Rattle.ledger_close.proofs.Prelude.{pair_of, AreFilesOf}
 use Rattle.ledger_close.proofs.Files.{HasBoth, one_more_written, all_written}
 use Rattle.ledger_close.proofs.buckets.copy_files.Goals as goal
 
@@ -13,11 +10,11 @@ loop-level-preserved c =
     let pair : Pair = pair_of c.pair-pair.result.now in
     let both : HasBoth pair = (search rules, search rules) in
     let half : c.push_file.new.files.items ≡ c.loop-level.files.items ++ file_of pair.curr ∷ [] = search rules in
-    let whole : c.push_file-in-loop-level.new.files.items ≡ c.push_file.new.files.items ++ file_of pair.snap ∷ [] =
+    let entire : c.push_file-in-loop-level.new.files.items ≡ c.push_file.new.files.items ++ file_of pair.snap ∷ [] =
     search rules in
     one_more_written levels pair c.loop-level.files.items c.push_file.new.files.items
     c.push_file-in-loop-level.new.files.items c.loop-level.level c.loop-level.invariant below c.pair-pair.ensures both
-    half whole
+    half entire
 
 pub returns : goal.returns
 returns c =

@@ -1,4 +1,4 @@
-use Rattle.std.proofs.Common.{ℕ, ◌≡◌, ◌+◌, ◌*◌, List, drop, ap, ◌∙◌, arith, rules}
+use Rattle.ledger_close.proofs.Prelude.{ℕ, ◌≡◌, ◌+◌, ◌*◌, List, drop, ap, ◌∙◌, arith, rules}
 use Rattle.ledger_close.proofs.Files.{one_more_read, no_levels, weaker, next_file, file_ahead}
 use Rattle.ledger_close.proofs.buckets.read_pairs.Goals as goal
 
@@ -38,10 +38,10 @@ loop-level-preserved c =
     curr c.loop-level.invariant.left c.remove-curr.ensures.value c.remove-curr.ensures.by_index.2 in
     let second = next_file files c.remove-curr.new.self.items c.remove-snap.new.self.items (2 * c.loop-level.level + 1)
     snap first.left c.remove-snap.ensures.value c.remove-snap.ensures.by_index.2 in
-    let place : 2 * c.loop-level.level + 1 + 1 ≡ 2 * (c.loop-level.level + 1) = omega arith in
+    let index : 2 * c.loop-level.level + 1 + 1 ≡ 2 * (c.loop-level.level + 1) = omega arith in
     record {
       read = one_more_read files c.loop-level.pairs.items c.push_pair.new.pairs.items c.in-Ok.pair c.loop-level.level
           curr snap c.loop-level.invariant.read (omega (arith, c.requires)) first.is second.is c.in-Ok.ensures.curr
           c.in-Ok.ensures.snap c.in_ok-push_pair-in-Ok.ensures;
-      left = second.left ∙ ap (λ (n : ℕ). drop n files) place;
+      left = second.left ∙ ap (λ (n : ℕ). drop n files) index;
     }

@@ -1,9 +1,5 @@
-use Rattle.std.proofs.Common.{rules, ◌≡◌, Some, None, Option, sym, subst, Err}
-use Rattle.bucket_levels.specs.Hash.{list_hash}
-use Rattle.close_rules.specs.declared.image_fault.ImageFault.{ImageFault}
-use Rattle.close_rules.specs.EntryRules.{IsFirstBroken, entry_rules}
-use Rattle.close_rules.specs.declared.image_fault.ImageRule.{ImageRule}
-use Rattle.ledger_close.specs.Judging.{AreJudged}
+use Rattle.ledger_close.proofs.Prelude.{rules, ◌≡◌, Some, None, Option, sym, subst, Err, list_hash, ImageFault}
+use Rattle.ledger_close.proofs.Prelude.{IsFirstBroken, entry_rules, ImageRule, AreJudged}
 use Rattle.ledger_close.proofs.Judged.{by_rule}
 use Rattle.ledger_close.proofs.image.judge_entries.Goals as goal
 

@@ -1,9 +1,5 @@
-use Rattle.std.proofs.Common.{rules, ◌≡◌, ◌≤◌, List, map, sym, subst}
-use Rattle.bucket_levels.specs.declared.pair.LevelPair.{LevelPair}
-use Rattle.bucket_levels.specs.Levels.{pair_of}
-use Rattle.bucket_levels.specs.Size.{file_total}
-use Rattle.close_rules.specs.State.{max_file_total}
-use Rattle.close_rules.specs.Images.{AreFilesOf}
+use Rattle.ledger_close.proofs.Prelude.{rules, ◌≡◌, ◌≤◌, List, map, sym, subst, LevelPair, pair_of, file_total}
+use Rattle.ledger_close.proofs.Prelude.{max_file_total, AreFilesOf}
 use Rattle.ledger_close.proofs.Judged.{no_levels, too_long}
 use Rattle.ledger_close.proofs.image.judge_files.Goals as goal
 

@@ -1,5 +1,5 @@
 use Rattle.legal_rules.proofs.consequences.accounts_ready.Goals as goal
-use Rattle.legal_rules.proofs.Given.{accounts_ready}
+use Rattle.legal_rules.proofs.LegalConsequences.{accounts_ready}
 
 pub returns : goal.returns
 returns c = accounts_ready

@@ -1,4 +1,4 @@
-use Rattle.std.proofs.Common.{ℕ, ◌<◌, ◌≤◌, List, length, drop, sym, subst, ap, ◌∙◌}
+use Rattle.level_entries.proofs.Prelude.{ℕ, ◌<◌, ◌≤◌, List, length, drop, sym, subst, ap, ◌∙◌}
 use Rattle.level_entries.proofs.FileRows.{GoesOn, starts, shows, ends, file_row_is}
 use Rattle.level_entries.proofs.file_row.file_row.Goals as goal
 

@@ -1,5 +1,4 @@
-use Rattle.std.proofs.Common.{◌≡◌, length}
-use Rattle.xdr_core.specs.Place.{start_of}
+use Rattle.level_entries.proofs.Prelude.{◌≡◌, length, start_of}
 use Rattle.level_entries.proofs.FileRows.{GoesOn}
 use Rattle.level_entries.proofs.file_row.file_row.Given as goal
 

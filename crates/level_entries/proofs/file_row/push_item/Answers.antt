@@ -1,4 +1,4 @@
-use Rattle.std.proofs.Common.{◌++◌, ◌∷◌, [], ap, sym, ◌∙◌}
+use Rattle.level_entries.proofs.Prelude.{◌++◌, ◌∷◌, [], ap, sym, ◌∙◌}
 use Rattle.level_entries.proofs.StoredItems.{stored_by, stored_row}
 use Rattle.level_entries.proofs.file_row.push_item.Goals as goal
 

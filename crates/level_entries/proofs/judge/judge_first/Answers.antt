@@ -1,9 +1,6 @@
-use Rattle.std.proofs.Common.{◌+◌, drop, sym, subst}
-use Rattle.std.specs.declared.cmp.Ordering.TheVariants.{Less, Equal, Greater}
-use Rattle.bucket_items.specs.Item.{item_type}
+use Rattle.level_entries.proofs.Prelude.{◌+◌, drop, sym, subst, Less, Equal, Greater, item_type, MayFollowBy}
 use Rattle.bucket_items.specs.declared.item.BucketEntryType.{BucketEntryType}
-use Rattle.level_entries.specs.Stored.{MayStandBy}
-use Rattle.level_entries.proofs.JudgedRows.{from_place, ordered, judged_less, judged_equal, judged_greater}
+use Rattle.level_entries.proofs.JudgedRows.{from_index, ordered, judged_less, judged_equal, judged_greater}
 use Rattle.level_entries.proofs.JudgedRows.{refused_equal}
 use Rattle.level_entries.proofs.judge.judge_first.Goals as goal
 
@@ -12,43 +9,43 @@ returns-in-Less c =
     let older = c.args.older.now in
     let newer = c.args.newer.now in
     let item = c.index-newer-turn.result in
-    let under = c.index-older-place.result in
-    judged_less (drop c.args.place older) (drop c.args.turn newer) (drop (c.args.turn + 1) newer) item
-    (from_place newer c.args.turn item c.requires.turn c.index-newer-turn.is) c.requires.older c.requires.newer
-    (drop (c.args.place + 1) older) under (from_place older c.args.place under c.requires.place c.index-older-place.is)
+    let under = c.index-older-index.result in
+    judged_less (drop c.args.index older) (drop c.args.turn newer) (drop (c.args.turn + 1) newer) item
+    (from_index newer c.args.turn item c.requires.turn c.index-newer-turn.is) c.requires.older c.requires.newer
+    (drop (c.args.index + 1) older) under (from_index older c.args.index under c.requires.index c.index-older-index.is)
     (ordered c.key.result.now c.key-2.result.now under.0 item.0 c.order.result Less c.key.ensures c.key-2.ensures
     c.order.ensures c.in-Less.is)
 
-pub returns-then-may_stand : goal.returns-then-may_stand
-returns-then-may_stand c =
+pub returns-then-may_follow : goal.returns-then-may_follow
+returns-then-may_follow c =
     let older = c.args.older.now in
     let newer = c.args.newer.now in
     let item = c.index-newer-turn.result in
-    let under = c.index-older-place.result in
-    judged_equal (drop c.args.place older) (drop c.args.turn newer) (drop (c.args.turn + 1) newer) item
-    (from_place newer c.args.turn item c.requires.turn c.index-newer-turn.is) c.requires.older c.requires.newer
-    (drop (c.args.place + 1) older) under (from_place older c.args.place under c.requires.place c.index-older-place.is)
+    let under = c.index-older-index.result in
+    judged_equal (drop c.args.index older) (drop c.args.turn newer) (drop (c.args.turn + 1) newer) item
+    (from_index newer c.args.turn item c.requires.turn c.index-newer-turn.is) c.requires.older c.requires.newer
+    (drop (c.args.index + 1) older) under (from_index older c.args.index under c.requires.index c.index-older-index.is)
     (ordered c.key.result.now c.key-2.result.now under.0 item.0 c.order.result Equal c.key.ensures c.key-2.ensures
     c.order.ensures c.in-Equal.is)
-    (subst (λ (t : BucketEntryType). MayStandBy t (item_type under.1)) c.mark.ensures
-    (subst (λ (t : BucketEntryType). MayStandBy c.mark.result t) c.mark-in-Equal.ensures
-    (c.may_stand.ensures.0 c.if-may_stand.true)))
+    (subst (λ (t : BucketEntryType). MayFollowBy t (item_type under.1)) c.mark.ensures
+    (subst (λ (t : BucketEntryType). MayFollowBy c.mark.result t) c.mark-in-Equal.ensures
+    (c.may_follow.ensures.0 c.if-may_follow.true)))
 
-pub returns-else-may_stand : goal.returns-else-may_stand
-returns-else-may_stand c =
+pub returns-else-may_follow : goal.returns-else-may_follow
+returns-else-may_follow c =
     let older = c.args.older.now in
     let newer = c.args.newer.now in
     let item = c.index-newer-turn.result in
-    let under = c.index-older-place.result in
-    refused_equal (drop c.args.place older) (drop c.args.turn newer) (drop (c.args.turn + 1) newer) item
-    (from_place newer c.args.turn item c.requires.turn c.index-newer-turn.is) c.requires.older c.requires.newer
-    (drop (c.args.place + 1) older) under (from_place older c.args.place under c.requires.place c.index-older-place.is)
+    let under = c.index-older-index.result in
+    refused_equal (drop c.args.index older) (drop c.args.turn newer) (drop (c.args.turn + 1) newer) item
+    (from_index newer c.args.turn item c.requires.turn c.index-newer-turn.is) c.requires.older c.requires.newer
+    (drop (c.args.index + 1) older) under (from_index older c.args.index under c.requires.index c.index-older-index.is)
     (ordered c.key.result.now c.key-2.result.now under.0 item.0 c.order.result Equal c.key.ensures c.key-2.ensures
     c.order.ensures c.in-Equal.is)
     (λ may. cc (
-      c.may_stand.ensures.1 (subst (λ (t : BucketEntryType). MayStandBy c.mark.result t) (sym c.mark-in-Equal.ensures)
-          (subst (λ (t : BucketEntryType). MayStandBy t (item_type under.1)) (sym c.mark.ensures) may)),
-      c.if-may_stand.false,
+      c.may_follow.ensures.1 (subst (λ (t : BucketEntryType). MayFollowBy c.mark.result t) (sym c.mark-in-Equal.ensures)
+          (subst (λ (t : BucketEntryType). MayFollowBy t (item_type under.1)) (sym c.mark.ensures) may)),
+      c.if-may_follow.false,
     ))
 
 pub returns-in-Greater : goal.returns-in-Greater
@@ -56,9 +53,9 @@ returns-in-Greater c =
     let older = c.args.older.now in
     let newer = c.args.newer.now in
     let item = c.index-newer-turn.result in
-    let under = c.index-older-place.result in
-    judged_greater (drop c.args.place older) (drop c.args.turn newer) (drop (c.args.turn + 1) newer) item
-    (from_place newer c.args.turn item c.requires.turn c.index-newer-turn.is) c.requires.older c.requires.newer
-    (drop (c.args.place + 1) older) under (from_place older c.args.place under c.requires.place c.index-older-place.is)
+    let under = c.index-older-index.result in
+    judged_greater (drop c.args.index older) (drop c.args.turn newer) (drop (c.args.turn + 1) newer) item
+    (from_index newer c.args.turn item c.requires.turn c.index-newer-turn.is) c.requires.older c.requires.newer
+    (drop (c.args.index + 1) older) under (from_index older c.args.index under c.requires.index c.index-older-index.is)
     (ordered c.key.result.now c.key-2.result.now under.0 item.0 c.order.result Greater c.key.ensures c.key-2.ensures
     c.order.ensures c.in-Greater.is)

@@ -1,4 +1,4 @@
-use Rattle.std.proofs.Common.{length}
+use Rattle.level_entries.proofs.Prelude.{length}
 use Rattle.level_entries.proofs.levels.+row_of.Given as goal
 
 abbrev pub decreases-row_of : goal.decreases-row_of

@@ -1,6 +1,4 @@
-use Rattle.std.proofs.Common.{◌≡◌, take, map}
-use Rattle.entry_table.specs.Rows.{with_key}
-use Rattle.level_entries.specs.Rows.{entries_in}
+use Rattle.level_entries.proofs.Prelude.{◌≡◌, take, map, with_key, entries_in}
 use Rattle.level_entries.proofs.levels.entries_of.Given as goal
 
 abbrev pub invariant-loop-item : goal.invariant-loop-item

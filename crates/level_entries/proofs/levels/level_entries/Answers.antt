@@ -1,13 +1,8 @@
-use Rattle.std.proofs.Common.{map, sym, subst, ap, ◌∙◌, arith}
-use Rattle.std.proofs.lemmas.List.{get_or-map}
-use Rattle.entry_table.specs.Rows.{IsTableRow}
+use Rattle.level_entries.proofs.Prelude.{map, sym, subst, ap, ◌∙◌, arith, get_or-map, IsTableRow, pair_of, Pair}
+use Rattle.level_entries.proofs.Prelude.{empty_pair, files_of, entries_in}
 use Rattle.entry_table.proofs.Tables.{row_made}
-use Rattle.bucket_levels.specs.Levels.{pair_of}
-use Rattle.bucket_levels.specs.Pairs.{Pair, empty_pair}
-use Rattle.bucket_levels.specs.Meaning.{files_of}
-use Rattle.level_entries.specs.Rows.{entries_in}
 use Rattle.level_entries.proofs.Newest.{row_in, empty_of}
-use Rattle.level_entries.proofs.LeftEntries.{entries_rise, stands_for}
+use Rattle.level_entries.proofs.LeftEntries.{entries_rise, represents}
 use Rattle.level_entries.proofs.levels.level_entries.Goals as goal
 
 pub from_rising-requires : goal.from_rising-requires
@@ -20,7 +15,7 @@ from_rising-requires c =
 pub returns-in_ok-from_rising-in-Some : goal.returns-in_ok-from_rising-in-Some
 returns-in_ok-from_rising-in-Some c =
     let levels = map pair_of c.args.pairs.now in
-    stands_for levels c.in-Some.row.items c.in_ok-entries-in-Some.entries.items c.in_ok-from_rising-in-Some.field-0
+    represents levels c.in-Some.row.items c.in_ok-entries-in-Some.entries.items c.in_ok-from_rising-in-Some.field-0
     (row_in (λ v. v.items) (files_of levels) c.in_ok-row_of.field-0 c.in-Some.row c.in_ok-row_of.ensures c.in-Some.is)
     c.in_ok-entries-in-Some.ensures
     c.in_ok-from_rising-in-Some.ensures.map

@@ -1,5 +1,4 @@
-use Rattle.std.proofs.Common.{option_map}
-use Rattle.std.proofs.lemmas.Result.{IfOk-weaker}
+use Rattle.level_entries.proofs.Prelude.{option_map, IfOk-weaker}
 use Rattle.level_entries.proofs.Newest.{put_over}
 use Rattle.level_entries.proofs.levels.with_file.Goals as goal
 

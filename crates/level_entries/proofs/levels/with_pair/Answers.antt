@@ -1,9 +1,5 @@
-use Rattle.std.proofs.Common.{List, ◌∷◌, sym, subst, option_map}
-use Rattle.std.proofs.lemmas.Result.{IfOk-weaker}
-use Rattle.ledger_types.specs.declared.key.LedgerKey.{LedgerKey}
-use Rattle.bucket_core.specs.Bucket.{Contents}
-use Rattle.bucket_levels.specs.Meaning.{AreMarkedWell, changes_of}
-use Rattle.level_entries.specs.Rows.{IsRowOf}
+use Rattle.level_entries.proofs.Prelude.{List, ◌∷◌, sym, subst, option_map, IfOk-weaker, LedgerKey, Contents}
+use Rattle.level_entries.proofs.Prelude.{AreMarkedWell, changes_of, IsRowOf}
 use Rattle.level_entries.proofs.Newest.{row_in, none_in, fewer_marked}
 use Rattle.level_entries.proofs.levels.with_pair.Goals as goal
 

@@ -1,4 +1,4 @@
-use Rattle.std.proofs.Common.{◌≡◌, ◌++◌, take}
+use Rattle.level_entries.proofs.Prelude.{◌≡◌, ◌++◌, take}
 use Rattle.level_entries.proofs.overlay.push_all.Given as goal
 
 abbrev pub invariant-loop-item : goal.invariant-loop-item

@@ -1,7 +1,6 @@
-use Rattle.std.proofs.Common.{◌+◌, drop, arith}
-use Rattle.std.specs.declared.cmp.Ordering.TheVariants.{Less, Equal, Greater}
-use Rattle.entry_table.proofs.Passes.{older_passed, both_passed, newer_passed}
-use Rattle.level_entries.proofs.JudgedRows.{from_place, ordered}
+use Rattle.level_entries.proofs.Prelude.{◌+◌, drop, arith, Less, Equal, Greater, older_passed, both_passed}
+use Rattle.level_entries.proofs.Prelude.{newer_passed}
+use Rattle.level_entries.proofs.JudgedRows.{from_index, ordered}
 use Rattle.level_entries.proofs.overlay.push_first.Goals as goal
 
 pub returns-in_ok-push-in-Less : goal.returns-in_ok-push-in-Less
@@ -9,16 +8,16 @@ returns-in_ok-push-in-Less c =
     let older = c.args.older.now in
     let newer = c.args.newer.now in
     let item = c.index-newer-turn.result in
-    let under = c.index-older-place.result in
+    let under = c.index-older-index.result in
     record {
-      passed = older_passed (drop c.args.place older) (drop (c.args.place + 1) older) c.args.row.now.items
+      passed = older_passed (drop c.args.index older) (drop (c.args.index + 1) older) c.args.row.now.items
           c.push.new.row.items (drop c.args.turn newer) under
-          (from_place older c.args.place under c.requires.place c.index-older-place.is) c.requires.older
+          (from_index older c.args.index under c.requires.index c.index-older-index.is) c.requires.older
           c.requires.newer item (drop (c.args.turn + 1) newer)
-          (from_place newer c.args.turn item c.requires.turn c.index-newer-turn.is)
+          (from_index newer c.args.turn item c.requires.turn c.index-newer-turn.is)
           (ordered c.key.result.now c.key-2.result.now under.0 item.0 c.order.result Less c.key.ensures
           c.key-2.ensures c.order.ensures c.in-Less.is) c.in_ok-push-in-Less.ensures;
-      older_within = omega (arith, c.requires.place);
+      older_within = omega (arith, c.requires.index);
       newer_within = omega (arith, c.requires.turn);
     }
 
@@ -27,16 +26,16 @@ returns-in_ok-push-in-Equal c =
     let older = c.args.older.now in
     let newer = c.args.newer.now in
     let item = c.index-newer-turn.result in
-    let under = c.index-older-place.result in
+    let under = c.index-older-index.result in
     record {
-      passed = both_passed (drop c.args.place older) (drop (c.args.place + 1) older) c.args.row.now.items
+      passed = both_passed (drop c.args.index older) (drop (c.args.index + 1) older) c.args.row.now.items
           c.push-in-Equal.new.row.items (drop c.args.turn newer) under
-          (from_place older c.args.place under c.requires.place c.index-older-place.is) c.requires.older
+          (from_index older c.args.index under c.requires.index c.index-older-index.is) c.requires.older
           c.requires.newer item (drop (c.args.turn + 1) newer)
-          (from_place newer c.args.turn item c.requires.turn c.index-newer-turn.is)
+          (from_index newer c.args.turn item c.requires.turn c.index-newer-turn.is)
           (ordered c.key.result.now c.key-2.result.now under.0 item.0 c.order.result Equal c.key.ensures
           c.key-2.ensures c.order.ensures c.in-Equal.is) c.in_ok-push-in-Equal.ensures;
-      older_within = omega (arith, c.requires.place);
+      older_within = omega (arith, c.requires.index);
       newer_within = omega (arith, c.requires.turn);
     }
 
@@ -45,15 +44,15 @@ returns-in_ok-push-in-Greater c =
     let older = c.args.older.now in
     let newer = c.args.newer.now in
     let item = c.index-newer-turn.result in
-    let under = c.index-older-place.result in
+    let under = c.index-older-index.result in
     record {
-      passed = newer_passed (drop c.args.place older) (drop (c.args.place + 1) older) c.args.row.now.items
+      passed = newer_passed (drop c.args.index older) (drop (c.args.index + 1) older) c.args.row.now.items
           c.push-in-Greater.new.row.items (drop c.args.turn newer) under
-          (from_place older c.args.place under c.requires.place c.index-older-place.is) c.requires.older
+          (from_index older c.args.index under c.requires.index c.index-older-index.is) c.requires.older
           c.requires.newer item (drop (c.args.turn + 1) newer)
-          (from_place newer c.args.turn item c.requires.turn c.index-newer-turn.is)
+          (from_index newer c.args.turn item c.requires.turn c.index-newer-turn.is)
           (ordered c.key.result.now c.key-2.result.now under.0 item.0 c.order.result Greater c.key.ensures
           c.key-2.ensures c.order.ensures c.in-Greater.is) c.in_ok-push-in-Greater.ensures;
-      older_within = omega (arith, c.requires.place);
+      older_within = omega (arith, c.requires.index);
       newer_within = omega (arith, c.requires.turn);
     }

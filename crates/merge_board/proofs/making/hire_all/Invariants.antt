@@ -1,7 +1,4 @@
-use Rattle.std.proofs.Common.{◌≡◌, length}
-use Rattle.crossbeam_queue.specs.Passes.{view, IsPassOf}
-use Rattle.std.specs.List.{AllByRecursion}
-use Rattle.merge_board.specs.Parts.{AreNumbered, IsWorkerOf}
+use Rattle.merge_board.proofs.Prelude.{◌≡◌, length, view, IsPassOf, AllByRecursion, AreNumbered, IsWorkerOf}
 use Rattle.merge_board.specs.Hired.{AreHired}
 use Rattle.merge_board.proofs.making.hire_all.Given as goal
 

@@ -1,7 +1,6 @@
-use Rattle.std.proofs.Common.{ap, subst, ◌∙◌, None, w64}
+use Rattle.offer_book.proofs.Prelude.{ap, subst, ◌∙◌, None, w64, IsNextAfter, IsLeastAbove}
 use Rattle.std.proofs.Math.Facts.{to_z-of_z}
 use Rattle.ledger_types.specs.declared.key.LedgerKey.TheVariants.{Offer}
-use Rattle.entry_map.specs.EntryMap.{IsNextAfter, IsLeastAbove}
 use Rattle.offer_book.proofs.Selling.{none_next, entry_next}
 use Rattle.offer_book.proofs.sold.next_sold.Goals as goal
 

@@ -1,8 +1,7 @@
-use Rattle.std.proofs.Common.{◌≡◌, ◌++◌, length, pos}
-use Rattle.offer_book.specs.Sold.{left, sold_in}
+use Rattle.offer_book.proofs.Prelude.{◌≡◌, ◌++◌, length, pos, left, sold_in}
 use Rattle.offer_book.proofs.sold.of_account.Given as goal
 
--- what was found, and what stands ahead
+-- what was found, and what is ahead
 abbrev pub invariant-loop-offers : goal.invariant-loop-offers
 invariant-loop-offers g l =
     l.offers.items ++ sold_in l.seller (left l.entries.current l.seller l.id)

@@ -1,7 +1,5 @@
-use Rattle.std.proofs.Common.{sym, subst, ℤ, unsigned_abs, arith, rules}
+use Rattle.offer_exchange.proofs.Prelude.{sym, subst, ℤ, unsigned_abs, arith, rules, adjusted, IsBound, StaysAdjusted}
 use Rattle.std.proofs.lemmas.Int.{ints}
-use Rattle.offer_exchange.specs.Exchange.{adjusted}
-use Rattle.offer_exchange.specs.Laws.{IsBound, StaysAdjusted}
 use Rattle.offer_exchange.proofs.Adjusting.{adjusted_bound, adjusted_again}
 use Rattle.offer_exchange.proofs.offers.adjust.Goals as goal
 

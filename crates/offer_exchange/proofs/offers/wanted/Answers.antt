@@ -1,8 +1,5 @@
-use Rattle.std.proofs.Common.{◌≡◌, ap, ◌∙◌, unsigned_abs, rules}
-use Rattle.std.specs.Prelude.{pos}
-use Rattle.offer_exchange.specs.declared.rounding.Rounding.TheVariants.{Normal}
-use Rattle.offer_exchange.specs.Calls.{bounds_of, wanted_by}
-use Rattle.offer_exchange.specs.Exchange.{Amounts, offered, table}
+use Rattle.offer_exchange.proofs.Prelude.{◌≡◌, ap, ◌∙◌, unsigned_abs, rules, pos, Normal, bounds_of, wanted_by, Amounts}
+use Rattle.offer_exchange.proofs.Prelude.{offered, table}
 use Rattle.offer_exchange.proofs.offers.wanted.Goals as goal
 
 pub returns : goal.returns

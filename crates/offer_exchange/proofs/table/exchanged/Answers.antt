@@ -1,4 +1,4 @@
-use Rattle.offer_exchange.specs.Calls.{bounds_of}
+use Rattle.offer_exchange.proofs.Prelude.{bounds_of}
 use Rattle.offer_exchange.proofs.Within.{exchanged_within}
 use Rattle.offer_exchange.proofs.table.exchanged.Goals as goal
 

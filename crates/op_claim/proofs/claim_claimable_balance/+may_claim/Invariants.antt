@@ -1,4 +1,4 @@
-use Rattle.std.proofs.Common.{length}
+use Rattle.op_claim.proofs.Prelude.{length}
 use Rattle.op_claim.proofs.claim_claimable_balance.+may_claim.Given as goal
 
 abbrev pub decreases-may_claim : goal.decreases-may_claim

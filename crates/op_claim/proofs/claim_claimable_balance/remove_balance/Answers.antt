@@ -1,7 +1,5 @@
-use Rattle.std.proofs.Common.{sym, subst}
-use Rattle.std.proofs.lemmas.Result.{on_ok_weaker}
+use Rattle.op_claim.proofs.Prelude.{sym, subst, on_ok_weaker, BalancesAreInRange}
 use Rattle.ledger_types.specs.declared.key.LedgerKey.TheVariants as key
-use Rattle.op_form.specs.Premises.{BalancesAreInRange}
 use Rattle.op_claim.proofs.Removing.{balances_removed}
 use Rattle.op_claim.proofs.claim_claimable_balance.remove_balance.Goals as goal
 

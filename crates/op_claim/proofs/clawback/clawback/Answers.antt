@@ -1,4 +1,4 @@
-use Rattle.std.proofs.Common.{◌∙◌, ap}
+use Rattle.op_claim.proofs.Prelude.{◌∙◌, ap}
 use Rattle.entry_slots.specs.Lines.{line_of_slot}
 use Rattle.op_claim.proofs.clawback.clawback.Goals as goal
 

@@ -1,5 +1,4 @@
-use Rattle.std.proofs.Common.{◌≡◌, take, map}
-use Rattle.op_claim.specs.Predicates.{fixed_below}
+use Rattle.op_claim.proofs.Prelude.{◌≡◌, take, map, fixed_below}
 use Rattle.op_claim.proofs.predicates.+predicate_fixed.Given as goal
 
 -- the parts fixed so far

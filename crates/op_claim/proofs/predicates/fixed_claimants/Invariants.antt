@@ -1,5 +1,4 @@
-use Rattle.std.proofs.Common.{◌≡◌, take, map}
-use Rattle.op_claim.specs.Predicates.{fixed_claimant}
+use Rattle.op_claim.proofs.Prelude.{◌≡◌, take, map, fixed_claimant}
 use Rattle.op_claim.proofs.predicates.fixed_claimants.Given as goal
 
 -- the claimants fixed so far

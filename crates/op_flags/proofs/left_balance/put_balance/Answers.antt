@@ -1,10 +1,5 @@
-use Rattle.std.proofs.Common.{subst}
-use Rattle.ledger_types.specs.declared.entry.LedgerEntry.{LedgerEntry}
-use Rattle.sponsor_rules.specs.declared.context.Ctx.{Ctx}
-use Rattle.sponsor_rules.specs.Adding.{map_after_adding}
-use Rattle.sponsor_rules.specs.Outcome.{IsRefused}
-use Rattle.op_flags.specs.Outcomes.{low_answer, given_by, IsUnpaid, IsRevoked}
-use Rattle.op_flags.specs.RevokedShares.{revoked_balance, alone, balance_put}
+use Rattle.op_flags.proofs.Prelude.{subst, LedgerEntry, Ctx, map_after_adding, IsRefused, low_answer, given_by}
+use Rattle.op_flags.proofs.Prelude.{IsUnpaid, IsRevoked, revoked_balance, alone, balance_put}
 use Rattle.op_flags.proofs.Steps.{unpaid_so, if_ok}
 use Rattle.op_flags.proofs.left_balance.put_balance.Goals as goal
 

@@ -1,9 +1,5 @@
-use Rattle.std.proofs.Common.{◌≡◌, sym, subst, true, rules}
-use Rattle.trade_cross.specs.legal_rules.Legal.{view}
-use Rattle.trade_cross.specs.legal_rules.Owing.{AreEntriesLegal}
-use Rattle.trade_cross.proofs.legal_rules_proofs.Legality.{entries_legal}
-use Rattle.trade_cross.specs.Crossable.{IsCrossable}
-use Rattle.op_flags.specs.LineFlags.{map_after_flagging}
+use Rattle.op_flags.proofs.Prelude.{◌≡◌, sym, subst, true, rules, view, AreEntriesLegal, entries_legal, IsCrossable}
+use Rattle.op_flags.proofs.Prelude.{map_after_flagging}
 use Rattle.op_flags.proofs.Flagged.{flagged_legal}
 use Rattle.trade_cross.proofs.Crossables.{crossable_of}
 use Rattle.op_flags.proofs.line_flags.revoke.Goals as goal
@@ -28,4 +24,4 @@ revoke_shares-requires-clause-legal g c =
     subst (AreEntriesLegal id_pool) (sym now)
     (entries_legal (view m) id_pool _ flagged
     (flagged_legal (view m) id_pool _ trustor held c.requires.issued m c.requires.legal c.args.line.now
-    c.requires.stands flags c.requires.flags true c.requires.revoked))
+    c.requires.exists flags c.requires.flags true c.requires.revoked))

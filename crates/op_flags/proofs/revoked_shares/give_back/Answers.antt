@@ -1,8 +1,7 @@
-use Rattle.std.proofs.Common.{◌≡◌, sym, subst, pos, neg_ℤ, ◌≤ℤ◌, rules, w64, to_z, of_z}
+use Rattle.op_flags.proofs.Prelude.{◌≡◌, sym, subst, rules, w64, to_z, of_z, DoesFit, DoesPoolFit, DoShareLinesFit}
+use Rattle.op_flags.proofs.Prelude.{part_of, map_after_withdrawing}
+use Rattle.std.proofs.Common.{pos, neg_ℤ, ◌≤ℤ◌}
 use Rattle.ledger_types.specs.declared.asset.TrustLineAsset.TheVariants.{PoolShare}
-use Rattle.trade_cross.specs.Places.{DoesFit}
-use Rattle.pool_shares.specs.Fits.{DoesPoolFit, DoShareLinesFit}
-use Rattle.pool_shares.specs.Withdrawing.{part_of, map_after_withdrawing}
 use Rattle.pool_shares.proofs.Loaded.{line_loaded, pool_loaded}
 use Rattle.op_flags.proofs.Shares.{some_shares, as_there_are, pool_in_range, balance_fits, pool_fits, counts_fit}
 use Rattle.op_flags.proofs.revoked_shares.give_back.Goals as goal

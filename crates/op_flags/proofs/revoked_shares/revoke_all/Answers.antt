@@ -1,4 +1,4 @@
-use Rattle.op_flags.specs.Outcomes.{low_answer}
+use Rattle.op_flags.proofs.Prelude.{low_answer}
 use Rattle.op_flags.proofs.Steps.{started, further_by, refused_as, all_done}
 use Rattle.op_flags.proofs.revoked_shares.revoke_all.Goals as goal
 

@@ -1,5 +1,4 @@
-use Rattle.std.proofs.Common.{drop}
-use Rattle.op_flags.specs.Outcomes.{low_answer}
+use Rattle.op_flags.proofs.Prelude.{drop, low_answer}
 use Rattle.op_flags.proofs.Steps.{AreUnderway}
 use Rattle.op_flags.proofs.revoked_shares.revoke_all.Given as goal
 

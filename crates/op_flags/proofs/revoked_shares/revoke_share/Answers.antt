@@ -1,9 +1,5 @@
-use Rattle.std.proofs.Common.{◌∙◌, ap}
-use Rattle.entry_slots.specs.Lines.{line_of_slot}
-use Rattle.entry_slots.specs.Pools.{pool_of_slot}
-use Rattle.trade_cross.specs.legal_rules.Owing.{AreEntriesLegal}
-use Rattle.op_flags.specs.Outcomes.{low_answer, IsRevoked, UnlessRefused}
-use Rattle.op_flags.specs.RevokedShares.{share_revoked_by}
+use Rattle.op_flags.proofs.Prelude.{◌∙◌, ap, line_of_slot, pool_of_slot, AreEntriesLegal, low_answer, IsRevoked}
+use Rattle.op_flags.proofs.Prelude.{UnlessRefused, share_revoked_by}
 use Rattle.op_flags.proofs.SharesRevoked.{share_by}
 use Rattle.op_flags.proofs.Steps.{if_ok, legal_unless}
 use Rattle.op_flags.proofs.revoked_shares.revoke_share.Goals as goal

@@ -1,11 +1,11 @@
-use Rattle.std.proofs.Common.{refl}
-use Rattle.op_flags.proofs.Cancelling.{one_further, this_stands, all_looked_at}
+use Rattle.op_flags.proofs.Prelude.{refl}
+use Rattle.op_flags.proofs.Cancelling.{one_further, this_exists, all_looked_at}
 use Rattle.op_flags.proofs.revoking.cancel_all.Goals as goal
 
 pub loop-offer-init : goal.loop-offer-init
 loop-offer-init g c = record {
   crossable = c.requires.crossable;
-  standing = c.requires.standing;
+  existing = c.requires.existing;
   kept = refl;
   rest = refl;
 }
@@ -19,10 +19,10 @@ loop-offer-preserved g c =
 pub cancel_trading-requires-clause-crossable : goal.cancel_trading-requires-clause-crossable
 cancel_trading-requires-clause-crossable g c = c.loop-offer.invariant.crossable
 
-pub cancel_trading-requires-clause-stands : goal.cancel_trading-requires-clause-stands
-cancel_trading-requires-clause-stands g c =
-    this_stands c.args.offers.now c.loop-offer.offer-index _ c.loop-offer.entries.current c.loop-offer-test.true
-    c.loop-offer.invariant.standing
+pub cancel_trading-requires-clause-exists : goal.cancel_trading-requires-clause-exists
+cancel_trading-requires-clause-exists g c =
+    this_exists c.args.offers.now c.loop-offer.offer-index _ c.loop-offer.entries.current c.loop-offer-test.true
+    c.loop-offer.invariant.existing
 
 pub returns : goal.returns
 returns g c =

@@ -1,4 +1,4 @@
-use Rattle.std.proofs.Common.{drop}
+use Rattle.op_flags.proofs.Prelude.{drop}
 use Rattle.op_flags.proofs.Cancelling.{AreLeft}
 use Rattle.op_flags.proofs.revoking.cancel_all.Given as goal
 

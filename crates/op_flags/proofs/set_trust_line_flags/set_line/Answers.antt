@@ -1,8 +1,5 @@
-use Rattle.std.proofs.Common.{◌≡◌, sym, subst, false, None, rules}
-use Rattle.entry_slots.specs.Tests.{first_fault}
-use Rattle.op_form.specs.Assets.{is_native}
+use Rattle.op_flags.proofs.Prelude.{◌≡◌, sym, subst, false, None, rules, first_fault, is_native, AreFlagsFit}
 use Rattle.op_flags.specs.SetTrustLineFlags.{flag_tests, new_flags}
-use Rattle.op_flags.specs.LineFlags.{AreFlagsFit}
 use Rattle.op_flags.proofs.FlagTests.{set_fit}
 use Rattle.op_flags.proofs.set_trust_line_flags.set_line.Goals as goal
 
@@ -16,4 +13,4 @@ flag_line-requires-clause-flags g c =
     let passed : first_fault (flag_tests source line (new_flags op line)) ≡ None = search rules in
     subst AreFlagsFit (sym flags)
     (set_fit c.args.ctx.now.id_pool c.args.entries.now.current c.requires.legal op.trustor line op source issued
-    c.requires.stands c.requires.few passed)
+    c.requires.exists c.requires.few passed)

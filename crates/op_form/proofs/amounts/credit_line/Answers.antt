@@ -1,8 +1,5 @@
-use Rattle.std.proofs.Common.{◌∙◌, ap}
-use Rattle.std.proofs.Common.{arith}
+use Rattle.op_form.proofs.Prelude.{◌∙◌, ap, arith, ints, to_z-of_z, line_of_slot}
 use Rattle.std.proofs.lemmas.Grind.{common_steps}
-use Rattle.std.proofs.lemmas.Int.{ints, to_z-of_z}
-use Rattle.entry_slots.specs.Lines.{line_of_slot}
 use Rattle.op_form.proofs.amounts.credit_line.Goals as goal
 
 pub credit_fault-requires : goal.credit_fault-requires

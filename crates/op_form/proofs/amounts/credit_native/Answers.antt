@@ -1,6 +1,4 @@
-use Rattle.std.proofs.Common.{subst}
-use Rattle.std.proofs.lemmas.Int.{to_z-of_z}
-use Rattle.op_form.specs.Lumens.{Gives, map_after_lumens_credit}
+use Rattle.op_form.proofs.Prelude.{subst, to_z-of_z, Gives, map_after_lumens_credit}
 use Rattle.op_form.proofs.Balances.{lumens_taken}
 use Rattle.op_form.proofs.amounts.credit_native.Goals as goal
 

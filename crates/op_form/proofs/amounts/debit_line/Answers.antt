@@ -1,5 +1,4 @@
-use Rattle.std.proofs.Common.{◌∙◌, ap}
-use Rattle.entry_slots.specs.Lines.{line_of_slot}
+use Rattle.op_form.proofs.Prelude.{◌∙◌, ap, line_of_slot}
 use Rattle.op_form.proofs.amounts.debit_line.Goals as goal
 
 pub debit_fault-requires : goal.debit_fault-requires

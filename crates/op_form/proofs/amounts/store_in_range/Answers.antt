@@ -1,7 +1,4 @@
-use Rattle.std.proofs.Common.{sym, subst}
-use Rattle.std.proofs.lemmas.Result.{on_ok_weaker}
-use Rattle.entry_slots.specs.Lines.{entry_of_line}
-use Rattle.op_form.specs.Premises.{BalancesAreInRange}
+use Rattle.op_form.proofs.Prelude.{sym, subst, on_ok_weaker, entry_of_line, BalancesAreInRange}
 use Rattle.op_form.proofs.Balances.{balances_put, line_only}
 use Rattle.op_form.proofs.amounts.store_in_range.Goals as goal
 

@@ -1,9 +1,6 @@
-use Rattle.std.proofs.Common.{◌≡◌, sym, subst, arith}
-use Rattle.std.proofs.lemmas.Int.{ints, to_z-of_z}
-use Rattle.std.specs.Prelude.{◌+ℤ◌}
+use Rattle.op_form.proofs.Prelude.{◌≡◌, sym, subst, arith, ints, to_z-of_z, ◌+ℤ◌, IsLineInRange}
 use mir.Syntax.{w64}
 use mir.Val.{to_z, of_z}
-use Rattle.reserve_rules.specs.Reserve.{IsLineInRange}
 use Rattle.op_form.proofs.Balances.{line_more_in_range}
 use Rattle.op_form.proofs.amounts.store_more.Goals as goal
 

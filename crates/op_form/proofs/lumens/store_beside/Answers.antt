@@ -1,7 +1,4 @@
-use Rattle.std.proofs.Common.{sym, subst, Some}
-use Rattle.std.proofs.lemmas.Result.{on_ok_weaker}
-use Rattle.sponsor_rules.specs.Keeping.{ChangesAtMost}
-use Rattle.sponsor_rules.proofs.AccountMaps.{stored_others}
+use Rattle.op_form.proofs.Prelude.{sym, subst, Some, on_ok_weaker, ChangesAtMost, stored_others}
 use Rattle.op_form.proofs.lumens.store_beside.Goals as goal
 
 pub returns-clause-others : goal.returns-clause-others

@@ -1,10 +1,5 @@
-use Rattle.std.proofs.Common.{◌≡◌, sym, subst, rules}
-use Rattle.std.specs.Prelude.{neg_ℤ}
-use Rattle.entry_map.specs.EntryMap.{EntryMap}
-use Rattle.trade_cross.specs.Amounts.{DoesPaymentFit}
-use Rattle.trade_cross.specs.Holdings.{paying}
-use Rattle.op_offers.specs.Calls.{asked_in}
-use Rattle.op_offers.specs.Selling.{source_gives_at, source_takes_at}
+use Rattle.op_offers.proofs.Prelude.{◌≡◌, sym, subst, rules, neg_ℤ, EntryMap, DoesPaymentFit, paying, asked_in}
+use Rattle.op_offers.proofs.Prelude.{source_gives_at, source_takes_at}
 use Rattle.op_offers.proofs.keep.settle_source.Goals as goal
 
 pub pay-requires : goal.pay-requires

@@ -1,23 +1,19 @@
-use Rattle.std.proofs.Common.{sym, subst, ap}
-use Rattle.entry_map.specs.Undo.{Undo}
-use Rattle.entry_slots.specs.Offers.{entry_of_offer}
-use Rattle.op_offers.specs.Calls.{IsSellable, IsLimitLow}
-use Rattle.op_offers.specs.Managing.{old_asked}
+use Rattle.op_offers.proofs.Prelude.{sym, subst, ap, Undo, entry_of_offer, IsSellable, IsLimitLow, old_asked}
 use Rattle.op_offers.proofs.Begun.{sells_low, buys_low}
 use Rattle.op_offers.proofs.Loaded.{old_priced, old_amount, old_fits, changed_sellable}
 use Rattle.op_offers.proofs.manage.change.Goals as goal
 
 pub take_out-requires-clause-priced : goal.take_out-requires-clause-priced
 take_out-requires-clause-priced g c = old_priced c.args.ctx.now c.args.ask.now c.args.entries.now.current
-    c.requires.manageable c.args.old.now c.requires.stands
+    c.requires.manageable c.args.old.now c.requires.exists
 
 pub take_out-requires-clause-amount : goal.take_out-requires-clause-amount
 take_out-requires-clause-amount g c = old_amount c.args.ctx.now c.args.ask.now c.args.entries.now.current
-    c.requires.manageable c.args.old.now c.requires.stands
+    c.requires.manageable c.args.old.now c.requires.exists
 
 pub take_out-requires-clause-fits : goal.take_out-requires-clause-fits
 take_out-requires-clause-fits g c = old_fits c.args.ctx.now c.args.ask.now c.args.entries.now.current
-    c.requires.manageable c.args.old.now c.requires.stands
+    c.requires.manageable c.args.old.now c.requires.exists
 
 pub sell-requires-clause-limits : goal.sell-requires-clause-limits
 sell-requires-clause-limits g c = record {
@@ -32,4 +28,4 @@ sell-requires-clause-sellable g c =
     (subst (IsSellable (old_asked c.args.ctx.now c.args.ask.now c.args.old.now.offer (entry_of_offer c.args.old.now)))
     (sym out)
     (changed_sellable c.args.ctx.now c.args.ask.now c.args.entries.now.current c.requires.manageable c.args.old.now
-    c.requires.stands c.requires.sound c.in_ok-test_lines.ensures.0 c.in_ok-test_lines.ensures.1))
+    c.requires.exists c.requires.sound c.in_ok-test_lines.ensures.0 c.in_ok-test_lines.ensures.1))

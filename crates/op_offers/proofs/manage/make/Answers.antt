@@ -1,5 +1,4 @@
-use Rattle.std.proofs.Common.{sym, subst}
-use Rattle.op_offers.specs.Calls.{IsSellable, IsLimitLow}
+use Rattle.op_offers.proofs.Prelude.{sym, subst, IsSellable, IsLimitLow}
 use Rattle.op_offers.proofs.Begun.{made_sellable, sells_low, buys_low}
 use Rattle.op_offers.proofs.manage.make.Goals as goal
 

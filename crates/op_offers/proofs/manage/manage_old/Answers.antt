@@ -1,8 +1,4 @@
-use Rattle.std.proofs.Common.{◌≡◌, sym, subst, true, false, Some, rules}
-use Rattle.std.specs.Prelude.{pos}
-use Rattle.std.specs.Ordering.{int_eq}
-use Rattle.entry_slots.specs.Offers.{offer_slot_at}
-use Rattle.op_offers.specs.Calls.{IsManaging}
+use Rattle.op_offers.proofs.Prelude.{◌≡◌, sym, subst, true, false, Some, rules, pos, int_eq, offer_slot_at, IsManaging}
 use Rattle.op_offers.proofs.Loaded.{removed_is, changed_is}
 use Rattle.op_offers.proofs.manage.manage_old.Goals as goal
 

@@ -1,8 +1,4 @@
-use Rattle.std.proofs.Common.{Ok, rules}
-use Rattle.entry_map.specs.Undo.{opened}
-use Rattle.op_offers.specs.Calls.{IsManaging}
-use Rattle.op_offers.specs.Managing.{managed}
-use Rattle.op_offers.specs.Operations.{answer_of}
+use Rattle.op_offers.proofs.Prelude.{Ok, rules, opened, IsManaging, managed, answer_of}
 use Rattle.op_offers.proofs.Applied.{saved_is, kept_does}
 use Rattle.op_offers.proofs.operations.apply_ask.Goals as goal
 

@@ -1,6 +1,5 @@
-use Rattle.std.proofs.Common.{sym, subst, unsigned_abs, rules}
-use Rattle.std.specs.Prelude.{ℤ}
-use Rattle.op_offers.specs.Calls.{IsSellable, DoesRestFit, asked_in}
+use Rattle.op_offers.proofs.Prelude.{sym, subst, rules, ℤ, IsSellable, DoesRestFit, asked_in}
+use Rattle.std.proofs.Common.{unsigned_abs}
 use Rattle.op_offers.proofs.Ready.{rest_fits}
 use Rattle.op_offers.proofs.sell.keep_rest.Goals as goal
 

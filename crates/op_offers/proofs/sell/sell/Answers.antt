@@ -1,11 +1,7 @@
-use Rattle.std.proofs.Common.{◌≡◌, sym, subst, ap, Ok, None, rules}
-use Rattle.std.specs.Prelude.{ℤ, pos}
-use Rattle.entry_map.specs.EntryMap.{EntryMap}
-use Rattle.entry_map.specs.Undo.{Undo}
-use Rattle.entry_slots.specs.Tests.{first_fault}
-use Rattle.op_offers.specs.Calls.{DoPaymentsFit, IsSale, IsSellable, asked_in, end_fault, map_after_settling}
-use Rattle.op_offers.specs.Selling.{crossed_by, wanted_tests}
-use Rattle.op_offers.proofs.Ready.{payments_fit, then_sellable, sale_is, sold_behind}
+use Rattle.op_offers.proofs.Prelude.{◌≡◌, sym, subst, ap, Ok, None, rules, ℤ, pos, EntryMap, Undo, first_fault}
+use Rattle.op_offers.proofs.Prelude.{DoPaymentsFit, IsSale, IsSellable, asked_in, end_fault, map_after_settling}
+use Rattle.op_offers.proofs.Prelude.{crossed_by, wanted_tests}
+use Rattle.op_offers.proofs.Ready.{payments_fit, then_sellable, sale_is, sold_after}
 use Rattle.op_offers.proofs.sell.sell.Goals as goal
 
 pub keep_rest-requires-clause-fits : goal.keep_rest-requires-clause-fits
@@ -43,5 +39,5 @@ returns g c =
     let ended : end_fault (crossed_by base asked m).end ≡ None = search rules in
     subst (IsSale (Ok c.in_ok-keep_rest.field-0) c.args.entries.now c.keep_rest.new.entries)
     (sym (sale_is base asked m passed ended))
-    (sold_behind c.in_ok-keep_rest.field-0 c.args.entries.now c.cross.new.entries c.keep_rest.new.entries _ _
+    (sold_after c.in_ok-keep_rest.field-0 c.args.entries.now c.cross.new.entries c.keep_rest.new.entries _ _
     c.in_ok-crossed.ensures.entries (c.in_ok-keep_rest.ensures (crossed_by base asked m) is entries))

@@ -1,8 +1,4 @@
-use Rattle.std.proofs.Common.{sym, subst, ◌≤◌}
-use Rattle.offer_exchange.specs.Exchange.{unlimited}
-use Rattle.trade_cross.specs.Holdings.{most_given}
-use Rattle.trade_cross.specs.Sides.{IsInRangeAt}
-use Rattle.op_offers.specs.Calls.{asked_in}
+use Rattle.op_offers.proofs.Prelude.{sym, subst, ◌≤◌, unlimited, most_given, IsInRangeAt, asked_in}
 use Rattle.op_offers.proofs.Ready.{gives_range, given_within}
 use Rattle.op_offers.proofs.source.source_gives.Goals as goal
 

@@ -1,8 +1,4 @@
-use Rattle.std.proofs.Common.{sym, subst, ◌≤◌}
-use Rattle.offer_exchange.specs.Exchange.{unlimited}
-use Rattle.trade_cross.specs.Holdings.{most_taken}
-use Rattle.trade_cross.specs.Sides.{IsInRangeAt}
-use Rattle.op_offers.specs.Calls.{asked_in}
+use Rattle.op_offers.proofs.Prelude.{sym, subst, ◌≤◌, unlimited, most_taken, IsInRangeAt, asked_in}
 use Rattle.op_offers.proofs.Ready.{takes_range, taken_within}
 use Rattle.op_offers.proofs.source.source_takes.Goals as goal
 

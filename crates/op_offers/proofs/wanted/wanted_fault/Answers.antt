@@ -1,6 +1,4 @@
-use Rattle.std.proofs.Common.{sym, subst}
-use Rattle.trade_cross.specs.Sides.{IsInRangeAt}
-use Rattle.op_offers.specs.Calls.{asked_in}
+use Rattle.op_offers.proofs.Prelude.{sym, subst, IsInRangeAt, asked_in}
 use Rattle.op_offers.proofs.Ready.{gives_range}
 use Rattle.op_offers.proofs.wanted.wanted_fault.Goals as goal
 

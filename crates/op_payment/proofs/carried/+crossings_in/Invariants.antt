@@ -1,4 +1,4 @@
-use Rattle.std.proofs.Common.{length}
+use Rattle.op_payment.proofs.Prelude.{length}
 use Rattle.op_payment.proofs.carried.+crossings_in.Given as goal
 
 abbrev pub decreases-crossings_in : goal.decreases-crossings_in

@@ -1,4 +1,4 @@
-use Rattle.std.proofs.Common.{length}
+use Rattle.op_payment.proofs.Prelude.{length}
 use Rattle.op_payment.proofs.path.+send.Given as goal
 
 abbrev pub decreases-send : goal.decreases-send

@@ -1,6 +1,4 @@
-use Rattle.std.proofs.Common.{sym, subst, ◌∙◌}
-use Rattle.trade_cross.specs.Progressing.{AreTradeBounds}
-use Rattle.op_payment.specs.PathCalls.{carried_of}
+use Rattle.op_payment.proofs.Prelude.{sym, subst, ◌∙◌, AreTradeBounds, carried_of}
 use Rattle.op_payment.proofs.HopsMade.{receiving_bounds, receiving_fits, received_on, not_received}
 use Rattle.op_payment.proofs.path.receive_hop.Goals as goal
 

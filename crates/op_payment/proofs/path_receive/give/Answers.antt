@@ -1,10 +1,6 @@
-use Rattle.std.proofs.Common.{rules, ◌≡◌, ap, subst, sym, ◌∙◌, false, Ok, w64, to_z, of_z}
-use Rattle.std.specs.Prelude.{int_lt}
+use Rattle.op_payment.proofs.Prelude.{rules, ◌≡◌, ap, subst, sym, ◌∙◌, false, Ok, w64, to_z, of_z, int_lt}
+use Rattle.op_payment.proofs.Prelude.{map_after_debit, IsStep, carried_of, IsTried, arrived}
 use Rattle.op_types.specs.declared.payment_results.PathPaymentStrictReceiveResult.TheVariants.{Success}
-use Rattle.op_form.specs.Amounts.{map_after_debit}
-use Rattle.op_form.specs.Steps.{IsStep}
-use Rattle.op_payment.specs.PathCalls.{carried_of, IsTried}
-use Rattle.op_payment.specs.PathPayment.{arrived}
 use Rattle.op_payment.specs.PathReceive.{answer, given}
 use Rattle.op_payment.proofs.PathEnds.{given_so}
 use Rattle.op_payment.proofs.path_receive.give.Goals as goal
@@ -23,8 +19,8 @@ returns g c =
     (λ i. int_lt (sym greatest i) (sym amount i)) ∙ c.if-op-carried.false in
     let debit = subst (λ n. IsStep c.in_ok-fault.field-0 old new
     (map_after_debit ctx ctx.op_source op.send_asset n old.current)) amount c.in_ok-fault.ensures in
-    let came = c.arrived.ensures ∙ ap (arrived carried.atoms c.account_id.result op.dest_asset) wanted in
+    let yielded = c.arrived.ensures ∙ ap (arrived carried.atoms c.account_id.result op.dest_asset) wanted in
     subst (λ x. IsTried (Ok x) ctx old new (given ctx op (carried_of carried old.current)))
-    (sym (c.answer-2.ensures ∙ ap (λ x. answer (Success x)) came))
+    (sym (c.answer-2.ensures ∙ ap (λ x. answer (Success x)) yielded))
     (given_so ctx op carried old new c.requires.low enough c.in_ok-fault.field-0 c.in_default.is debit
     c.account_id.result c.account_id.ensures)

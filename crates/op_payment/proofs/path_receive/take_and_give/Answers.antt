@@ -1,11 +1,7 @@
-use Rattle.std.proofs.Common.{rules, ◌≡◌, subst, w64, to_z, of_z}
-use Rattle.std.specs.Prelude.{pos, ◌≤ℤ◌}
-use Rattle.op_form.specs.Amounts.{map_after_credit}
-use Rattle.op_form.specs.Steps.{IsStep}
-use Rattle.op_payment.specs.PathCalls.{carried_of, set_out_of, IsCarriedSo}
-use Rattle.op_payment.specs.Paths.{received}
+use Rattle.op_payment.proofs.Prelude.{rules, ◌≡◌, subst, w64, to_z, of_z, pos, ◌≤ℤ◌, map_after_credit, IsStep}
+use Rattle.op_payment.proofs.Prelude.{carried_of, set_out_of, IsCarriedSo, received}
 use Rattle.op_payment.proofs.PathLegality.{taken_crossable}
-use Rattle.op_payment.proofs.PathEnds.{in_range_behind, taken_and_given_so}
+use Rattle.op_payment.proofs.PathEnds.{in_range_after, taken_and_given_so}
 use Rattle.op_payment.proofs.path_receive.take_and_give.Goals as goal
 
 pub receive-requires-clause-crossable : goal.receive-requires-clause-crossable
@@ -22,7 +18,7 @@ receive-requires-clause-crossable g c =
 
 pub give-requires-clause-in_range : goal.give-requires-clause-in_range
 give-requires-clause-in_range g c =
-    in_range_behind c.in_ok-carried.field-0 c.in-Ok.carried c.in-Ok.is c.credit.new.entries c.receive.new.entries _
+    in_range_after c.in_ok-carried.field-0 c.in-Ok.carried c.in-Ok.is c.credit.new.entries c.receive.new.entries _
     c.in_ok-carried.ensures
 
 pub returns-in-Ok : goal.returns-in-Ok

@@ -1,11 +1,7 @@
-use Rattle.std.proofs.Common.{rules, ◌≡◌, subst, w64, to_z, of_z}
-use Rattle.std.specs.Prelude.{pos, ◌≤ℤ◌}
-use Rattle.op_form.specs.Amounts.{map_after_debit}
-use Rattle.op_form.specs.Steps.{IsStep}
-use Rattle.op_payment.specs.PathCalls.{carried_of, set_out_of, IsCarriedSo}
-use Rattle.op_payment.specs.Paths.{sent}
+use Rattle.op_payment.proofs.Prelude.{rules, ◌≡◌, subst, w64, to_z, of_z, pos, ◌≤ℤ◌, map_after_debit, IsStep}
+use Rattle.op_payment.proofs.Prelude.{carried_of, set_out_of, IsCarriedSo, sent}
 use Rattle.op_payment.proofs.PathLegality.{given_crossable}
-use Rattle.op_payment.proofs.PathEnds.{in_range_behind, given_and_taken_so}
+use Rattle.op_payment.proofs.PathEnds.{in_range_after, given_and_taken_so}
 use Rattle.op_payment.proofs.path_send.give_and_take.Goals as goal
 
 pub send-requires-clause-crossable : goal.send-requires-clause-crossable
@@ -23,7 +19,7 @@ send-requires-clause-crossable g c =
 
 pub take-requires-clause-in_range : goal.take-requires-clause-in_range
 take-requires-clause-in_range g c =
-    in_range_behind c.in_ok-carried.field-0 c.in-Ok.carried c.in-Ok.is c.debit.new.entries c.send.new.entries _
+    in_range_after c.in_ok-carried.field-0 c.in-Ok.carried c.in-Ok.is c.debit.new.entries c.send.new.entries _
     c.in_ok-carried.ensures
 
 pub returns-in-Ok : goal.returns-in-Ok

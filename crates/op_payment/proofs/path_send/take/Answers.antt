@@ -1,10 +1,6 @@
-use Rattle.std.proofs.Common.{rules, ◌≡◌, ap, subst, sym, ◌∙◌, false, Ok, w64, to_z, of_z}
-use Rattle.std.specs.Prelude.{int_lt}
+use Rattle.op_payment.proofs.Prelude.{rules, ◌≡◌, ap, subst, sym, ◌∙◌, false, Ok, w64, to_z, of_z, int_lt}
+use Rattle.op_payment.proofs.Prelude.{map_after_credit, IsStep, carried_of, IsTried, arrived}
 use Rattle.op_types.specs.declared.payment_results.PathPaymentStrictSendResult.TheVariants.{Success}
-use Rattle.op_form.specs.Amounts.{map_after_credit}
-use Rattle.op_form.specs.Steps.{IsStep}
-use Rattle.op_payment.specs.PathCalls.{carried_of, IsTried}
-use Rattle.op_payment.specs.PathPayment.{arrived}
 use Rattle.op_payment.specs.PathSend.{answer, taken}
 use Rattle.op_payment.proofs.PathEnds.{taken_so}
 use Rattle.op_payment.proofs.path_send.take.Goals as goal
@@ -24,8 +20,8 @@ returns g c =
     let credit = subst (λ n. IsStep c.in_ok-fault.field-0 old new (map_after_credit id op.dest_asset n old.current))
     amount
     c.in_ok-fault.ensures.taken in
-    let came = c.arrived.ensures ∙ ap (arrived carried.atoms id op.dest_asset) amount in
+    let yielded = c.arrived.ensures ∙ ap (arrived carried.atoms id op.dest_asset) amount in
     subst (λ x. IsTried (Ok x) ctx old new (taken ctx op (carried_of carried old.current)))
-    (sym (c.answer-2.ensures ∙ ap (λ x. answer (Success x)) came))
+    (sym (c.answer-2.ensures ∙ ap (λ x. answer (Success x)) yielded))
     (taken_so ctx op carried old new c.requires.low enough c.in_ok-fault.field-0 c.in_default.is id
     c.account_id-destination.ensures credit)

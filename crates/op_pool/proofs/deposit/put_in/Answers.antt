@@ -1,9 +1,5 @@
-use Rattle.std.proofs.Common.{◌≡◌, None, rules}
-use Rattle.ledger_types.specs.declared.asset.TrustLineAsset.TheVariants.{PoolShare}
-use Rattle.entry_slots.specs.Tests.{first_fault}
-use Rattle.op_pool.specs.Calls.{amount_tests}
+use Rattle.op_pool.proofs.Prelude.{◌≡◌, None, rules, PoolShare, first_fault, amount_tests, line_loaded, pool_loaded}
 use Rattle.op_pool.proofs.Deposits.{fits_as}
-use Rattle.pool_shares.proofs.Loaded.{line_loaded, pool_loaded}
 use Rattle.op_pool.proofs.deposit.put_in.Goals as goal
 
 pub deposit_by-requires-clause-range : goal.deposit_by-requires-clause-range

@@ -1,7 +1,4 @@
-use Rattle.std.proofs.Common.{◌≡◌, sym, subst, rules, w64, to_z, of_z}
-use Rattle.std.specs.Prelude.{neg_ℤ}
-use Rattle.pool_shares.specs.Withdrawing.{map_with_shares}
-use Rattle.op_pool.specs.Calls.{DoPaymentsFit}
+use Rattle.op_pool.proofs.Prelude.{◌≡◌, sym, subst, rules, w64, to_z, of_z, neg_ℤ, map_with_shares, DoPaymentsFit}
 use Rattle.op_pool.proofs.deposit.store_deposit.Goals as goal
 
 pub pay_both-requires : goal.pay_both-requires

@@ -1,10 +1,9 @@
-use Rattle.std.proofs.Common.{rules}
-use Rattle.pool_math.specs.Calls.{AnswersDeposit}
-use Rattle.op_pool.proofs.Deposits.{whole_of, deposit_is}
+use Rattle.op_pool.proofs.Prelude.{rules, AnswersDeposit}
+use Rattle.op_pool.proofs.Deposits.{filled_of, deposit_is}
 use Rattle.op_pool.proofs.depositing.deposit_by.Goals as goal
 
-pub deposit-requires-clause-whole : goal.deposit-requires-clause-whole
-deposit-requires-clause-whole c = let whole = whole_of c.args.pool.now c.requires.filled in search (rules, whole)
+pub deposit-requires-clause-filled : goal.deposit-requires-clause-filled
+deposit-requires-clause-filled c = let filled = filled_of c.args.pool.now c.requires.filled in search (rules, filled)
 
 pub returns : goal.returns
 returns c =

@@ -1,7 +1,4 @@
-use Rattle.std.proofs.Common.{◌≡◌, sym, subst, rules}
-use Rattle.std.specs.Prelude.{neg_ℤ}
-use Rattle.pool_shares.specs.Withdrawing.{map_with_shares}
-use Rattle.op_pool.specs.Calls.{DoPaymentsFit}
+use Rattle.op_pool.proofs.Prelude.{◌≡◌, sym, subst, rules, neg_ℤ, map_with_shares, DoPaymentsFit}
 use Rattle.op_pool.proofs.withdraw.store_withdrawal.Goals as goal
 
 pub pay_both-requires : goal.pay_both-requires

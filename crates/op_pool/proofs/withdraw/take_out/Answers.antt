@@ -1,9 +1,6 @@
-use Rattle.std.proofs.Common.{◌≡◌, None, rules}
-use Rattle.ledger_types.specs.declared.asset.TrustLineAsset.TheVariants.{PoolShare}
-use Rattle.entry_slots.specs.Tests.{first_fault}
-use Rattle.op_pool.specs.Calls.{part_tests}
-use Rattle.pool_shares.proofs.Loaded.{line_loaded, pool_loaded}
-use Rattle.op_pool.proofs.Withdrawals.{not_above, fits_as}
+use Rattle.op_pool.proofs.Prelude.{◌≡◌, None, rules, PoolShare, first_fault, part_tests, line_loaded, pool_loaded}
+use Rattle.op_pool.proofs.Prelude.{at_most_trans}
+use Rattle.op_pool.proofs.Withdrawals.{fits_as}
 use Rattle.op_pool.proofs.withdraw.take_out.Goals as goal
 
 pub part_for-part-requires-clause-range : goal.part_for-part-requires-clause-range
@@ -17,7 +14,7 @@ part_for-part-requires-clause-within g c =
     let id = c.args.ctx.now.op_source in
     let pool = c.args.op.now.pool_id in
     let m = c.args.entries.now.current in
-    not_above c.args.op.now.amount c.args.share.line.balance c.args.pool.pool.total_pool_shares c.requires.within
+    at_most_trans c.args.op.now.amount c.args.share.line.balance c.args.pool.pool.total_pool_shares c.requires.within
     (c.requires.sound.shares id pool c.args.share.line c.args.pool.pool
     (line_loaded m id (PoolShare pool) c.args.share c.requires.share)
     (pool_loaded m pool c.args.pool c.requires.pool))

@@ -1,5 +1,4 @@
-use Rattle.std.proofs.Common.{◌∙◌, ap}
-use Rattle.entry_slots.specs.Lines.{line_of_slot}
+use Rattle.op_trust.proofs.Prelude.{◌∙◌, ap, line_of_slot}
 use Rattle.op_trust.proofs.change_trust.change_asset_trust.Goals as goal
 
 pub change_line-requires-clause-in_range : goal.change_line-requires-clause-in_range

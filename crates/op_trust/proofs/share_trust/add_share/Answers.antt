@@ -1,9 +1,6 @@
-use Rattle.std.proofs.Common.{◌≡◌, ◌+◌, sym, ap, subst, ◌∙◌, pos, rules, w64, to_z, of_z}
-use Rattle.ledger_types.specs.declared.entry.LedgerEntry.{LedgerEntry}
-use Rattle.sponsor_rules.specs.Adding.{map_after_adding}
-use Rattle.sponsor_rules.specs.Payers.{IsReady}
-use Rattle.pool_shares.specs.Fits.{DoShareLinesFit}
-use Rattle.pool_shares.specs.ShareLines.{map_with_pool}
+use Rattle.op_trust.proofs.Prelude.{◌≡◌, ◌+◌, sym, ap, subst, ◌∙◌, rules, w64, to_z, of_z, LedgerEntry}
+use Rattle.op_trust.proofs.Prelude.{map_after_adding, IsReady, DoShareLinesFit, map_with_pool}
+use Rattle.std.proofs.Common.{pos}
 use Rattle.op_trust.proofs.Counts.{with_pool_fits, still_ready, with_line_fits}
 use Rattle.op_trust.proofs.share_trust.add_share.Goals as goal
 

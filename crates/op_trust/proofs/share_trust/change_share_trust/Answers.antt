@@ -1,8 +1,5 @@
-use Rattle.std.proofs.Common.{◌≡◌, ◌∙◌, ap, false, rules}
+use Rattle.op_trust.proofs.Prelude.{◌≡◌, ◌∙◌, ap, false, rules, line_of_slot, pool_at, is_taken}
 use Rattle.ledger_types.specs.declared.asset.TrustLineAsset.TheVariants as asset
-use Rattle.entry_slots.specs.Lines.{line_of_slot}
-use Rattle.entry_slots.specs.Pools.{pool_at}
-use Rattle.op_trust.specs.ShareTrust.{is_taken}
 use Rattle.op_trust.proofs.Counts.{one_less}
 use Rattle.op_trust.proofs.share_trust.change_share_trust.Goals as goal
 

@@ -1,7 +1,4 @@
-use Rattle.std.proofs.Common.{◌≡◌, false, rules}
-use Rattle.trade_cross.specs.legal_rules.PoolShares.{needed_line}
-use Rattle.op_trust.specs.ShareTrust.{is_used_fully_at, is_held_fully}
-use Rattle.entry_slots.specs.Pools.{pool_at}
+use Rattle.op_trust.proofs.Prelude.{◌≡◌, false, rules, needed_line, is_used_fully_at, is_held_fully, pool_at}
 use Rattle.op_trust.proofs.Counts.{one_more}
 use Rattle.op_trust.proofs.share_trust.make_share.Goals as goal
 

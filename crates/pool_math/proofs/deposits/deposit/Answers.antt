@@ -10,7 +10,7 @@ returns-then-total-eq0 c =
     let same_max_b = to_z-of_z w64 c.args.max_b c.ranges.max_b in
     first_answers c.args.a c.args.b c.args.total c.args.max_a c.args.max_b c.first_deposit.result
     (sym (to_z-of_z w64 c.args.total c.ranges.total) ∙ ap (to_z w64) c.if-total-eq0.true)
-    c.requires.max_a c.requires.max_b c.requires.whole (rw (same_max_a, same_max_b) at first.shares)
+    c.requires.max_a c.requires.max_b c.requires.filled (rw (same_max_a, same_max_b) at first.shares)
     (rw (same_max_a, same_max_b) at first.function) first.unsigned
     (first.a ∙ same_max_a) (first.b ∙ same_max_b)
 

@@ -1,5 +1,4 @@
-use Rattle.std.proofs.Common.{subst, sym, None}
-use Rattle.entry_map.specs.EntryMap.{IsNextAfter, IsLeastAbove}
+use Rattle.pool_shares.proofs.Prelude.{subst, sym, None, IsNextAfter, IsLeastAbove}
 use Rattle.pool_shares.proofs.Holding.{none_next, entry_next}
 use Rattle.pool_shares.proofs.account_pools.next_line.Goals as goal
 

@@ -1,5 +1,4 @@
-use Rattle.std.proofs.Common.{◌≡◌, [], sym, ap, subst, ◌∙◌, ◌++◌, append-nil}
-use Rattle.pool_shares.specs.Held.{left, held_in, IsNextLine}
+use Rattle.pool_shares.proofs.Prelude.{◌≡◌, [], sym, ap, subst, ◌∙◌, ◌++◌, append-nil, left, held_in, IsNextLine}
 use Rattle.pool_shares.proofs.Holding.{all_ahead}
 use Rattle.pool_shares.proofs.account_pools.pools_held_by.Goals as goal
 

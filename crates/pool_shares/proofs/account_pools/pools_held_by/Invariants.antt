@@ -1,8 +1,7 @@
-use Rattle.std.proofs.Common.{◌≡◌, ◌++◌, length}
-use Rattle.pool_shares.specs.Held.{left, held_in}
+use Rattle.pool_shares.proofs.Prelude.{◌≡◌, ◌++◌, length, left, held_in}
 use Rattle.pool_shares.proofs.account_pools.pools_held_by.Given as goal
 
--- what was found, and what stands ahead
+-- what was found, and what follows
 abbrev pub invariant-loop-pools : goal.invariant-loop-pools
 invariant-loop-pools g l =
     l.pools.items ++ held_in l.id (left l.entries.current l.id l.last)

@@ -1,9 +1,5 @@
-use Rattle.std.proofs.Common.{◌≡◌, sym, ap, subst, ◌∙◌, rules, w32, w64, to_z, of_z}
-use Rattle.std.proofs.lemmas.Int.{to_z-of_z}
-use Rattle.entry_slots.specs.Pools.{pool_at}
-use Rattle.trade_cross.specs.legal_rules.ShareLaws.{map_with_uses}
-use Rattle.trade_cross.specs.Places.{DoesFit}
-use Rattle.pool_shares.specs.Fits.{DoUsesFit, DoShareLinesFit}
+use Rattle.pool_shares.proofs.Prelude.{◌≡◌, sym, ap, subst, ◌∙◌, rules, w32, w64, to_z, of_z, to_z-of_z, pool_at}
+use Rattle.pool_shares.proofs.Prelude.{map_with_uses, DoesFit, DoUsesFit, DoShareLinesFit}
 use Rattle.pool_shares.proofs.Uses.{second_fits, lines_fit}
 use Rattle.pool_shares.proofs.share_lines.count_share_lines.Goals as goal
 
@@ -19,7 +15,7 @@ count_uses-requires-2 g c =
     subst (DoUsesFit n id params.asset_b) (sym now) (second_fits n id pool params m fits)
 
 pub count_lines-requires : goal.count_lines-requires
-count_lines-requires g c p stands =
+count_lines-requires g c p exists =
     let n = c.args.n in
     let id = c.args.id.now in
     let params = c.args.params.now in
@@ -29,4 +25,4 @@ count_lines-requires g c p stands =
     let number : to_z w64 (of_z w64 c.from.result) ≡ n = search rules in
     subst (DoesFit p.pool_shares_trust_line_count) (sym number)
     (lines_fit n id c.args.pool_id.now params m c.requires p
-    (ap (λ x. pool_at x c.args.pool_id.now) (sym now) ∙ stands))
+    (ap (λ x. pool_at x c.args.pool_id.now) (sym now) ∙ exists))

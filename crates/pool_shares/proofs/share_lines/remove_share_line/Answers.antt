@@ -1,7 +1,4 @@
-use Rattle.std.proofs.Common.{sym, ap, subst}
-use Rattle.std.specs.Prelude.{pos, neg_ℤ}
-use Rattle.entry_map.specs.Undo.{Undo}
-use Rattle.pool_shares.specs.Fits.{DoShareLinesFit}
+use Rattle.pool_shares.proofs.Prelude.{sym, ap, subst, pos, neg_ℤ, Undo, DoShareLinesFit}
 use Rattle.pool_shares.proofs.Uses.{still_fits}
 use Rattle.pool_shares.proofs.share_lines.remove_share_line.Goals as goal
 

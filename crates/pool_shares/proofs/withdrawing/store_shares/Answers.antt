@@ -1,7 +1,5 @@
-use Rattle.std.proofs.Common.{sym, ap, ◌∙◌}
+use Rattle.pool_shares.proofs.Prelude.{sym, ap, ◌∙◌, Undo, pool_slot_at}
 use Rattle.ledger_types.specs.declared.asset.TrustLineAsset.TheVariants.{PoolShare}
-use Rattle.entry_map.specs.Undo.{Undo}
-use Rattle.entry_slots.specs.Pools.{pool_slot_at}
 use Rattle.pool_shares.proofs.Beside.{pools_still}
 use Rattle.pool_shares.proofs.withdrawing.store_shares.Goals as goal
 

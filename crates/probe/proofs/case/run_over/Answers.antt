@@ -1,5 +1,4 @@
-use Rattle.std.proofs.Common.{sym, subst, true}
-use Rattle.probe.specs.Ready.{IsReadyLedger}
+use Rattle.probe.proofs.Prelude.{sym, subst, true, IsReadyLedger}
 use Rattle.probe.proofs.Empty.{nothing_is_ready}
 use Rattle.probe.proofs.case.run_over.Goals as goal
 

@@ -1,4 +1,4 @@
-use Rattle.std.proofs.Common.{◌≡◌, vec_len}
+use Rattle.probe.proofs.Prelude.{◌≡◌, vec_len}
 use Rattle.probe.proofs.levels.read_pairs.Given as goal
 
 abbrev pub invariant-loop-level : goal.invariant-loop-level

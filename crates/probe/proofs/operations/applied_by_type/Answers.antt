@@ -1,4 +1,4 @@
-use Rattle.std.proofs.Common.{ap}
+use Rattle.probe.proofs.Prelude.{ap}
 use Rattle.probe.specs.Ready as spec
 use Rattle.probe.proofs.Plain.{plain_is_sound}
 use Rattle.probe.proofs.operations.applied_by_type.Goals as goal

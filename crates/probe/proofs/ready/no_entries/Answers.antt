@@ -1,8 +1,5 @@
-use Rattle.std.proofs.Common.{sym, subst, map, []}
+use Rattle.probe.proofs.Prelude.{sym, subst, map, [], eq_by_cmp, key_of, key_cmp}
 use Rattle.std.specs.List.{IsDistinct}
-use Rattle.std.specs.Ordering.{eq_by_cmp}
-use Rattle.ledger_types.specs.Keys.{key_of}
-use Rattle.ledger_types.specs.KeyOrder.{key_cmp}
 use Rattle.probe.proofs.ready.no_entries.Goals as goal
 
 none_is_twice : IsDistinct (eq_by_cmp key_cmp) []

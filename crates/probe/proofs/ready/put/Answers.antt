@@ -1,9 +1,7 @@
-use Rattle.std.proofs.Common.{◌≡◌, true, rules, sym, subst}
-use Rattle.entry_map.specs.EntryMap.{put}
+use Rattle.probe.proofs.Prelude.{◌≡◌, true, rules, sym, subst, put, IsReadyLedger}
 use Rattle.entry_map.specs.Undo.{Undo, with_current}
 use Rattle.op_form.proofs.Balances.{balances_put}
 use Rattle.op_form.proofs.Premises.{ready_with}
-use Rattle.probe.specs.Ready.{IsReadyLedger}
 use Rattle.probe.proofs.Amounts.{amounts_put}
 use Rattle.probe.proofs.Plain.{plain_put}
 use Rattle.probe.proofs.ready.put.Goals as goal

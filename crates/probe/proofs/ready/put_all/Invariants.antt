@@ -1,4 +1,4 @@
-use Rattle.probe.specs.Ready.{IsReadyLedger}
+use Rattle.probe.proofs.Prelude.{IsReadyLedger}
 use Rattle.probe.proofs.ready.put_all.Given as goal
 
 abbrev pub invariant-loop-entry : goal.invariant-loop-entry

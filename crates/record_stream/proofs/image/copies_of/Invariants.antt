@@ -1,5 +1,4 @@
-use Rattle.std.proofs.Common.{◌≡◌, map, take}
-use Rattle.record_stream.specs.Layouts.{piece}
+use Rattle.record_stream.proofs.Prelude.{◌≡◌, map, take, piece}
 use Rattle.record_stream.proofs.image.copies_of.Given as goal
 
 abbrev pub invariant-loop-span : goal.invariant-loop-span

@@ -1,4 +1,4 @@
-use Rattle.std.proofs.Common.{◌≡◌, length, take}
+use Rattle.record_stream.proofs.Prelude.{◌≡◌, length, take}
 use Rattle.record_stream.proofs.Layouts.{AreSoFar}
 use Rattle.record_stream.proofs.layout.layout_of.Given as goal
 

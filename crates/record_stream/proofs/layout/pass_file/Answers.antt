@@ -1,7 +1,4 @@
-use Rattle.std.proofs.Common.{ℕ, ap, sym, subst, ◌∙◌}
-use Rattle.xdr_core.specs.Leaves.{u64}
-use Rattle.xdr_header.specs.Image.{file}
-use Rattle.record_stream.specs.Layouts.{IsPassed}
+use Rattle.record_stream.proofs.Prelude.{ℕ, ap, sym, subst, ◌∙◌, u64, file, IsPassed}
 use Rattle.record_stream.proofs.Layouts.{file_passed}
 use Rattle.record_stream.proofs.layout.pass_file.Goals as goal
 

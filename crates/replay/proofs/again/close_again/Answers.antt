@@ -1,7 +1,6 @@
-use Rattle.std.proofs.Common.{ℕ, List, length, Ok, Err, subst, ap, arith}
+use Rattle.replay.proofs.Prelude.{ℕ, List, length, Ok, Err, subst, ap, arith, IsClose}
 use Rattle.std.proofs.Math.Facts.{Fits-of_lt}
-use Rattle.stored_outcome.specs.close_rules.Close.{IsClose}
-use Rattle.replay.proofs.ClosingAgain.{place_more, place_fits, again_more, refused_at}
+use Rattle.replay.proofs.ClosingAgain.{offset_more, offset_fits, again_more, refused_at}
 use Rattle.replay.proofs.again.close_again.Goals as goal
 
 pub returns-in-Err-Refused : goal.returns-in-Err-Refused
@@ -16,7 +15,7 @@ returns-in-Err-Refused g c =
 pub overflow_add-at-in-loop-i : goal.overflow_add-at-in-loop-i
 overflow_add-at-in-loop-i g c =
     let same = ap length c.as_slice-bytes.ensures in
-    let fits = place_fits c.args.closes.now c.loop-i.i c.index-closes-i.result c.loop-i.at c.loop-i-test.true
+    let fits = offset_fits c.args.closes.now c.loop-i.i c.index-closes-i.result c.loop-i.at c.loop-i-test.true
     c.index-closes-i.is c.loop-i.invariant.at c.requires.fits in
     Fits-of_lt (omega (arith, same, fits))
 
@@ -24,7 +23,7 @@ pub loop-i-preserved : goal.loop-i-preserved
 loop-i-preserved g c =
     let same = ap length c.as_slice-bytes.ensures in
     let test = c.loop-i-test.true in
-    let place = place_more c.args.closes.now c.loop-i.i c.index-closes-i.result c.loop-i.at c.loop-i-test.true
+    let offset = offset_more c.args.closes.now c.loop-i.i c.index-closes-i.result c.loop-i.at c.loop-i-test.true
     c.index-closes-i.is c.loop-i.invariant.at in
     let h = c.in-Ok.ensures in
     record {
@@ -33,5 +32,5 @@ loop-i-preserved g c =
           c.args.closes.now c.loop-i.i
           c.index-closes-i.result h.0 c.loop-i-test.true c.index-closes-i.is c.loop-i.invariant.closed
           (subst (λ (b : List ℕ). IsClose c.loop-i.ledger.state b (Ok h.0)) c.as_slice-bytes.ensures h.1) h.2;
-      at = omega (arith, same, place);
+      at = omega (arith, same, offset);
     }

@@ -1,6 +1,4 @@
-use Rattle.std.proofs.Common.{◌≡◌, ◌-◌, ◌≤◌, length, take}
-use Rattle.image_store.specs.gate_journal.Records.{blocks}
-use Rattle.replay.specs.ClosingAgain.{AreClosedTo}
+use Rattle.replay.proofs.Prelude.{◌≡◌, ◌-◌, ◌≤◌, length, take, blocks, AreClosedTo}
 use Rattle.replay.proofs.again.close_again.Given as goal
 
 abbrev pub invariant-loop-i : goal.invariant-loop-i

@@ -1,13 +1,7 @@
-use Rattle.std.proofs.Common.{◌≡◌, ◌∙◌, subst, List, [], ◌++◌, ℕ, length, arith, rules}
+use Rattle.replay.proofs.Prelude.{◌≡◌, ◌∙◌, subst, List, [], ◌++◌, ℕ, length, arith, rules, take-append_seam, All-same}
+use Rattle.replay.proofs.Prelude.{HasEnded, Appends-nil, Consumes-nil, Seen, seen, ClosingState, DiskFailed}
 use Rattle.std.proofs.Math.ListN.{take}
-use Rattle.std.proofs.Math.Seq.{take-append_seam}
 use Rattle.std.specs.List.{All}
-use Rattle.std.proofs.lemmas.List.Elements.{All-same}
-use Rattle.worker_merges.specs.Places.{HasEnded}
-use Rattle.std.proofs.KnownBytes.{Appends-nil, Consumes-nil}
-use Rattle.stored_outcome.specs.run_streams.Seen.{Seen, seen}
-use Rattle.stored_outcome.specs.close_rules.State.{ClosingState}
-use Rattle.replay.specs.Keeping.{DiskFailed}
 use Rattle.replay.proofs.Turning.{nothing_followed}
 use Rattle.replay.proofs.Keeping.{nothing_kept}
 use Rattle.replay.proofs.beside.close_beside.Goals as goal
@@ -28,7 +22,7 @@ returns-in_default g c =
           (Consumes-nil (g.I.Source.left c.args.input.now)) received;
     }
 
--- what is written over a whole slice is what stands in it
+-- what is written over an entire slice is what is in it
 written : {X : Type 0} (P : X → Type 0) (count : ℕ) (new rest : List X) → length new ≡ count → All P new
     → All P (take count (new ++ rest))
 written P count new rest len all =

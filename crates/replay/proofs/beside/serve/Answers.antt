@@ -1,10 +1,5 @@
-use Rattle.std.proofs.Common.{[], sym, subst}
-use Rattle.stored_outcome.specs.run_streams.Seen.{Seen, seen}
-use Rattle.stored_outcome.specs.run_streams.SeenVolume.{SeenVolume, seen_volume}
-use Rattle.stored_outcome.specs.close_rules.State.{ClosingState}
-use Rattle.outside.specs.Disk.{Disk}
-use Rattle.replay.specs.Stored.{IsStored}
-use Rattle.replay.specs.Keeping.{Ready, DidFollow}
+use Rattle.replay.proofs.Prelude.{[], sym, subst, Seen, seen, SeenVolume, seen_volume, ClosingState, Disk, IsStored}
+use Rattle.replay.proofs.Prelude.{Ready, DidFollow}
 use Rattle.replay.proofs.beside.serve.Goals as goal
 
 pub follow_with-end-requires-clause-ready : goal.follow_with-end-requires-clause-ready
@@ -18,7 +13,7 @@ returns-clause-followed g c =
     let it = c.follow_with-end in
     let input : Seen = seen g.I.Source.left g.I.Source.faults c.args.input.now it.new.input in
     let out : Seen = seen g.O.Sink.taken g.O.Sink.faults c.args.out.now it.new.out in
-    let vol : SeenVolume = seen_volume g.V.Volume.tells g.V.Volume.disk g.V.Volume.faults c.args.vol.now it.new.vol in
+    let vol : SeenVolume = seen_volume g.V.Volume.reports g.V.Volume.disk g.V.Volume.faults c.args.vol.now it.new.vol in
     subst (λ (s : ClosingState). DidFollow (Unit {0}) s 0 [] input out vol it.result) c.post_due.ensures.state
     it.ensures.followed
 

@@ -1,6 +1,4 @@
-use Rattle.std.proofs.Common.{rules}
-use Rattle.std.proofs.lemmas.List.Elements.{All-same}
-use Rattle.worker_merges.specs.Places.{HasEnded}
+use Rattle.replay.proofs.Prelude.{rules, All-same, HasEnded}
 use Rattle.replay.proofs.beside.serve_beside.Goals as goal
 
 pub returns-clause-ended : goal.returns-clause-ended

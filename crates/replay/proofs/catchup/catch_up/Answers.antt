@@ -1,5 +1,4 @@
-use Rattle.stored_outcome.specs.run_streams.Seen.{seen}
-use Rattle.std.proofs.KnownBytes.{Appends-nil}
+use Rattle.replay.proofs.Prelude.{seen, Appends-nil}
 use Rattle.replay.proofs.Starts.{caught_up}
 use Rattle.replay.proofs.catchup.catch_up.Goals as goal
 

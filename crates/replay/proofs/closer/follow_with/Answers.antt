@@ -1,8 +1,4 @@
-use Rattle.std.proofs.Common.{List, ℕ, subst}
-use Rattle.stored_outcome.specs.run_streams.Seen.{Seen, seen}
-use Rattle.stored_outcome.specs.close_rules.State.{ClosingState}
-use Rattle.replay.specs.Following.{Followed}
-use Rattle.replay.specs.Keeping.{DiskFailed, KeptOn}
+use Rattle.replay.proofs.Prelude.{List, ℕ, subst, Seen, seen, ClosingState, Followed, DiskFailed, KeptOn}
 use Rattle.replay.proofs.closer.follow_with.Goals as goal
 
 pub returns-clause-followed : goal.returns-clause-followed

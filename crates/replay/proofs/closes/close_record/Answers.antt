@@ -1,9 +1,4 @@
-use Rattle.std.proofs.Common.{inl, subst}
-use Rattle.stored_outcome.specs.run_streams.Seen.{Seen, seen}
-use Rattle.stored_outcome.specs.close_rules.State.{ClosingState}
-use Rattle.outside.specs.Disk.{Disk}
-use Rattle.replay.specs.Following.{Closes, Stops}
-use Rattle.replay.specs.Keeping.{DiskFailed, IsUnkept}
+use Rattle.replay.proofs.Prelude.{inl, subst, Seen, seen, ClosingState, Disk, Closes, Stops, DiskFailed, IsUnkept}
 use Rattle.replay.proofs.Turning.{stops_of}
 use Rattle.replay.proofs.Keeping.{unkept_refused}
 use Rattle.replay.proofs.closes.close_record.Goals as goal

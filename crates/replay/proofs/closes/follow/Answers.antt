@@ -1,5 +1,4 @@
-use Rattle.std.proofs.Common.{arith, refl}
-use Rattle.outside.specs.Disk.{Disk}
+use Rattle.replay.proofs.Prelude.{arith, refl, Disk}
 use Rattle.replay.proofs.Turning.{gone, goes_low, goes_smaller, rose_before}
 use Rattle.replay.proofs.Keeping.{gone_on}
 use Rattle.replay.proofs.closes.follow.Goals as goal

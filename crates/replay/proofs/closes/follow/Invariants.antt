@@ -1,13 +1,9 @@
-use Rattle.std.proofs.Common.{ℕ, ◌+◌, ◌*◌, ◌-◌, ◌^◌, ◌≤◌, List, Option}
-use Rattle.stored_outcome.specs.run_streams.Seen.{seen}
-use Rattle.stored_outcome.specs.run_outcome.declared.status.Status.{Status}
-use Rattle.replay.specs.Following.{Followed}
-use Rattle.replay.specs.Keeping.{Ready, DiskFailed}
+use Rattle.replay.proofs.Prelude.{ℕ, ◌+◌, ◌*◌, ◌-◌, ◌^◌, ◌≤◌, List, Option, seen, Status, Followed, Ready, DiskFailed}
 use Rattle.replay.proofs.Turning.{over}
 use Rattle.replay.proofs.Keeping.{CarriesKept}
 use Rattle.replay.proofs.closes.follow.Given as goal
 
--- whatever the run comes to from here, it came to from its start
+-- whatever the run yields from here, it yielded from its start
 abbrev pub invariant-loop-end : goal.invariant-loop-end
 invariant-loop-end g l = record {
   carries : (now out_now : Option (List ℕ)) (faults out_faults vol_faults : ℕ) (end : Status)
@@ -19,7 +15,7 @@ invariant-loop-end g l = record {
       (over (g.I.Source.left l.initial.input) now (g.I.Source.faults l.initial.input) faults)
       (over (g.O.Sink.taken l.initial.out) out_now (g.O.Sink.faults l.initial.out) out_faults)
       (DiskFailed g.K.Keeper.stores (g.V.Volume.faults l.initial.vol) vol_faults) end;
-  carries_kept : g.K.Keeper.stores → g.V.Volume.tells
+  carries_kept : g.K.Keeper.stores → g.V.Volume.reports
       → CarriesKept g.V.Volume.disk l.ledger.state l.initial.ledger.state
       l.at l.initial.at l.ahead.items l.initial.ahead.items
       (seen g.I.Source.left g.I.Source.faults l.input l.input)
@@ -27,7 +23,7 @@ invariant-loop-end g l = record {
       (seen g.O.Sink.taken g.O.Sink.faults l.out l.out)
       (seen g.O.Sink.taken g.O.Sink.faults l.initial.out l.initial.out)
       (g.V.Volume.disk l.vol) (g.V.Volume.disk l.initial.vol);
-  ready : g.K.Keeper.stores → g.V.Volume.tells
+  ready : g.K.Keeper.stores → g.V.Volume.reports
       → Ready (g.K.Keeper.keeps l.keeper (g.V.Volume.disk l.vol) l.ledger.state) (g.V.Volume.disk l.vol) l.ledger.state;
   works : g.K.Keeper.works l.keeper;
   crew : g.C.Crew.has l.crew l.side;

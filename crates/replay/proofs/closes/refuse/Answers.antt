@@ -1,4 +1,4 @@
-use Rattle.stored_outcome.specs.run_streams.Seen.{seen}
+use Rattle.replay.proofs.Prelude.{seen}
 use Rattle.replay.proofs.Turning.{refuses_of}
 use Rattle.replay.proofs.closes.refuse.Goals as goal
 

@@ -1,14 +1,8 @@
-use Rattle.std.proofs.Common.{◌≡◌, ◌∙◌, ℕ, List, Ok, sym, subst, inl, inr, arith, rules}
-use Rattle.std.proofs.KnownBytes.{Appends-nil}
-use Rattle.stored_outcome.specs.run_streams.Seen.{Seen, seen}
-use Rattle.stored_outcome.specs.close_rules.State.{ClosingState}
-use Rattle.stored_outcome.specs.close_rules.Close.{PreparedClose, IsClose}
-use Rattle.stored_outcome.specs.run_outcome.Outcome.{lines_of}
-use Rattle.outside.specs.Disk.{Disk}
-use Rattle.replay.specs.Following.{Told}
-use Rattle.replay.specs.Keeping.{DiskFailed, KeptTelling}
-use Rattle.replay.proofs.Turning.{closed_told, rose_before}
-use Rattle.replay.proofs.Keeping.{keep_failed, kept_told, unkept_nothing}
+use Rattle.replay.proofs.Prelude.{◌≡◌, ◌∙◌, ℕ, List, Ok, sym, subst, inl, inr, arith, rules, Appends-nil, Seen, seen}
+use Rattle.replay.proofs.Prelude.{ClosingState, PreparedClose, IsClose, lines_of, Disk, WroteClose, DiskFailed}
+use Rattle.replay.proofs.Prelude.{KeptWriting}
+use Rattle.replay.proofs.Turning.{closed_written, rose_before}
+use Rattle.replay.proofs.Keeping.{keep_failed, kept_written, unkept_nothing}
 use Rattle.replay.proofs.closes.take_close.Goals as goal
 
 pub keep-requires-clause-ready : goal.keep-requires-clause-ready
@@ -25,16 +19,16 @@ returns-clause-closes g c =
     let closed : PreparedClose = c.args.prepared in
     let before : ℕ = g.V.Volume.faults c.args.vol.now in
     let mid : ℕ = g.V.Volume.faults c.keep.new.vol in
-    let after : ℕ = g.V.Volume.faults c.tell_close.new.vol in
-    let out : Seen = seen g.O.Sink.taken g.O.Sink.faults c.args.out.now c.tell_close.new.out in
+    let after : ℕ = g.V.Volume.faults c.write_close.new.vol in
+    let out : Seen = seen g.O.Sink.taken g.O.Sink.faults c.args.out.now c.write_close.new.out in
     let text : c.as_slice.result.now ≡ lines_of closed = search rules in
     let late : Type 0 = DiskFailed g.K.Keeper.stores mid after in
     let any : Type 0 = DiskFailed g.K.Keeper.stores before after in
-    closed_told c.args.ledger.now.state c.args.bytes.now closed c.post_due.new.ledger.state out late any
-    c.tell_close.result
+    closed_written c.args.ledger.now.state c.args.bytes.now closed c.post_due.new.ledger.state out late any
+    c.write_close.result
     c.requires.closes (c.post_due.ensures.state ∙ c.install.ensures.state)
     (λ failed. (failed.0, rose_before before mid after c.keep.ensures.cause.later failed.1))
-    (subst (λ (t : List ℕ). Told t out late c.tell_close.result) text c.tell_close.ensures.told)
+    (subst (λ (t : List ℕ). WroteClose t out late c.write_close.result) text c.write_close.ensures.reported)
 
 pub returns-in-Err-clause-closes : goal.returns-in-Err-clause-closes
 returns-in-Err-clause-closes g c =
@@ -64,17 +58,17 @@ returns-clause-kept g c st te =
     let closed : PreparedClose = c.args.prepared in
     let r = c.requires.ready st te in
     let closes = subst (λ (b : List ℕ). IsClose s b (Ok closed)) (sym (c.in-Ok-hold.ensures st)) c.requires.closes in
-    let out : Seen = seen g.O.Sink.taken g.O.Sink.faults c.args.out.now c.tell_close.new.out in
+    let out : Seen = seen g.O.Sink.taken g.O.Sink.faults c.args.out.now c.write_close.new.out in
     let old : Disk = g.V.Volume.disk c.args.vol.now in
     let mid : Disk = g.V.Volume.disk c.keep.new.vol in
-    let new : Disk = g.V.Volume.disk c.tell_close.new.vol in
+    let new : Disk = g.V.Volume.disk c.write_close.new.vol in
     let k = c.in-Ok-keep.ensures.kept st te s closed r closes in
     let text : c.as_slice.result.now ≡ lines_of closed = search rules in
     let state : c.post_due.new.ledger.state ≡ closed.state = c.post_due.ensures.state ∙ c.install.ensures.state in
-    let first = subst (λ (x : ClosingState). KeptTelling x c.as_slice.result.now out mid new c.tell_close.result)
-    state (c.tell_close.ensures.kept st te) in
-    let second = subst (λ (t : List ℕ). KeptTelling closed.state t out mid new c.tell_close.result) text first in
-    kept_told s c.args.bytes.now closed c.post_due.new.ledger.state out old mid new c.tell_close.result
+    let first = subst (λ (x : ClosingState). KeptWriting x c.as_slice.result.now out mid new c.write_close.result)
+    state (c.write_close.ensures.kept st te) in
+    let second = subst (λ (t : List ℕ). KeptWriting closed.state t out mid new c.write_close.result) text first in
+    kept_written s c.args.bytes.now closed c.post_due.new.ledger.state out old mid new c.write_close.result
     c.requires.closes state k.safe k.opens (c.keep.ensures.runs st te s closed r closes) second
 
 pub returns-in_default-clause-kept : goal.returns-in_default-clause-kept

@@ -1,10 +1,4 @@
-use Rattle.std.proofs.Common.{ℕ, ◌≤◌, List, subst}
-use Rattle.ledger_types.specs.declared.header.LedgerHeader.{LedgerHeader}
-use Rattle.xdr_core.specs.Format.{IsBytes}
-use Rattle.stored_outcome.specs.op_form.Sequences.{last_seq}
-use Rattle.stored_outcome.specs.run_streams.Seen.{Seen, seen}
-use Rattle.replay.specs.Following.{EndsAt}
-use Rattle.replay.specs.Keeping.{DiskFailed}
+use Rattle.replay.proofs.Prelude.{ℕ, ◌≤◌, List, subst, LedgerHeader, IsBytes, last_seq, Seen, seen, EndsAt, DiskFailed}
 use Rattle.replay.proofs.Turning.{turned_at, turned_off}
 use Rattle.replay.proofs.Keeping.{kept_at, kept_off}
 use Rattle.replay.proofs.closes.turn.Goals as goal

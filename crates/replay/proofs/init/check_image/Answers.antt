@@ -1,7 +1,4 @@
-use Rattle.std.proofs.Common.{Ok, Err, subst}
-use Rattle.xdr_header.specs.declared.image.StartImage.{StartImage}
-use Rattle.hash_ids.specs.Ids.{network_id_of}
-use Rattle.replay.specs.Starting.{IsJudgedSo}
+use Rattle.replay.proofs.Prelude.{Ok, Err, subst, StartImage, network_id_of, IsJudgedSo}
 use Rattle.replay.proofs.init.check_image.Goals as goal
 
 pub returns-in-Ok-judge : goal.returns-in-Ok-judge

@@ -1,4 +1,4 @@
-use Rattle.std.proofs.Common.{◌≡◌, take}
+use Rattle.replay.proofs.Prelude.{◌≡◌, take}
 use Rattle.replay.proofs.init.copy_files.Given as goal
 
 abbrev pub invariant-loop-file : goal.invariant-loop-file

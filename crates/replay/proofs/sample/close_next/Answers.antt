@@ -1,7 +1,4 @@
-use Rattle.std.proofs.Common.{List, ℕ, ◌∙◌, Ok, Err, refl, subst}
-use Rattle.stored_outcome.specs.close_rules.State.{ClosingState}
-use Rattle.stored_outcome.specs.close_rules.Close.{IsClose}
-use Rattle.worker_merges.specs.ledger_close.Answers.{FaultIs}
+use Rattle.replay.proofs.Prelude.{List, ℕ, ◌∙◌, Ok, Err, refl, subst, ClosingState, IsClose, FaultIs}
 use Rattle.replay.proofs.SampleSteps.{one_more, bytes_next}
 use Rattle.replay.proofs.sample.close_next.Goals as goal
 
@@ -14,7 +11,7 @@ returns-in-Ok-prepare g c =
     (c.as_slice.ensures.value ∙ are) c.in-Ok-prepare.ensures.answers in
     let took = c.take_close.ensures in
     one_more c.args.seed c.args.closed was now.ledger.state c.args.sampled.now.transactions c.args.sampled.now.successes
-    now.transactions now.successes c.in-Ok-prepare.prepared c.requires.come closes took.state took.transactions
+    now.transactions now.successes c.in-Ok-prepare.prepared c.requires.reached closes took.state took.transactions
     took.successes took.fits took.success_fits
 
 pub returns : goal.returns

@@ -1,4 +1,4 @@
-use Rattle.std.proofs.Common.{refl}
+use Rattle.replay.proofs.Prelude.{refl}
 use Rattle.replay.proofs.SampleSteps.{first_of}
 use Rattle.replay.proofs.sample.first_ledger.Goals as goal
 

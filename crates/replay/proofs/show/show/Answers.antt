@@ -1,12 +1,7 @@
-use Rattle.std.proofs.Common.{ℕ, length, refl, subst, inl, inr}
+use Rattle.replay.proofs.Prelude.{ℕ, length, refl, subst, inl, inr, Seen, seen, ClosingState, shown_lines, Image, Holds}
+use Rattle.replay.proofs.Prelude.{Wrote}
 use Rattle.std.specs.FinMap.{entries}
-use Rattle.stored_outcome.specs.run_streams.Seen.{Seen, seen}
-use Rattle.stored_outcome.specs.close_rules.State.{ClosingState}
-use Rattle.stored_outcome.specs.run_outcome.Lines.{shown_lines}
 use Rattle.stored_outcome.specs.run_outcome.declared.status.Status.TheVariants as status
-use Rattle.outside.specs.Disk.{Image}
-use Rattle.image_store.specs.Opening.{Holds}
-use Rattle.replay.specs.Following.{Wrote}
 use Rattle.replay.proofs.show.show.Goals as goal
 
 pub returns-in-Ok : goal.returns-in-Ok
@@ -17,7 +12,7 @@ returns-in-Ok g c =
     let end = c.show_opened.result in
     record {
       runs = c.open.ensures.runs;
-      told = λ te.
+      reported = λ te.
           let opens = c.in-Ok.ensures.opens te in
           let stored = opens.0.ready.kept in
           inl (
@@ -25,7 +20,7 @@ returns-in-Ok g c =
               stored.kept,
               s,
               subst (λ (x : Image). Holds x stored.kept) opens.1 stored.settled.holds,
-              stored.comes,
+              stored.yields,
               subst (λ (n : ℕ). Wrote out (shown_lines s.header stored.kept.epoch n count) status.Done end)
                   opens.0.count
                   (subst (λ (e : ℕ). Wrote out (shown_lines s.header e c.in-Ok.opened.records count) status.Done end)
@@ -39,6 +34,6 @@ returns-in-Ok g c =
 pub returns-in-Err : goal.returns-in-Err
 returns-in-Err g c = record {
   runs = c.open.ensures.runs;
-  told = λ te. inr ((refl, refl), c.in-Err.ensures.opens te);
+  reported = λ te. inr ((refl, refl), c.in-Err.ensures.opens te);
   any = inr ((refl, refl), c.in-Err.ensures.cause);
 }

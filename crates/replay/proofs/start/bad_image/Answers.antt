@@ -1,4 +1,4 @@
-use Rattle.replay.proofs.Marking.{bytes_of}
+use Rattle.replay.proofs.Prelude.{bytes_of}
 use Rattle.replay.proofs.start.bad_image.Goals as goal
 
 pub returns-clause-fits : goal.returns-clause-fits

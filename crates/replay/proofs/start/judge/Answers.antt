@@ -1,7 +1,4 @@
-use Rattle.std.proofs.Common.{◌≡◌, Ok, subst}
-use Rattle.ledger_types.specs.declared.ids.Hash.{Hash}
-use Rattle.hash_ids.specs.Ids.{network_id_of}
-use Rattle.stored_outcome.specs.close_rules.Images.{IsJudged}
+use Rattle.replay.proofs.Prelude.{◌≡◌, Ok, subst, Hash, network_id_of, IsJudged}
 use Rattle.replay.proofs.start.judge.Goals as goal
 
 pub returns-in-Ok-from_image : goal.returns-in-Ok-from_image

@@ -1,8 +1,4 @@
-use Rattle.std.proofs.Common.{ℕ, ◌<◌, List, subst, sym, rules}
-use Rattle.stored_outcome.specs.run_streams.Seen.{Seen, seen}
-use Rattle.record_stream.specs.Filling.{Grown}
-use Rattle.xdr_core.specs.Format.{IsBytes}
-use Rattle.replay.specs.Starting.{IsUncut}
+use Rattle.replay.proofs.Prelude.{ℕ, ◌<◌, List, subst, sym, rules, Seen, seen, Grown, IsBytes, IsUncut}
 use Rattle.replay.proofs.Starts.{image_taken, uncut_bad, uncut_failed}
 use Rattle.replay.proofs.start.read_image.Goals as goal
 

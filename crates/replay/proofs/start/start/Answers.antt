@@ -1,5 +1,4 @@
-use Rattle.std.proofs.lemmas.Result.{err_from_is_err_and}
-use Rattle.stored_outcome.specs.run_streams.Seen.{seen}
+use Rattle.replay.proofs.Prelude.{err_from_is_err_and, seen}
 use Rattle.replay.proofs.Starts.{unjudged, uncut_unstarted}
 use Rattle.replay.proofs.start.start.Goals as goal
 

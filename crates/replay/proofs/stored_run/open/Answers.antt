@@ -1,4 +1,4 @@
-use Rattle.std.proofs.Common.{rules}
+use Rattle.replay.proofs.Prelude.{rules}
 use Rattle.replay.proofs.stored_run.open.Goals as goal
 
 pub returns-in-Ok-restore-clause-opens : goal.returns-in-Ok-restore-clause-opens

@@ -1,4 +1,4 @@
-use Rattle.std.proofs.Common.{refl, ◌∙◌, inr}
+use Rattle.replay.proofs.Prelude.{refl, ◌∙◌, inr}
 use Rattle.replay.proofs.stored_run.restore.Goals as goal
 
 pub returns-in-Ok-close_again : goal.returns-in-Ok-close_again
@@ -12,7 +12,7 @@ returns g c =
     inr (record {
       start = c.in-Ok.ledger.state;
       judged = c.in-Ok.ensures.judges;
-      front = refused.front;
+      prefix = refused.prefix;
       bytes = refused.bytes;
       others = refused.others;
       records = refused.cut;
@@ -22,5 +22,5 @@ returns g c =
       wrong = refused.wrong;
       refused = refused.refused;
       in_file = refl;
-      at = c.in-Err-Refused.place-is ∙ refused.at;
+      at = c.in-Err-Refused.offset-is ∙ refused.at;
     })

@@ -1,6 +1,5 @@
 -- What `changed` says of the numbers that were passed on, said of the account.
-use Rattle.std.proofs.Common.{arith}
-use Rattle.std.proofs.lemmas.Int.{ints}
+use Rattle.reserve_rules.proofs.Prelude.{arith, ints}
 use Rattle.reserve_rules.proofs.Changes.{refused_at}
 use Rattle.reserve_rules.proofs.account.add_balance.Goals as goal
 

@@ -1,6 +1,4 @@
-use Rattle.std.proofs.Common.{List, ℕ, set, ap, ◌∙◌}
-use Rattle.sha2.specs.Sha256.{sha256}
-use Rattle.ledger_types.specs.declared.ids.AccountId.{AccountId}
+use Rattle.sample_ledger.proofs.Prelude.{List, ℕ, set, ap, ◌∙◌, sha256, AccountId}
 use Rattle.sample_ledger.proofs.Keys.{last_replaced}
 use Rattle.sample_ledger.proofs.accounts.account_id.Goals as goal
 

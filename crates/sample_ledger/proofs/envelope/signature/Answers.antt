@@ -1,8 +1,5 @@
-use Rattle.std.proofs.Common.{◌≡◌, ℕ, List, take, drop, ap, ◌∙◌, arith}
-use Rattle.std.proofs.lemmas.List.{take_all}
+use Rattle.sample_ledger.proofs.Prelude.{◌≡◌, ℕ, List, take, drop, ap, ◌∙◌, arith, take_all, sha256, secret}
 use Rattle.op_types.specs.declared.transaction.DecoratedSignature.{DecoratedSignature}
-use Rattle.sha2.specs.Sha256.{sha256}
-use Rattle.sample_ledger.specs.Accounts.{secret}
 use Rattle.sample_ledger.proofs.Lengths.{hint_len}
 use Rattle.sample_ledger.proofs.envelope.signature.Goals as goal
 

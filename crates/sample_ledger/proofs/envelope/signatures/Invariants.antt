@@ -1,5 +1,4 @@
-use Rattle.std.proofs.Common.{◌≡◌, map, take}
-use Rattle.sample_ledger.specs.Records.{signature}
+use Rattle.sample_ledger.proofs.Prelude.{◌≡◌, map, take, signature}
 use Rattle.sample_ledger.proofs.envelope.signatures.Given as goal
 
 abbrev pub invariant-loop-signer : goal.invariant-loop-signer

@@ -1,13 +1,11 @@
-use Rattle.std.proofs.Common.{ℕ, List, ◌++◌, ap, sym, ◌∙◌}
-use Rattle.std.specs.List.{flat_map}
+use Rattle.sample_ledger.proofs.Prelude.{ℕ, List, ◌++◌, ap, sym, ◌∙◌, flat_map, record_of}
 use Rattle.ledger_types.specs.declared.bucket.BucketEntry.TheVariants as item
-use Rattle.bucket_core.specs.bucket_items.MarkedItem.{record_of}
-use Rattle.sample_ledger.proofs.Entries.{meta_spellable}
+use Rattle.sample_ledger.proofs.Entries.{meta_encodable}
 use Rattle.sample_ledger.proofs.Rows.{init_record, file_is, has_file}
 use Rattle.sample_ledger.proofs.first_file.first_file.Goals as goal
 
 pub write_meta-requires : goal.write_meta-requires
-write_meta-requires c = meta_spellable
+write_meta-requires c = meta_encodable
 
 pub returns-clause-file : goal.returns-clause-file
 returns-clause-file c =
@@ -19,4 +17,4 @@ returns-clause-file c =
 
 pub returns-clause-has : goal.returns-clause-has
 returns-clause-has c =
-    has_file c.args.accounts.now c.in_ok-rows.rows c.in_ok-rows.ensures.rows c.in_ok-rows.ensures.spellable
+    has_file c.args.accounts.now c.in_ok-rows.rows c.in_ok-rows.ensures.rows c.in_ok-rows.ensures.encodable

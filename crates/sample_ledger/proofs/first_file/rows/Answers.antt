@@ -1,20 +1,14 @@
-use Rattle.std.proofs.Common.{◌≡◌, ℕ, ◌-◌, ◌<◌, Some, map, ap, sym, subst, ◌∙◌, arith}
-use Rattle.std.specs.FinMap.{entries}
-use Rattle.ledger_types.specs.declared.ids.AccountId.{AccountId}
-use Rattle.ledger_types.specs.declared.entry.LedgerEntry.{LedgerEntry}
-use Rattle.ledger_types.specs.KeyOrder.{account_cmp}
-use Rattle.shared_tree.specs.Rows.{changed}
-use Rattle.sample_ledger.specs.Accounts.{account_id, ledger_entry}
-use Rattle.sample_ledger.specs.Image.{changes_of}
-use Rattle.sample_ledger.specs.Rows.{as_change, AreSpellable}
-use Rattle.sample_ledger.proofs.Entries.{item_spellable}
-use Rattle.sample_ledger.proofs.Rows.{changes_rise, next_row, spellable_more, no_changes}
+use Rattle.sample_ledger.proofs.Prelude.{◌≡◌, ℕ, ◌-◌, ◌<◌, Some, map, ap, sym, subst, ◌∙◌, arith, entries, AccountId}
+use Rattle.sample_ledger.proofs.Prelude.{LedgerEntry, account_cmp, changed, account_id, ledger_entry, changes_of}
+use Rattle.sample_ledger.proofs.Prelude.{as_change, AreEncodable}
+use Rattle.sample_ledger.proofs.Entries.{item_encodable}
+use Rattle.sample_ledger.proofs.Rows.{changes_rise, next_row, encodable_more, no_changes}
 use Rattle.sample_ledger.proofs.first_file.rows.Goals as goal
 
 pub loop-done-init : goal.loop-done-init
 loop-done-init c = record {
   rows = ap (map as_change) c.empty-rows.ensures ∙ sym (no_changes c.args.accounts.now 9);
-  spellable = subst AreSpellable (sym c.empty-rows.ensures) tt;
+  encodable = subst AreEncodable (sym c.empty-rows.ensures) tt;
 }
 
 pub put-requires : goal.put-requires
@@ -33,9 +27,9 @@ loop-done-preserved c =
     ∙ (λ i. changed account_cmp (c.id.ensures i) (Some (c.in_ok-entry.ensures i)) row) in
     record {
       rows = next_row seed c.loop-done.done row c.in_ok-rows.rows c.loop-done-test.true c.loop-done.invariant.rows is;
-      spellable = subst AreSpellable (sym is)
-          (spellable_more (account_id seed account) (ledger_entry seed account) row (item_spellable seed account below)
-          c.loop-done.invariant.spellable);
+      encodable = subst AreEncodable (sym is)
+          (encodable_more (account_id seed account) (ledger_entry seed account) row (item_encodable seed account below)
+          c.loop-done.invariant.encodable);
     }
 
 pub returns-clause-rows : goal.returns-clause-rows

@@ -1,5 +1,4 @@
-use Rattle.std.proofs.Common.{◌≡◌, ℕ, IfOk, subst}
-use Rattle.sample_ledger.specs.Image.{first_bucket}
+use Rattle.sample_ledger.proofs.Prelude.{◌≡◌, ℕ, IfOk, subst, first_bucket}
 use Rattle.sample_ledger.proofs.first_image.first_bucket.Goals as goal
 
 pub of_file-requires : goal.of_file-requires

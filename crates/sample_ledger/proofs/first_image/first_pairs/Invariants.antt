@@ -1,4 +1,4 @@
-use Rattle.std.proofs.Common.{◌≡◌, ◌∷◌, map, replicate, None}
+use Rattle.sample_ledger.proofs.Prelude.{◌≡◌, ◌∷◌, map, replicate, None}
 use Rattle.bucket_levels.specs.Pairs.{empty_pair}
 use Rattle.bucket_levels.specs.Levels.{pair_of}
 use Rattle.sample_ledger.proofs.first_image.first_pairs.Given as goal

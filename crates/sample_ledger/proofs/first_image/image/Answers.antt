@@ -1,8 +1,5 @@
-use Rattle.std.proofs.Common.{◌≡◌, length, ap, subst, sym, ◌∙◌}
-use Rattle.ledger_types.specs.declared.header.LedgerHeader.{LedgerHeader}
-use Rattle.ledger_types.specs.declared.ids.Hash.{Hash}
-use Rattle.xdr_header.specs.Header.{ledger_header}
-use Rattle.sha2.proofs.Facts256.{length-sha256}
+use Rattle.sample_ledger.proofs.Prelude.{◌≡◌, length, ap, subst, sym, ◌∙◌, LedgerHeader, Hash, ledger_header}
+use Rattle.sample_ledger.proofs.Prelude.{length-sha256}
 use Rattle.sample_ledger.proofs.Headers.{header_within}
 use Rattle.sample_ledger.proofs.first_image.image.Goals as goal
 

@@ -1,8 +1,5 @@
-use Rattle.std.proofs.Common.{◌≡◌, ℕ, ◌-◌, [], ◌∷◌, ◌++◌, map, ap, sym, ◌∙◌, arith}
-use Rattle.std.specs.List.{range_with_len}
-use Rattle.ledger_types.specs.declared.asset.Asset.{Asset}
-use Rattle.op_types.specs.declared.operation.Operation.{Operation}
-use Rattle.sample_ledger.specs.Records.{own, payment, usd}
+use Rattle.sample_ledger.proofs.Prelude.{◌≡◌, ℕ, ◌-◌, [], ◌∷◌, ◌++◌, map, ap, sym, ◌∙◌, arith, range_with_len, Asset}
+use Rattle.sample_ledger.proofs.Prelude.{Operation, own, payment, usd}
 use Rattle.sample_ledger.proofs.Listed.{next_from_one}
 use Rattle.sample_ledger.proofs.operations.payments.Goals as goal
 

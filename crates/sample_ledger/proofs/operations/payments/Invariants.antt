@@ -1,6 +1,4 @@
-use Rattle.std.proofs.Common.{◌≡◌, ◌-◌, map}
-use Rattle.std.specs.List.{range_with_len}
-use Rattle.sample_ledger.specs.Records.{own, payment, usd}
+use Rattle.sample_ledger.proofs.Prelude.{◌≡◌, ◌-◌, map, range_with_len, own, payment, usd}
 use Rattle.sample_ledger.proofs.operations.payments.Given as goal
 
 abbrev pub invariant-loop-to : goal.invariant-loop-to

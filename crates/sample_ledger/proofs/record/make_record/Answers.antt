@@ -1,10 +1,7 @@
-use Rattle.std.proofs.Common.{ℕ, List, ◌+◌, ◌*◌, None, ap, sym, subst, ◌∙◌}
-use Rattle.ledger_types.specs.declared.ids.Hash.{Hash}
+use Rattle.sample_ledger.proofs.Prelude.{ℕ, List, ◌+◌, ◌*◌, None, ap, sym, subst, ◌∙◌, Hash, transaction_set}
+use Rattle.sample_ledger.proofs.Prelude.{close_record, hash_of_set}
 use Rattle.op_types.specs.declared.transaction.TransactionSet.{TransactionSet}
-use Rattle.value_hashes.specs.xdr_tx.Transactions.{transaction_set}
 use Rattle.xdr_header.specs.declared.record.CloseRecord.{CloseRecord}
-use Rattle.xdr_header.specs.Records.{close_record}
-use Rattle.fee_rules.specs.SetHash.{hash_of_set}
 use Rattle.sample_ledger.proofs.Envelopes.{set_short, record_short}
 use Rattle.sample_ledger.proofs.record.make_record.Goals as goal
 

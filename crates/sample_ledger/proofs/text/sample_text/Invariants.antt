@@ -1,7 +1,4 @@
-use Rattle.std.proofs.Common.{◌≡◌, ◌∷◌, ◌++◌, take}
-use Rattle.std.specs.Prelude.{codes}
-use Rattle.std.specs.List.{flat_map}
-use Rattle.std.specs.Fmt.{decimal}
+use Rattle.sample_ledger.proofs.Prelude.{◌≡◌, ◌∷◌, ◌++◌, take, codes, flat_map, decimal}
 use Rattle.sample_ledger.proofs.text.sample_text.Given as goal
 
 abbrev pub invariant-loop-number : goal.invariant-loop-number

@@ -1,9 +1,4 @@
-use Rattle.std.proofs.Common.{ℕ, [], ◌∷◌, ap, ◌∙◌}
-use Rattle.std.specs.Prelude.{codes}
-use Rattle.byteorder.specs.Endian.{big_number}
-use Rattle.sha2.specs.Sha256.{sha256}
-use Rattle.sample_ledger.specs.Accounts.{sample_text}
-use Rattle.sample_ledger.specs.Records.{draw}
+use Rattle.sample_ledger.proofs.Prelude.{ℕ, [], ◌∷◌, ap, ◌∙◌, codes, big_number, sha256, sample_text, draw}
 use Rattle.sample_ledger.proofs.turn.draw.Goals as goal
 
 pub returns : goal.returns

@@ -1,14 +1,14 @@
-use Rattle.std.proofs.Common.{rules, arith, length, ◌+◌, ap, sym, ◌∙◌, ◌++◌}
+use Rattle.shared_tree.proofs.Prelude.{rules, arith, length, ◌+◌, ap, sym, ◌∙◌, ◌++◌}
 use Rattle.shared_tree.proofs.Parts.{parted}
-use Rattle.shared_tree.proofs.Divided.{count_within, count_behind, count_top, count_before}
+use Rattle.shared_tree.proofs.Divided.{count_within, count_after, count_top, count_before}
 use Rattle.shared_tree.proofs.changes.+count_below.Goals as goal
 
 pub count_below-requires : goal.count_below-requires
 count_below-requires g t c =
     let p = parted g.met.K.Ord.total c.args.changes.now c.split_at.result.0.now c.in-Some.change.now c.in-Some.later.now
     (c.split_at.ensures.by_index.0 ∙ ap (λ r. c.split_at.result.0.now ++ r) c.in-Some.ensures.cases.0) c.requires in
-    let less = p.behind_shorter in
-    let sorted = p.behind_sorted in
+    let less = p.after_shorter in
+    let sorted = p.after_sorted in
     search (rules, arith, less, sorted)
 
 pub count_below-requires-in-Greater : goal.count_below-requires-in-Greater
@@ -36,7 +36,7 @@ returns-in-Less g t c =
     let p = parted g.met.K.Ord.total c.args.changes.now c.split_at.result.0.now c.in-Some.change.now c.in-Some.later.now
     (c.split_at.ensures.by_index.0 ∙ ap (λ r. c.split_at.result.0.now ++ r) c.in-Some.ensures.cases.0) c.requires in
     ap (λ n. length c.split_at.result.0.now + 1 + n) c.count_below.ensures
-    ∙ count_behind g.met.K.Ord.total c.args.key.now p (ap (λ k. g.K.Ord.cmp k c.args.key.now) (sym c.key.ensures)
+    ∙ count_after g.met.K.Ord.total c.args.key.now p (ap (λ k. g.K.Ord.cmp k c.args.key.now) (sym c.key.ensures)
     ∙ sym c.cmp.ensures ∙ c.in-Less.is)
 
 pub returns-in-Equal : goal.returns-in-Equal

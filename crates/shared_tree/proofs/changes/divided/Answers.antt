@@ -1,4 +1,4 @@
-use Rattle.std.proofs.Common.{arith}
+use Rattle.shared_tree.proofs.Prelude.{arith}
 use Rattle.shared_tree.proofs.Divided.{count_within}
 use Rattle.shared_tree.proofs.changes.divided.Goals as goal
 

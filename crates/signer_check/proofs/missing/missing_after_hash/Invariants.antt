@@ -1,6 +1,4 @@
-use Rattle.std.proofs.Common.{◌≡◌, drop}
-use Rattle.signer_check.specs.Weight.{counted_by_hash}
-use Rattle.signer_check.specs.Progress.{missing_after}
+use Rattle.signer_check.proofs.Prelude.{◌≡◌, drop, counted_by_hash, missing_after}
 use Rattle.signer_check.proofs.missing.missing_after_hash.Given as goal
 
 abbrev pub invariant-loop-signer : goal.invariant-loop-signer

@@ -1,7 +1,5 @@
-use Rattle.std.proofs.Common.{ℕ, Option, sym, ap, ◌∙◌}
-use Rattle.std.specs.List.{filter}
-use Rattle.ledger_types.specs.declared.signer.Signer.{Signer}
-use Rattle.signer_check.specs.Weight.{is_authorised, counted_by_signatures, used_for}
+use Rattle.signer_check.proofs.Prelude.{ℕ, Option, sym, ap, ◌∙◌, filter, Signer, is_authorised, counted_by_signatures}
+use Rattle.signer_check.proofs.Prelude.{used_for}
 use Rattle.signer_check.proofs.Needs.{reaches_from, until_from, unsigned_reach, unsigned_use}
 use Rattle.signer_check.proofs.reaching.reach.Goals as goal
 

@@ -1,10 +1,7 @@
-use Rattle.std.proofs.Common.{false, [], get_or, refl, ap, arith}
-use Rattle.std.proofs.lemmas.List.{set-get_or}
-use Rattle.signer_check.specs.declared.held.HeldSignature.{HeldSignature}
-use Rattle.signer_check.specs.Weight.{counted_by_signatures, reaches, until_reached, used_for}
-use Rattle.signer_check.specs.Progress.{left_of}
-use Rattle.signer_check.proofs.Places.{all_left}
-use Rattle.signer_check.proofs.Turns.{stands_unmatched, stands_end, stands_on, stands_all}
+use Rattle.signer_check.proofs.Prelude.{false, [], get_or, refl, ap, arith, set-get_or, HeldSignature}
+use Rattle.signer_check.proofs.Prelude.{counted_by_signatures, reaches, until_reached, used_for, left_of}
+use Rattle.signer_check.proofs.Indices.{all_left}
+use Rattle.signer_check.proofs.Turns.{holds_unmatched, holds_end, holds_on, holds_all}
 use Rattle.signer_check.proofs.reaching.reach_by_signatures.Goals as goal
 use Rattle.signer_check.proofs.reaching.reach_by_signatures.Goals.{in-Some+in-Some-missing_with, in_default}
 
@@ -28,19 +25,19 @@ loop-signature-preserved c =
     let reached = reaches c.args.needed 0 all in
     let used = used_for (until_reached c.args.needed 0 all) c.args.signatures.now in
     let now = c.loop-signature.signature-items in
-    let place = c.loop-signature.signature-index in
+    let index = c.loop-signature.signature-index in
     let left = left_of c.loop-signature.counted c.args.signers.now in
     let after = left_of c.count_signer.new.counted c.args.signers.now in
     elim c.match-count_signer.branch [
       | in-Some+in-Some-missing_with w ↦
           rw (w.missing-is, w.signature-items-is)
-          (stands_on reached used c.loop-signature.missing w.in-Some-missing_with.rest now place left after
-          (get_or now place past) past w.in-Some.signer.now
+          (holds_on reached used c.loop-signature.missing w.in-Some-missing_with.rest now index left after
+          (get_or now index past) past w.in-Some.signer.now
           (omega arith) refl w.in-Some.ensures.signer w.in-Some.ensures.others w.in-Some-missing_with.ensures
           c.loop-signature.invariant)
       | in_default w ↦
-          rw (w.missing-is, w.signature-items-is, set-get_or now place past)
-          (stands_unmatched reached used c.loop-signature.missing now place left after (get_or now place past) past
+          rw (w.missing-is, w.signature-items-is, set-get_or now index past)
+          (holds_unmatched reached used c.loop-signature.missing now index left after (get_or now index past) past
           (omega arith) refl w.in_default.ensures.signer w.in_default.ensures.others c.loop-signature.invariant)
     ]
 
@@ -49,11 +46,11 @@ returns-in-None c =
     let all = counted_by_signatures 0 c.args.signatures.now c.args.signers.now in
     let used = used_for (until_reached c.args.needed 0 all) c.args.signatures.now in
     let now = c.loop-signature.signature-items in
-    let place = c.loop-signature.signature-index in
+    let index = c.loop-signature.signature-index in
     let end =
-    stands_end (reaches c.args.needed 0 all) used c.loop-signature.missing now place
+    holds_end (reaches c.args.needed 0 all) used c.loop-signature.missing now index
     (left_of c.loop-signature.counted c.args.signers.now) (left_of c.count_signer.new.counted c.args.signers.now)
-    (get_or now place past) past c.in-Some.signer.now
+    (get_or now index past) past c.in-Some.signer.now
     (omega arith) refl c.in-Some.ensures.signer c.in-Some.ensures.others c.in-None.ensures c.loop-signature.invariant in
     record { reached = end.0; used = end.1 }
 
@@ -62,7 +59,7 @@ returns c =
     let all = counted_by_signatures 0 c.args.signatures.now c.args.signers.now in
     let used = used_for (until_reached c.args.needed 0 all) c.args.signatures.now in
     let end =
-    stands_all (reaches c.args.needed 0 all) used c.loop-signature.missing c.loop-signature.signature-items
+    holds_all (reaches c.args.needed 0 all) used c.loop-signature.missing c.loop-signature.signature-items
     c.loop-signature.signature-index (left_of c.loop-signature.counted c.args.signers.now)
     (omega arith) c.loop-signature.invariant in
     record { reached = end.0; used = end.1 }

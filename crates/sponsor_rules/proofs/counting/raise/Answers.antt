@@ -1,7 +1,5 @@
-use Rattle.std.proofs.Common.{rules, ◌≡◌, sym, subst}
-use Rattle.sponsor_rules.specs.Counting.{with_more}
-use Rattle.sponsor_rules.specs.Keeping.{KeepsMeans, KeepsOtherCounts}
-use Rattle.sponsor_rules.proofs.Keeping.{with_count_keeps, with_count_means}
+use Rattle.sponsor_rules.proofs.Prelude.{rules, ◌≡◌, sym, subst, with_more, KeepsCore, KeepsOtherCounts}
+use Rattle.sponsor_rules.proofs.Keeping.{with_count_keeps, with_count_core}
 use Rattle.sponsor_rules.proofs.counting.raise.Goals as goal
 
 pub returns-clause-kept : goal.returns-clause-kept
@@ -10,7 +8,7 @@ returns-clause-kept c =
     subst (KeepsOtherCounts c.args.count c.args.account.now) (sym changed)
     (λ other. with_count_keeps c.args.count other _ c.args.account.now)
 
-pub returns-clause-means : goal.returns-clause-means
-returns-clause-means c =
+pub returns-clause-core : goal.returns-clause-core
+returns-clause-core c =
     let changed : c.set_count.new.account ≡ with_more c.args.count c.args.by c.args.account.now = search rules in
-    subst (KeepsMeans c.args.account.now) (sym changed) (with_count_means c.args.count _ c.args.account.now)
+    subst (KeepsCore c.args.account.now) (sym changed) (with_count_core c.args.count _ c.args.account.now)

@@ -1,5 +1,4 @@
-use Rattle.std.proofs.Common.{rules, ◌≡◌, ◌∙◌, sym, ap, Some}
-use Rattle.std.specs.FinMap.{get}
+use Rattle.sponsor_rules.proofs.Prelude.{rules, ◌≡◌, ◌∙◌, sym, ap, Some, get}
 use Rattle.sponsor_rules.specs.Charge.{owner_in}
 use Rattle.sponsor_rules.proofs.moving.move_entry.Goals as goal
 

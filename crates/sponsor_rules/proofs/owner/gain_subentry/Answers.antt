@@ -1,5 +1,4 @@
-use Rattle.std.proofs.Common.{arith}
-use Rattle.sponsor_rules.specs.declared.count.Count.TheVariants.{Sponsored}
+use Rattle.sponsor_rules.proofs.Prelude.{arith, Sponsored}
 use Rattle.sponsor_rules.proofs.owner.gain_subentry.Goals as goal
 
 pub pay_more-requires : goal.pay_more-requires

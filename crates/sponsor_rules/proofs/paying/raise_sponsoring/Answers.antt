@@ -1,9 +1,5 @@
-use Rattle.std.proofs.Common.{rules, ◌∙◌, sym, ap, Some, None}
-use Rattle.std.proofs.lemmas.Result.{on_ok_weaker}
-use Rattle.reserve_rules.specs.entry_map.Undo.{with_current}
-use Rattle.sponsor_rules.specs.Keeping.{IsLoaded}
-use Rattle.sponsor_rules.specs.declared.count.Count.TheVariants.{Sponsoring}
-use Rattle.sponsor_rules.specs.Counting.{with_more}
+use Rattle.sponsor_rules.proofs.Prelude.{rules, ◌∙◌, sym, ap, Some, None, on_ok_weaker, with_current, IsLoaded}
+use Rattle.sponsor_rules.proofs.Prelude.{Sponsoring, with_more}
 use Rattle.sponsor_rules.proofs.AccountMaps.{stored_as, with_account_none}
 use Rattle.sponsor_rules.proofs.paying.raise_sponsoring.Goals as goal
 

@@ -1,9 +1,6 @@
-use Rattle.std.proofs.Common.{rules, ◌∙◌, sym, ap, Some, None}
-use Rattle.std.proofs.lemmas.Result.{on_ok_weaker}
-use Rattle.reserve_rules.specs.entry_map.Undo.{with_current}
-use Rattle.sponsor_rules.specs.Keeping.{IsLoaded}
+use Rattle.sponsor_rules.proofs.Prelude.{rules, ◌∙◌, sym, ap, Some, None, on_ok_weaker, with_current, IsLoaded}
 use Rattle.sponsor_rules.specs.Signers as signers
-use Rattle.sponsor_rules.specs.SignerPlace as places
+use Rattle.sponsor_rules.specs.SignerIndex as indices
 use Rattle.sponsor_rules.proofs.AccountMaps.{stored_as, with_account_none}
 use Rattle.sponsor_rules.proofs.signers.put_signer.Goals as goal
 
@@ -16,7 +13,7 @@ returns-clause-added g c =
     (stored_as c.args.entries.now.current c.args.account.now
     (signers.with_counted_signer c.args.signer c.args.sponsor) c.in-Some.slot c.insert_signer.new.account
     loaded (c.in_ok-insert_signer.ensures.inserted
-    ∙ ap (places.with_signer c.args.signer c.args.sponsor) c.in_ok-gain_subentry.ensures.gained)))
+    ∙ ap (indices.with_signer c.args.signer c.args.sponsor) c.in_ok-gain_subentry.ensures.gained)))
     c.store_changed.ensures.stored
 
 pub returns-in_default-clause-added : goal.returns-in_default-clause-added

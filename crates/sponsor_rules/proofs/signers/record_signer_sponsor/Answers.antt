@@ -1,9 +1,6 @@
-use Rattle.std.proofs.Common.{rules, ◌∙◌, sym, ap, Some, None}
-use Rattle.std.proofs.lemmas.Result.{on_ok_weaker}
-use Rattle.reserve_rules.specs.entry_map.Undo.{with_current}
-use Rattle.sponsor_rules.specs.Keeping.{IsLoaded}
+use Rattle.sponsor_rules.proofs.Prelude.{rules, ◌∙◌, sym, ap, Some, None, on_ok_weaker, with_current, IsLoaded}
 use Rattle.sponsor_rules.specs.Signers as signers
-use Rattle.sponsor_rules.specs.SignerPlace as places
+use Rattle.sponsor_rules.specs.SignerIndex as indices
 use Rattle.sponsor_rules.proofs.AccountMaps.{stored_as, with_account_none}
 use Rattle.sponsor_rules.proofs.signers.record_signer_sponsor.Goals as goal
 
@@ -14,9 +11,9 @@ returns-clause-recorded g c =
     (λ is. is
     ∙ ap (with_current c.args.entries.now)
     (stored_as c.args.entries.now.current c.args.account.now
-    (signers.with_moved_signer c.args.place c.args.old.now c.args.new.now) c.in-Some.slot
+    (signers.with_moved_signer c.args.index c.args.old.now c.args.new.now) c.in-Some.slot
     c.set_signer_sponsor.new.account loaded (c.set_signer_sponsor.ensures.set
-    ∙ ap (places.with_signer_sponsor c.args.place c.args.new.now)
+    ∙ ap (indices.with_signer_sponsor c.args.index c.args.new.now)
     c.in_ok-change_payer.ensures.changed)))
     c.store_changed.ensures.stored
 
@@ -24,4 +21,4 @@ pub returns-in_default-clause-recorded : goal.returns-in_default-clause-recorded
 returns-in_default-clause-recorded g c =
     let loaded : IsLoaded c.args.entries.now.current c.args.account.now None = search rules in
     ap (with_current c.args.entries.now) (sym (with_account_none c.args.entries.now.current c.args.account.now
-    (signers.with_moved_signer c.args.place c.args.old.now c.args.new.now) loaded))
+    (signers.with_moved_signer c.args.index c.args.old.now c.args.new.now) loaded))

@@ -1,9 +1,6 @@
-use Rattle.std.proofs.Common.{rules, ◌∙◌, sym, ap, Some, None}
-use Rattle.std.proofs.lemmas.Result.{on_ok_weaker}
-use Rattle.reserve_rules.specs.entry_map.Undo.{with_current}
-use Rattle.sponsor_rules.specs.Keeping.{IsLoaded}
+use Rattle.sponsor_rules.proofs.Prelude.{rules, ◌∙◌, sym, ap, Some, None, on_ok_weaker, with_current, IsLoaded}
 use Rattle.sponsor_rules.specs.Signers as signers
-use Rattle.sponsor_rules.specs.SignerPlace as places
+use Rattle.sponsor_rules.specs.SignerIndex as indices
 use Rattle.sponsor_rules.proofs.AccountMaps.{stored_as, with_account_none}
 use Rattle.sponsor_rules.proofs.signers.take_signer.Goals as goal
 
@@ -16,7 +13,7 @@ returns-clause-taken g c =
     (stored_as c.args.entries.now.current c.args.account.now
     (signers.without_counted_signer c.args.found) c.in-Some.slot c.remove_signer_at.new.account loaded
     (c.remove_signer_at.ensures.removed
-    ∙ ap (places.without_signer c.args.found.place) c.in_ok-lose_subentry.ensures.lost)))
+    ∙ ap (indices.without_signer c.args.found.index) c.in_ok-lose_subentry.ensures.lost)))
     c.store_changed.ensures.stored
 
 pub returns-in_default-clause-taken : goal.returns-in_default-clause-taken

@@ -1,6 +1,4 @@
-use Rattle.std.proofs.Common.{sym, subst}
-use Rattle.std.proofs.lemmas.Result.{on_ok_weaker}
-use Rattle.sponsor_rules.specs.Keeping.{RaisesNone, LeavesOtherMeans}
+use Rattle.sponsor_rules.proofs.Prelude.{sym, subst, on_ok_weaker, RaisesNone, LeavesOtherCores}
 use Rattle.sponsor_rules.proofs.AccountMaps.{erased_low, erased_balances}
 use Rattle.sponsor_rules.proofs.stored.erase_entry.Goals as goal
 
@@ -10,8 +8,8 @@ returns-clause-low g c = on_ok_weaker c.erase.result
     (erased_low c.args.entries.now.current c.args.key.now))
     c.erase.ensures
 
-pub returns-clause-means : goal.returns-clause-means
-returns-clause-means g c = on_ok_weaker c.erase.result
-    (λ is. subst (λ u. LeavesOtherMeans c.args.key.now c.args.entries.now.current u.current) (sym is)
+pub returns-clause-core : goal.returns-clause-core
+returns-clause-core g c = on_ok_weaker c.erase.result
+    (λ is. subst (λ u. LeavesOtherCores c.args.key.now c.args.entries.now.current u.current) (sym is)
     (erased_balances c.args.entries.now.current c.args.key.now))
     c.erase.ensures

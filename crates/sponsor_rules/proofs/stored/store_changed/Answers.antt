@@ -1,12 +1,11 @@
-use Rattle.std.proofs.Common.{sym, subst, Some}
-use Rattle.std.proofs.lemmas.Result.{on_ok_weaker}
-use Rattle.sponsor_rules.specs.Keeping.{KeepsOthers, RaisesNone, ChangesAtMost, LeavesMeans}
+use Rattle.sponsor_rules.proofs.Prelude.{sym, subst, Some, on_ok_weaker, KeepsOthers, RaisesNone, ChangesAtMost}
+use Rattle.sponsor_rules.proofs.Prelude.{LeavesCore}
 use Rattle.sponsor_rules.proofs.AccountMaps.{stored_balances, stored_others, stored_kept, stored_low}
 use Rattle.sponsor_rules.proofs.stored.store_changed.Goals as goal
 
-pub returns-clause-means : goal.returns-clause-means
-returns-clause-means g c = on_ok_weaker c.store_account.result
-    (λ is. subst (λ u. LeavesMeans c.args.entries.now.current u.current) (sym is)
+pub returns-clause-core : goal.returns-clause-core
+returns-clause-core g c = on_ok_weaker c.store_account.result
+    (λ is. subst (λ u. LeavesCore c.args.entries.now.current u.current) (sym is)
     (stored_balances c.args.entries.now.current c.args.id.now c.args.slot c.requires.named c.requires.change))
     c.store_account.ensures
 

@@ -1,5 +1,4 @@
-use Rattle.std.proofs.Common.{arith}
-use Rattle.std.proofs.lemmas.Int.{ints, to_z-of_z}
+use Rattle.tally.proofs.Prelude.{arith, ints, to_z-of_z}
 use Rattle.tally.proofs.holdings.of_pool.Goals as goal
 
 pub returns-clause-value : goal.returns-clause-value

@@ -1,4 +1,4 @@
-use Rattle.std.proofs.Common.{◌≡◌, sym, ◌∙◌, rules, arith}
+use Rattle.trade_cross.proofs.Prelude.{◌≡◌, sym, ◌∙◌, rules, arith}
 use Rattle.trade_cross.proofs.Progressed.{ends, limited}
 use Rattle.trade_cross.proofs.conversion.advance.Goals as goal
 

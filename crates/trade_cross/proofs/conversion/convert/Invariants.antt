@@ -1,8 +1,4 @@
-use Rattle.std.proofs.Common.{◌≡◌}
-use Rattle.entry_map.specs.Undo.{with_current}
-use Rattle.trade_cross.specs.Crossable.{IsCrossable}
-use Rattle.trade_cross.specs.Crossing.{converted}
-use Rattle.trade_cross.specs.Progressing.{IsWithin, in_all}
+use Rattle.trade_cross.proofs.Prelude.{◌≡◌, with_current, IsCrossable, converted, IsWithin, in_all}
 use Rattle.trade_cross.proofs.conversion.convert.Given as goal
 
 abbrev pub invariant-loop-progress : goal.invariant-loop-progress

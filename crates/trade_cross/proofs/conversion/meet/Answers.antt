@@ -1,13 +1,10 @@
-use Rattle.std.proofs.Common.{sym, ap, subst, ◌∙◌}
-use Rattle.entry_map.specs.Undo.{Undo}
-use Rattle.trade_cross.specs.Crossable.{IsCrossable}
-use Rattle.trade_cross.specs.Progressing.{IsWithin}
-use Rattle.trade_cross.proofs.Progressed.{stands, fits, then_within, still_crossable, converted_then, going_on_then}
+use Rattle.trade_cross.proofs.Prelude.{sym, ap, subst, ◌∙◌, Undo, IsCrossable, IsWithin}
+use Rattle.trade_cross.proofs.Progressed.{exists, fits, then_within, still_crossable, converted_then, going_on_then}
 use Rattle.trade_cross.proofs.conversion.meet.Goals as goal
 
-pub cross_offer-requires-clause-stands : goal.cross_offer-requires-clause-stands
-cross_offer-requires-clause-stands g c =
-    stands c.args.ctx.now.base_reserve c.args.trade.now c.args.progress.now c.args.entries.now.current
+pub cross_offer-requires-clause-exists : goal.cross_offer-requires-clause-exists
+cross_offer-requires-clause-exists g c =
+    exists c.args.ctx.now.base_reserve c.args.trade.now c.args.progress.now c.args.entries.now.current
     c.requires.crossable
     c.requires.within c.requires.some c.args.offer.now c.requires.meets
 

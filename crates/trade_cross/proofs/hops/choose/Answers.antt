@@ -1,7 +1,4 @@
-use Rattle.std.proofs.Common.{◌≡◌, sym, subst, ◌∙◌, IfOk, OnOk}
-use Rattle.entry_map.specs.Undo.{Undo}
-use Rattle.trade_cross.specs.Crossing.{Crossing}
-use Rattle.trade_cross.specs.Progressing.{IsCrossing}
+use Rattle.trade_cross.proofs.Prelude.{◌≡◌, sym, subst, ◌∙◌, IfOk, OnOk, Undo, Crossing, IsCrossing}
 use Rattle.trade_cross.proofs.Chosen.{book_crossed, book_kept, pool_crossed, pool_left_so}
 use Rattle.trade_cross.proofs.hops.choose.Goals as goal
 

@@ -1,4 +1,4 @@
-use Rattle.std.proofs.Common.{rules}
+use Rattle.trade_cross.proofs.Prelude.{rules}
 use Rattle.trade_cross.proofs.plan.rest_that_stays.Goals as goal
 
 pub returns : goal.returns

@@ -1,7 +1,4 @@
-use Rattle.std.proofs.Common.{sym, ap, subst}
-use Rattle.entry_map.specs.Undo.{Undo}
-use Rattle.trade_cross.specs.Crossable.{IsCrossable}
-use Rattle.trade_cross.specs.HopCalls.{amounts_of}
+use Rattle.trade_cross.proofs.Prelude.{sym, ap, subst, Undo, IsCrossable, amounts_of}
 use Rattle.trade_cross.proofs.Hopped.{still_crossable}
 use Rattle.trade_cross.proofs.PoolSwaps.{swapping}
 use Rattle.trade_cross.proofs.pool_swap.serve.Goals as goal

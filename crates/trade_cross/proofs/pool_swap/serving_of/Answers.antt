@@ -1,8 +1,6 @@
-use Rattle.std.proofs.Common.{sym, ◌∙◌}
+use Rattle.trade_cross.proofs.Prelude.{sym, ◌∙◌, sheep_reserve, wheat_reserve, pool_of_pair}
 use Rattle.trade_cross.proofs.PoolsLegal.{pool_legal, pool_loaded}
-use Rattle.trade_cross.proofs.PoolSwaps.{none_told, some_told, no_pair, of_pair}
-use Rattle.trade_cross.specs.HopCalls.{sheep_reserve, wheat_reserve}
-use Rattle.trade_cross.specs.Hop.{pool_of_pair}
+use Rattle.trade_cross.proofs.PoolSwaps.{none_reported, some_shown, no_pair, of_pair}
 use Rattle.trade_cross.proofs.pool_swap.serving_of.Goals as goal
 
 pub returns-then-not-has_pair : goal.returns-then-not-has_pair
@@ -30,18 +28,18 @@ returns-in-None g c =
     of_pair c.args.ctx.now c.args.trade.now c.args.entries.now.current c.requires.enabled c.args.slot.pool
     (pool_loaded c.args.entries.now.current (pool_of_pair c.args.trade.now) c.args.slot c.requires.loaded)
     (sym c.has_pair.ensures ∙ c.if-not-has_pair.false)
-    ∙ none_told (sheep_reserve c.args.trade.now c.args.slot.pool) (wheat_reserve c.args.trade.now c.args.slot.pool) _
+    ∙ none_reported (sheep_reserve c.args.trade.now c.args.slot.pool) (wheat_reserve c.args.trade.now c.args.slot.pool) _
     c.in-None.ensures
 
 pub returns-in-Some : goal.returns-in-Some
 returns-in-Some g c =
-    let told = some_told (sheep_reserve c.args.trade.now c.args.slot.pool)
+    let shown = some_shown (sheep_reserve c.args.trade.now c.args.slot.pool)
     (wheat_reserve c.args.trade.now c.args.slot.pool) c.in-Some.swap _ c.in-Some.ensures in
     record {
       slot = c.requires.loaded;
       keyed = c.requires.keyed;
       swap = of_pair c.args.ctx.now c.args.trade.now c.args.entries.now.current c.requires.enabled c.args.slot.pool
           (pool_loaded c.args.entries.now.current (pool_of_pair c.args.trade.now) c.args.slot c.requires.loaded)
-          (sym c.has_pair.ensures ∙ c.if-not-has_pair.false) ∙ told.0;
-      fits = told.1;
+          (sym c.has_pair.ensures ∙ c.if-not-has_pair.false) ∙ shown.0;
+      fits = shown.1;
     }

@@ -1,10 +1,5 @@
-use Rattle.std.proofs.Common.{sym, ap, ◌∙◌}
-use Rattle.entry_map.specs.EntryMap.{put}
-use Rattle.entry_map.specs.Undo.{with_current}
-use Rattle.entry_slots.specs.Pools.{entry_of_pool}
-use Rattle.ledger_types.specs.declared.liquidity_pool.LiquidityPoolEntry.{LiquidityPoolEntry}
-use Rattle.trade_cross.specs.Hop.{pool_of_pair, with_swap}
-use Rattle.trade_cross.specs.HopCalls.{amounts_of}
+use Rattle.trade_cross.proofs.Prelude.{sym, ap, ◌∙◌, put, with_current, entry_of_pool, LiquidityPoolEntry, pool_of_pair}
+use Rattle.trade_cross.proofs.Prelude.{with_swap, amounts_of}
 use Rattle.trade_cross.proofs.PoolsLegal.{pool_stored}
 use Rattle.trade_cross.proofs.pool_swap.store_swapped.Goals as goal
 

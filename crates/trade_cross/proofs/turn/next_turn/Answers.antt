@@ -1,4 +1,4 @@
-use Rattle.trade_cross.proofs.BooksSound.{offers_sound}
+use Rattle.trade_cross.proofs.OffersSound.{offers_sound}
 use Rattle.trade_cross.proofs.turn.next_turn.Goals as goal
 
 pub best_offer-requires : goal.best_offer-requires

@@ -1,12 +1,7 @@
-use Rattle.std.proofs.Common.{◌≡◌, List, IfOk, OnOk, map, ap, subst, ◌∙◌}
-use Rattle.ledger_types.specs.declared.ids.Hash.{Hash}
-use Rattle.entry_map.specs.Undo.{with_current}
-use Rattle.signer_check.specs.declared.held.HeldSignature.{HeldSignature}
-use Rattle.signer_check.specs.Checks.{Checks}
-use Rattle.signer_check.specs.Weight.{held}
-use Rattle.value_hashes.specs.Hashes.{transaction_hash_of}
+use Rattle.tx_apply.proofs.Prelude.{◌≡◌, List, IfOk, OnOk, map, ap, subst, ◌∙◌, Hash, with_current, HeldSignature}
+use Rattle.tx_apply.proofs.Prelude.{Checks, held, transaction_hash_of}
 use Rattle.tx_apply.specs.FeeBump.{BumpSigned, signed_by, bump_applied}
-use Rattle.tx_apply.proofs.Spelled.{few_of_v1, inner_within}
+use Rattle.tx_apply.proofs.Encoded.{few_of_v1, inner_within}
 use Rattle.tx_apply.proofs.envelope.apply_fee_bump_envelope.Goals as goal
 
 pub transaction_hash-requires : goal.transaction_hash-requires

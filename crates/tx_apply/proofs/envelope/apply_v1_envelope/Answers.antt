@@ -1,10 +1,6 @@
-use Rattle.std.proofs.Common.{◌≡◌, true, List, IfOk, OnOk, map, ap, subst, ◌∙◌}
-use Rattle.entry_map.specs.Undo.{with_current}
-use Rattle.signer_check.specs.declared.held.HeldSignature.{HeldSignature}
-use Rattle.signer_check.specs.Checks.{Checks}
-use Rattle.signer_check.specs.Weight.{held}
-use Rattle.tx_apply.specs.Transaction.{transaction_applied}
-use Rattle.tx_apply.proofs.Spelled.{few_of_v1}
+use Rattle.tx_apply.proofs.Prelude.{◌≡◌, true, List, IfOk, OnOk, map, ap, subst, ◌∙◌, with_current, HeldSignature}
+use Rattle.tx_apply.proofs.Prelude.{Checks, held, transaction_applied}
+use Rattle.tx_apply.proofs.Encoded.{few_of_v1}
 use Rattle.tx_apply.proofs.envelope.apply_v1_envelope.Goals as goal
 
 pub apply_transaction-requires-clause-few : goal.apply_transaction-requires-clause-few

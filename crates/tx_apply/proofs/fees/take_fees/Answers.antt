@@ -1,6 +1,4 @@
-use Rattle.std.proofs.Common.{◌<◌, ◌≤ℤ◌, length, get_or, ◌∙◌, rules, FitsSigned, w64}
-use Rattle.std.proofs.lemmas.Int.{to_z-of_z}
-use Rattle.reserve_rules.specs.Reserve.{greatest_i64}
+use Rattle.tx_apply.proofs.Prelude.{◌<◌, ◌≤ℤ◌, length, get_or, ◌∙◌, rules, FitsSigned, w64, to_z-of_z, greatest_i64}
 use Rattle.tx_apply.proofs.TakenFees.{step_to, fits_pool, finished_by, summed}
 use Rattle.tx_apply.proofs.fees.take_fees.Goals as goal
 

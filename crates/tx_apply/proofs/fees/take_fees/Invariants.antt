@@ -1,4 +1,4 @@
-use Rattle.std.proofs.Common.{◌≤◌, ◌-◌, length, unsigned_abs}
+use Rattle.tx_apply.proofs.Prelude.{◌≤◌, ◌-◌, length, unsigned_abs}
 use Rattle.tx_apply.proofs.TakenFees.{SoFar}
 use Rattle.tx_apply.proofs.fees.take_fees.Given as goal
 

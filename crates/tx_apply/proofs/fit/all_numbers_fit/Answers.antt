@@ -1,22 +1,18 @@
-use Rattle.std.proofs.Common.{rules, sym, subst, All}
-use Rattle.op_types.specs.declared.transaction.TransactionEnvelope.{TransactionEnvelope}
-use Rattle.xdr_tx.specs.Operations.{operation}
-use Rattle.xdr_tx.specs.Transactions.{transaction_envelope}
-use Rattle.tx_apply.specs.Operations.{operations_of}
-use Rattle.tx_apply.specs.Laws.{AreFit}
+use Rattle.tx_apply.proofs.Prelude.{rules, sym, subst, All, TransactionEnvelope, operation, transaction_envelope}
+use Rattle.tx_apply.proofs.Prelude.{operations_of, AreFit}
 use Rattle.tx_apply.proofs.Fitting.{holds_more, holds_all}
 use Rattle.tx_apply.proofs.Within.{operations_within}
 use Rattle.tx_apply.proofs.fit.all_numbers_fit.Goals as goal
 
 pub loop-envelope-preserved : goal.loop-envelope-preserved
 loop-envelope-preserved c =
-    holds_more (λ (whole : TransactionEnvelope). AreFit (operations_of whole)) c.args.envelopes.now
+    holds_more (λ (entire : TransactionEnvelope). AreFit (operations_of entire)) c.args.envelopes.now
     c.loop-envelope.envelope-index c.envelope-item.result
     c.loop-envelope-test.true c.envelope-item.is c.loop-envelope.invariant (search rules)
 
 pub returns : goal.returns
 returns c =
-    holds_all (λ (whole : TransactionEnvelope). AreFit (operations_of whole)) c.args.envelopes.now
+    holds_all (λ (entire : TransactionEnvelope). AreFit (operations_of entire)) c.args.envelopes.now
     c.loop-envelope.envelope-index (search rules)
     c.loop-envelope.invariant
 

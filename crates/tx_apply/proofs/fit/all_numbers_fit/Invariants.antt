@@ -1,5 +1,4 @@
-use Rattle.std.proofs.Common.{take}
-use Rattle.tx_apply.specs.Laws.{AreAllFit}
+use Rattle.tx_apply.proofs.Prelude.{take, AreAllFit}
 use Rattle.tx_apply.proofs.fit.all_numbers_fit.Given as goal
 
 -- those so far fit

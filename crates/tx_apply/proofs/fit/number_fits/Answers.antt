@@ -1,5 +1,4 @@
-use Rattle.std.proofs.Common.{subst}
-use Rattle.xdr_tx.specs.Operations.{operation_body}
+use Rattle.tx_apply.proofs.Prelude.{subst, operation_body}
 use Rattle.tx_apply.proofs.Within.{balance_claimants_few}
 use Rattle.tx_apply.proofs.fit.number_fits.Goals as goal
 

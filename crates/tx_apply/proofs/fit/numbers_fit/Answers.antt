@@ -1,7 +1,4 @@
-use Rattle.std.proofs.Common.{rules, sym, subst}
-use Rattle.op_types.specs.declared.operation.Operation.{Operation}
-use Rattle.xdr_tx.specs.Operations.{operation as format}
-use Rattle.op_laws.specs.Laws.{IsFit}
+use Rattle.tx_apply.proofs.Prelude.{rules, sym, subst, Operation, format, IsFit}
 use Rattle.tx_apply.proofs.Fitting.{holds_more, holds_all}
 use Rattle.tx_apply.proofs.Within.{body_within}
 use Rattle.tx_apply.proofs.fit.numbers_fit.Goals as goal

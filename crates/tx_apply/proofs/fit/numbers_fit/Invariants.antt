@@ -1,5 +1,4 @@
-use Rattle.std.proofs.Common.{take}
-use Rattle.tx_apply.specs.Laws.{AreFit}
+use Rattle.tx_apply.proofs.Prelude.{take, AreFit}
 use Rattle.tx_apply.proofs.fit.numbers_fit.Given as goal
 
 -- those so far fit

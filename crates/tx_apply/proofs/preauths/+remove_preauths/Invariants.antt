@@ -1,4 +1,4 @@
-use Rattle.std.proofs.Common.{length}
+use Rattle.tx_apply.proofs.Prelude.{length}
 use Rattle.tx_apply.proofs.preauths.+remove_preauths.Given as goal
 
 abbrev pub decreases-remove_preauths : goal.decreases-remove_preauths

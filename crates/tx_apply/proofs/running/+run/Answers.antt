@@ -1,14 +1,6 @@
-use Rattle.std.proofs.Common.{◌≤◌, ◌-◌, length, drop, sym, ap, subst, rules}
-use Rattle.std.proofs.lemmas.List.Elements.{All-take, All-drop}
-use Rattle.entry_map.specs.EntryMap.{EntryMap}
-use Rattle.entry_map.specs.Undo.{Undo}
-use Rattle.sponsor_rules.specs.declared.context.Ctx.{Ctx}
-use Rattle.op_types.specs.declared.operation.Operation.{Operation}
-use Rattle.op_laws.specs.Laws.{IsFit}
-use Rattle.op_laws.specs.Underway.{IsUnderway}
-use Rattle.tx_apply.specs.Laws.{CanDraw}
-use Rattle.tx_apply.specs.Running.{done_at}
-use Rattle.tx_apply.proofs.Drawing.{ids_behind}
+use Rattle.tx_apply.proofs.Prelude.{◌≤◌, ◌-◌, length, drop, sym, ap, subst, rules, All-take, All-drop, EntryMap, Undo}
+use Rattle.tx_apply.proofs.Prelude.{Ctx, Operation, IsFit, IsUnderway, CanDraw, done_at}
+use Rattle.tx_apply.proofs.Drawing.{ids_after}
 use Rattle.tx_apply.proofs.Lawful.{lawful_at}
 use Rattle.tx_apply.proofs.running.+run.Goals as goal
 
@@ -16,9 +8,9 @@ pub run-requires : goal.run-requires
 run-requires g t c =
     let ctx = c.args.ctx.now in
     let m = c.args.entries.now.current in
-    let first = done_at ctx c.args.source.now c.args.place c.first-item.result m in
+    let first = done_at ctx c.args.source.now c.args.index c.first-item.result m in
     let fits : IsFit c.first-item.result.body = search rules in
-    let lawful = lawful_at c.requires.laws.operations ctx c.args.source.now c.args.place c.first-item.result m fits
+    let lawful = lawful_at c.requires.laws.operations ctx c.args.source.now c.args.index c.first-item.result m fits
     c.requires.underway in
     let after = lawful.legal in
     let underway : IsUnderway c.apply_at.new.ctx c.apply_at.new.entries.current =
@@ -32,5 +24,5 @@ run-requires g t c =
     let ids : CanDraw (length c.args.operations.now - 1) c.apply_at.new.ctx.id_pool =
     subst (λ (x : Ctx). CanDraw (length c.args.operations.now - 1) x.id_pool)
     (sym c.in_ok-answer-in-len1-up.ensures.ctx_is)
-    (ids_behind (length c.args.operations.now) ctx.id_pool first.ctx.id_pool some lawful.ids c.requires.ids) in
+    (ids_after (length c.args.operations.now) ctx.id_pool first.ctx.id_pool some lawful.ids c.requires.ids) in
     search (rules, underway, rest, ids)

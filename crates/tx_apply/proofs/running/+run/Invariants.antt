@@ -1,4 +1,4 @@
-use Rattle.std.proofs.Common.{length}
+use Rattle.tx_apply.proofs.Prelude.{length}
 use Rattle.tx_apply.proofs.running.+run.Given as goal
 
 abbrev pub decreases-run : goal.decreases-run

@@ -1,7 +1,5 @@
-use Rattle.std.proofs.Common.{rules}
-use Rattle.entry_slots.specs.Accounts.{HasAccount}
-use Rattle.tx_apply.specs.Running.{placed}
-use Rattle.tx_apply.proofs.Lawful.{underway_placed}
+use Rattle.tx_apply.proofs.Prelude.{rules, HasAccount, inserted}
+use Rattle.tx_apply.proofs.Lawful.{underway_at_index}
 use Rattle.tx_apply.proofs.running.apply_at.Goals as goal
 
 pub apply_operation-requires-clause-ready : goal.apply_operation-requires-clause-ready
@@ -22,7 +20,7 @@ apply_operation-requires-clause-amounts g c = c.requires.laws.amounts _ _ c.requ
 pub apply_operation-requires-clause-manageable : goal.apply_operation-requires-clause-manageable
 apply_operation-requires-clause-manageable g c =
     let own = c.source_of-own.result in
-    let stands : HasAccount c.args.entries.now.current own = search rules in
-    c.requires.laws.manageable (placed c.args.ctx.now c.args.place own) c.args.entries.now.current
-    (underway_placed c.args.ctx.now c.args.place own c.args.entries.now.current c.requires.underway) stands
+    let exists : HasAccount c.args.entries.now.current own = search rules in
+    c.requires.laws.manageable (inserted c.args.ctx.now c.args.index own) c.args.entries.now.current
+    (underway_at_index c.args.ctx.now c.args.index own c.args.entries.now.current c.requires.underway) exists
     (search (rules, c.requires.ids))

@@ -1,6 +1,4 @@
-use Rattle.std.proofs.Common.{◌≤◌, ◌-◌, ◌*◌, length}
-use Rattle.tx_apply.specs.Laws.{CanDraw}
-use Rattle.tx_apply.specs.Set.{setting_of}
+use Rattle.tx_apply.proofs.Prelude.{◌≤◌, ◌-◌, ◌*◌, length, CanDraw, setting_of}
 use Rattle.tx_apply.proofs.Applying.{SoFar}
 use Rattle.tx_apply.proofs.set.apply_all.Given as goal
 

@@ -1,9 +1,5 @@
-use Rattle.std.proofs.Common.{◌≡◌, List, length, sym, ap, subst, rules}
-use Rattle.op_types.specs.declared.transaction.TransactionEnvelope.{TransactionEnvelope}
-use Rattle.entry_map.specs.Undo.{Undo}
-use Rattle.fee_rules.proofs.Spelled.{envelopes_within}
-use Rattle.op_laws.specs.Underway.{IsSettled}
-use Rattle.tx_apply.specs.Places.{envelopes_at}
+use Rattle.tx_apply.proofs.Prelude.{◌≡◌, List, length, sym, ap, subst, rules, TransactionEnvelope, Undo}
+use Rattle.tx_apply.proofs.Prelude.{envelopes_within, IsSettled, envelopes_at}
 use Rattle.tx_apply.proofs.TakenFees.{all_taken, counted}
 use Rattle.tx_apply.proofs.Placed.{as_many}
 use Rattle.tx_apply.proofs.set.apply_in_order.Goals as goal
@@ -22,5 +18,5 @@ pub apply_all-requires-clause-fees : goal.apply_all-requires-clause-fees
 apply_all-requires-clause-fees g c =
     let many = counted _ _ _ _ _ _ c.in_ok-fee_pool.ensures.fees c.new-fees.ensures
     (subst (λ (es : List TransactionEnvelope). length (envelopes_at es c.args.order.now) ≡ length c.args.order.now)
-    (sym c.as_slice-envelopes.ensures) (as_many c.args.set.now.txs c.args.order.now c.requires.places)) in
+    (sym c.as_slice-envelopes.ensures) (as_many c.args.set.now.txs c.args.order.now c.requires.indices)) in
     search (rules, many)

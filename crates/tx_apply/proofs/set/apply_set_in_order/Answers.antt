@@ -1,11 +1,8 @@
-use Rattle.std.proofs.Common.{ℕ, ◌*◌, List, All, length, sym, subst, rules}
-use Rattle.xdr_tx.specs.Transactions.{transaction_envelope}
-use Rattle.fee_rules.proofs.Spelled.{envelopes_within}
-use Rattle.tx_apply.specs.Laws.{CanDraw}
-use Rattle.tx_apply.specs.Set.{setting_of}
+use Rattle.tx_apply.proofs.Prelude.{ℕ, ◌*◌, List, All, length, sym, subst, rules, transaction_envelope}
+use Rattle.tx_apply.proofs.Prelude.{envelopes_within, CanDraw, setting_of}
 use Rattle.tx_apply.proofs.Drawing.{ids_of_set}
 use Rattle.tx_apply.proofs.Conserving.{set_conserved, set_lawful}
-use Rattle.fee_rules.proofs.Ordered.{places_stand}
+use Rattle.fee_rules.proofs.Ordered.{indices_exist}
 use Rattle.tx_apply.proofs.set.apply_set_in_order.Goals as goal
 
 pub all_numbers_fit-requires : goal.all_numbers_fit-requires
@@ -15,15 +12,15 @@ all_numbers_fit-requires g c =
 
 pub missing_among-requires : goal.missing_among-requires
 missing_among-requires g c =
-    let stand = places_stand c.args.set.now in
+    let exist = indices_exist c.args.set.now in
     let order = c.requires.order in
-    search (rules, stand, order)
+    search (rules, exist, order)
 
-pub apply_in_order-requires-clause-places : goal.apply_in_order-requires-clause-places
-apply_in_order-requires-clause-places g c =
-    let stand = places_stand c.args.set.now in
+pub apply_in_order-requires-clause-indices : goal.apply_in_order-requires-clause-indices
+apply_in_order-requires-clause-indices g c =
+    let exist = indices_exist c.args.set.now in
     let order = c.requires.order in
-    search (rules, stand, order)
+    search (rules, exist, order)
 
 pub apply_in_order-requires-clause-ids : goal.apply_in_order-requires-clause-ids
 apply_in_order-requires-clause-ids g c =

@@ -1,5 +1,4 @@
-use Rattle.std.proofs.Common.{◌≡◌, ◌↔◌, IsTrue, Bool, true, false, List, refl, sym, All}
-use Rattle.std.specs.List.{list_all}
+use Rattle.tx_apply.proofs.Prelude.{◌≡◌, ◌↔◌, IsTrue, Bool, true, false, List, refl, sym, All, list_all}
 use Rattle.std.proofs.lemmas.List.Sums.{AllPass-from_list_all, list_all-from_AllPass}
 use Rattle.tx_apply.proofs.signing.all_used.Goals as goal
 

@@ -1,6 +1,4 @@
-use Rattle.std.proofs.Common.{sym, ap, subst}
-use Rattle.entry_map.specs.Undo.{Undo}
-use Rattle.op_laws.specs.Underway.{IsSettled}
+use Rattle.tx_apply.proofs.Prelude.{sym, ap, subst, Undo, IsSettled}
 use Rattle.tx_apply.proofs.Judging.{without_used, settled_judged}
 use Rattle.tx_apply.proofs.Lawful.{none_open}
 use Rattle.tx_apply.proofs.transaction.apply_transaction.Goals as goal

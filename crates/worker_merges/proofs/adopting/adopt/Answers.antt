@@ -1,4 +1,4 @@
-use Rattle.std.proofs.Common.{◌∙◌}
+use Rattle.worker_merges.proofs.Prelude.{◌∙◌}
 use Rattle.worker_merges.proofs.Handing.{one_more}
 use Rattle.worker_merges.proofs.adopting.adopt.Goals as goal
 

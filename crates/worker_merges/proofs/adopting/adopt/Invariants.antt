@@ -1,6 +1,4 @@
-use Rattle.std.proofs.Common.{◌≡◌}
-use Rattle.merge_board.specs.Parts.{IsCollectorIn, collector_parts, collected_by, empty_looks_of}
-use Rattle.worker_merges.specs.Adopting.{Adopts}
+use Rattle.worker_merges.proofs.Prelude.{◌≡◌, IsCollectorIn, collector_parts, collected_by, empty_looks_of, Adopts}
 use Rattle.worker_merges.proofs.adopting.adopt.Given as goal
 
 abbrev pub invariant-loop : goal.invariant-loop

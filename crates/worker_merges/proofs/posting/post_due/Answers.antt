@@ -1,9 +1,8 @@
-use Rattle.std.proofs.Common.{◌≡◌, ◌≤◌, ◌∙◌, sym, subst, arith, map}
-use Rattle.ledger_close.specs.bucket_levels.HandIn.{drawn}
-use Rattle.ledger_close.specs.States.{LedgerAt, levels_at}
-use Rattle.merge_board.specs.Parts.{posted_by, returned_to}
-use Rattle.worker_merges.proofs.Drawing.{none_left, one_more, rose_again}
+use Rattle.worker_merges.proofs.Prelude.{◌≡◌, ◌≤◌, ◌∙◌, sym, subst, arith, map, drawn, LedgerAt, levels_at, posted_by}
+use Rattle.worker_merges.proofs.Prelude.{returned_to}
+use Rattle.worker_merges.proofs.Drawing.{one_more, rose_again}
 use Rattle.worker_merges.proofs.posting.post_due.Goals as goal
+use Rattle.worker_merges.proofs.Drawing.{none_wait_drawn}
 
 pub loop-job-preserved : goal.loop-job-preserved
 loop-job-preserved g c =
@@ -26,10 +25,10 @@ pub returns-clause-drawn : goal.returns-clause-drawn
 returns-clause-drawn g c =
     let pending = c.loop-job.ledger.pending in
     subst (λ (l : LedgerAt). l.pending ≡ map drawn c.args.ledger.now.pending) (sym c.in_default.ensures.kept)
-    (sym (none_left pending c.in_default.ensures.none).0 ∙ c.loop-job.invariant.so_far.drawn_are)
+    (sym (none_wait_drawn pending c.in_default.ensures.none).0 ∙ c.loop-job.invariant.so_far.drawn_are)
 
 pub returns-clause-count : goal.returns-clause-count
 returns-clause-count g c =
-    let none = (none_left c.loop-job.ledger.pending c.in_default.ensures.none).1 in
+    let none = (none_wait_drawn c.loop-job.ledger.pending c.in_default.ensures.none).1 in
     let count = c.loop-job.invariant.so_far.count in
     omega (arith, none, count)

@@ -1,6 +1,4 @@
-use Rattle.std.proofs.Common.{◌≡◌}
-use Rattle.merge_board.specs.Parts.{IsBoardIn, board_parts, posted_by, returned_to, RoseBy}
-use Rattle.worker_merges.specs.Posting.{waiting_in}
+use Rattle.worker_merges.proofs.Prelude.{◌≡◌, IsBoardIn, board_parts, posted_by, returned_to, RoseBy, waiting_in}
 use Rattle.worker_merges.proofs.Drawing.{SoFar}
 use Rattle.worker_merges.proofs.posting.post_due.Given as goal
 

@@ -1,9 +1,6 @@
-use Rattle.std.proofs.Common.{refl}
+use Rattle.xdr_entries.proofs.Prelude.{refl, many_at, goes_on, fails_at, is_done, predicate_below}
 use Rattle.std.proofs.lemmas.Result.{err_from_is_err_and}
-use Rattle.xdr_core.specs.Combinators.{many_at}
 use Rattle.xdr_core.specs.ReadFault.{cause_of}
-use Rattle.xdr_core.proofs.Looping.{goes_on, fails_at, is_done}
-use Rattle.xdr_entries.specs.Predicates.{predicate_below}
 use Rattle.xdr_entries.proofs.predicate.+predicate.Goals as goal
 
 pub read_many-returns-in_err-read_below : goal.read_many-returns-in_err-read_below

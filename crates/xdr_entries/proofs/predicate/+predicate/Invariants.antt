@@ -1,10 +1,7 @@
-use Rattle.std.proofs.Common.{◌≡◌, ◌*◌, ◌+◌, ◌-◌}
-use Rattle.xdr_core.specs.Combinators.{many_at}
-use Rattle.xdr_core.proofs.Looping.{with_front}
-use Rattle.xdr_entries.specs.Predicates.{predicate_below}
+use Rattle.xdr_entries.proofs.Prelude.{◌≡◌, ◌*◌, ◌+◌, ◌-◌, many_at, with_prefix, predicate_below}
 use Rattle.xdr_entries.proofs.predicate.+predicate.Given as goal
 
--- a predicate has fewer levels below it, and its parts are read behind its discriminant
+-- a predicate has fewer levels below it, and its parts are read after its discriminant
 abbrev pub decreases-read_below : goal.decreases-read_below
 decreases-read_below l = 4 * l.levels
 
@@ -17,9 +14,9 @@ decreases-read_many l = 4 * l.levels + 1
 abbrev pub decreases-read_parts : goal.decreases-read_parts
 decreases-read_parts l = 4 * l.levels + 2
 
--- the parts read so far, and those that follow, are what is read from the front
+-- the parts read so far, and those that follow, are what is read from the start
 abbrev pub invariant-read_many-loop : goal.invariant-read_many-loop
-invariant-read_many-loop l = with_front l.parts (many_at (predicate_below l.levels) (l.len - l.counter) l.ahead)
+invariant-read_many-loop l = with_prefix l.parts (many_at (predicate_below l.levels) (l.len - l.counter) l.ahead)
     ≡ many_at (predicate_below l.levels) l.len l.fn.cursor
 
 abbrev pub decreases-read_level : goal.decreases-read_level

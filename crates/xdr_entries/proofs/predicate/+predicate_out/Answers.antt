@@ -1,4 +1,4 @@
-use Rattle.std.proofs.Common.{rules}
+use Rattle.xdr_entries.proofs.Prelude.{rules}
 use Rattle.xdr_entries.proofs.Levels.{some_level, within_one_level_more}
 use Rattle.xdr_entries.proofs.predicate.+predicate_out.Goals as goal
 

@@ -1,6 +1,5 @@
-use Rattle.std.proofs.Common.{refl}
+use Rattle.xdr_header.proofs.Prelude.{refl, files}
 use Rattle.std.proofs.lemmas.Result.{err_from_is_err_and}
-use Rattle.xdr_header.specs.Image.{files}
 use Rattle.xdr_header.proofs.Files.{goes_on, ends_at, is_done}
 use Rattle.xdr_header.proofs.starting.read_files.Goals as goal
 

@@ -1,5 +1,4 @@
-use Rattle.std.proofs.Common.{◌∙◌, sym, ap}
-use Rattle.std.specs.Prelude.{fold}
+use Rattle.xdr_header.proofs.Prelude.{◌∙◌, sym, ap, fold}
 use Rattle.std.proofs.Math.ListN.{drop_of_length-le}
 use Rattle.xdr_header.proofs.Files.{file_onto, files-onto}
 use Rattle.xdr_header.proofs.starting.write_files.Goals as goal

@@ -1,5 +1,4 @@
-use Rattle.std.proofs.Common.{sym, ap, subst, ◌∙◌}
-use Rattle.bucket_core.specs.Reading.{contents_of, IsFile}
+use Rattle.bucket_core.proofs.Prelude.{sym, ap, subst, ◌∙◌, contents_of, IsFile}
 use Rattle.bucket_core.proofs.Files.{nothing_in_no_bytes, no_bytes_are_file}
 use Rattle.bucket_core.proofs.bucket.Bucket.empty.Goals as goal
 

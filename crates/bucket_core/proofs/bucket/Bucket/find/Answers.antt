@@ -1,9 +1,4 @@
-use Rattle.std.proofs.Common.{◌≡◌, ap, ◌∙◌}
-use Rattle.std.specs.Option.{option_map}
-use Rattle.std.proofs.lemmas.Result.{IfOk-weaker}
-use Rattle.bucket_core.specs.Bucket.{change_at}
-use Rattle.bucket_core.specs.File.{item_of}
-use Rattle.bucket_core.specs.Find.{item_under}
+use Rattle.bucket_core.proofs.Prelude.{◌≡◌, ap, ◌∙◌, option_map, IfOk-weaker, change_at, item_of, item_under}
 use Rattle.bucket_core.proofs.Walking.{item_of_change}
 use Rattle.bucket_core.proofs.bucket.Bucket.find.Goals as goal
 

@@ -1,8 +1,6 @@
-use Rattle.std.proofs.Common.{◌≡◌, IfSome, ap, subst, ◌∙◌}
+use Rattle.bucket_core.proofs.Prelude.{◌≡◌, ap, subst, ◌∙◌, Contents, file_of, file_hash}
+use Rattle.std.proofs.Common.{IfSome}
 use Rattle.ledger_types.specs.declared.ids.Hash.{Hash}
-use Rattle.bucket_core.specs.Bucket.{Contents}
-use Rattle.bucket_core.specs.File.{file_of}
-use Rattle.bucket_core.specs.Hash.{file_hash}
 use Rattle.bucket_core.proofs.bucket.Bucket.hash.Goals as goal
 
 pub returns-in-Some : goal.returns-in-Some

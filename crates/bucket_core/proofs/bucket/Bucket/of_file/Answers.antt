@@ -1,4 +1,4 @@
-use Rattle.std.proofs.Common.{◌∙◌}
+use Rattle.bucket_core.proofs.Prelude.{◌∙◌}
 use Rattle.bucket_core.proofs.Files.{contents_known, bytes_known}
 use Rattle.bucket_core.proofs.bucket.Bucket.of_file.Goals as goal
 

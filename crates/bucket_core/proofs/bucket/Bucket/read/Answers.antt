@@ -1,6 +1,4 @@
-use Rattle.std.proofs.Common.{◌≡◌, ℕ, ap, sym, subst, ◌∙◌}
-use Rattle.bucket_core.specs.File.{file_of}
-use Rattle.bucket_core.specs.Reading.{IsFile}
+use Rattle.bucket_core.proofs.Prelude.{◌≡◌, ℕ, ap, sym, subst, ◌∙◌, file_of, IsFile}
 use Rattle.bucket_core.proofs.Files.{no_fault_is_file}
 use Rattle.bucket_core.proofs.bucket.Bucket.read.Goals as goal
 

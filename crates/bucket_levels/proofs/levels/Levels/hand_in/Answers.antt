@@ -1,15 +1,10 @@
-use Rattle.std.proofs.Common.{◌≡◌, ℕ, ◌<◌, List, Some, map, set, get_or, sym, ap, subst, ◌∙◌, arith}
-use Rattle.bucket_merge.specs.Job.{Job}
-use Rattle.bucket_levels.specs.Spills.{level_count}
-use Rattle.bucket_levels.specs.Levels.{LevelsAt, pair_of}
-use Rattle.bucket_levels.specs.HandIn.{TakesIn}
-use Rattle.bucket_levels.specs.Pending.{IsPending}
-use Rattle.bucket_levels.specs.Held.{nothing_pending, pending_of, AreHeld}
-use Rattle.bucket_levels.specs.declared.pending.PendingMerge.{PendingMerge}
+use Rattle.bucket_levels.proofs.Prelude.{◌≡◌, ℕ, ◌<◌, List, Some, map, set, get_or, sym, ap, subst, ◌∙◌, arith, Job}
+use Rattle.bucket_levels.proofs.Prelude.{level_count, LevelsAt, pair_of, TakesIn, IsPending, nothing_pending}
+use Rattle.bucket_levels.proofs.Prelude.{pending_of, AreHeld, PendingMerge}
 use Rattle.bucket_levels.proofs.Drawing.{held_with_ready, takes_in}
 use Rattle.bucket_levels.proofs.levels.Levels.hand_in.Goals as goal
 
--- the outcome in the place of its level
+-- the outcome in the slot of its level
 abbrev with_ready : List PendingMerge → (out : Job) → ℕ → List PendingMerge
 with_ready merges out level = set merges level (record (get_or merges level nothing_pending) { ready = Some out })
 

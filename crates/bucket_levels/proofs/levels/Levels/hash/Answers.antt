@@ -1,7 +1,4 @@
-use Rattle.std.proofs.Common.{List, ap, map, ◌∙◌}
-use Rattle.bucket_levels.specs.declared.pair.LevelPair.{LevelPair}
-use Rattle.bucket_levels.specs.Levels.{LevelsAt, pair_of}
-use Rattle.bucket_levels.specs.Hash.{list_hash}
+use Rattle.bucket_levels.proofs.Prelude.{List, ap, map, ◌∙◌, LevelPair, LevelsAt, pair_of, list_hash}
 use Rattle.bucket_levels.proofs.levels.Levels.hash.Goals as goal
 
 pub returns : goal.returns

@@ -1,8 +1,5 @@
-use Rattle.std.proofs.Common.{List, IfSome, map, length, sym, subst, ◌∙◌, arith}
-use Rattle.bucket_levels.specs.Levels.{LevelsAt, pair_of}
-use Rattle.bucket_levels.specs.HandIn.{Draws, NoneWaits}
-use Rattle.bucket_levels.specs.Held.{pending_of, AreHeld, IsFirstWaiting, NoneWaitsAbove}
-use Rattle.bucket_levels.specs.declared.pending.PendingMerge.{PendingMerge}
+use Rattle.bucket_levels.proofs.Prelude.{List, IfSome, map, length, sym, subst, ◌∙◌, arith, LevelsAt, pair_of, Draws}
+use Rattle.bucket_levels.proofs.Prelude.{NoneWaits, pending_of, AreHeld, IsFirstWaiting, NoneWaitsAbove, PendingMerge}
 use Rattle.bucket_levels.proofs.Drawing.{held_without_job, none_waits, draws_taken}
 use Rattle.bucket_levels.proofs.levels.Levels.next_job.Goals as goal
 

@@ -1,6 +1,4 @@
-use Rattle.std.proofs.Common.{ap, arith, ◌∙◌}
-use Rattle.bucket_levels.specs.Levels.{LevelsAt}
-use Rattle.bucket_levels.specs.Pairs.{pair_at}
+use Rattle.bucket_levels.proofs.Prelude.{ap, arith, ◌∙◌, LevelsAt, pair_at}
 use Rattle.bucket_levels.proofs.Planning.{pair_is_at}
 use Rattle.bucket_levels.proofs.levels.Levels.pair.Goals as goal
 

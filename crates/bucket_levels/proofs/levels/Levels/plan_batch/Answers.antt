@@ -1,8 +1,4 @@
-use Rattle.std.proofs.Common.{◌+◌, List, map, sym, subst}
-use Rattle.bucket_levels.specs.Pairs.{Pair, empty_pair}
-use Rattle.bucket_levels.specs.Step.{IsPairAfter}
-use Rattle.bucket_levels.specs.Levels.{pair_of}
-use Rattle.bucket_levels.specs.Planned.{ArePlanned}
+use Rattle.bucket_levels.proofs.Prelude.{◌+◌, List, map, sym, subst, Pair, empty_pair, IsPairAfter, pair_of, ArePlanned}
 use Rattle.bucket_levels.proofs.Planning.{one_more_level, pushed, work_follows, work_stays_within}
 use Rattle.bucket_levels.proofs.levels.Levels.plan_batch.Goals as goal
 

@@ -1,7 +1,4 @@
-use Rattle.std.proofs.Common.{◌+◌, ◌≤◌, map}
-use Rattle.bucket_levels.specs.Levels.{pair_of}
-use Rattle.bucket_levels.specs.Work.{work_above}
-use Rattle.bucket_levels.specs.Planned.{ArePlanned}
+use Rattle.bucket_levels.proofs.Prelude.{◌+◌, ◌≤◌, map, pair_of, work_above, ArePlanned}
 use Rattle.bucket_levels.proofs.levels.Levels.plan_batch.Given as goal
 
 abbrev pub invariant-loop-level : goal.invariant-loop-level

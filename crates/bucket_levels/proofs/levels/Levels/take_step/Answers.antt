@@ -1,10 +1,5 @@
-use Rattle.std.proofs.Common.{◌≡◌, ℕ, ◌+◌, map, sym, ap, subst, ◌∙◌}
-use Rattle.std.proofs.lemmas.List.{length-map}
-use Rattle.bucket_levels.specs.Spills.{level_count}
-use Rattle.bucket_levels.specs.Levels.{LevelsAt, LevelsAfter, pair_of}
-use Rattle.bucket_levels.specs.Step.{IsStep}
-use Rattle.bucket_levels.specs.Pending.{AreRenewed}
-use Rattle.bucket_levels.specs.Held.{pending_of, AreHeld, AreBegun}
+use Rattle.bucket_levels.proofs.Prelude.{◌≡◌, ℕ, ◌+◌, map, sym, ap, subst, ◌∙◌, length-map, level_count, LevelsAt}
+use Rattle.bucket_levels.proofs.Prelude.{LevelsAfter, pair_of, IsStep, AreRenewed, pending_of, AreHeld, AreBegun}
 use Rattle.bucket_levels.proofs.Renewing.{held_after, known_after}
 use Rattle.bucket_levels.proofs.levels.Levels.take_step.Goals as goal
 

@@ -1,7 +1,5 @@
-use Rattle.std.proofs.Common.{sym, subst, ◌∙◌}
+use Rattle.bucket_merge.proofs.Prelude.{sym, subst, ◌∙◌, IsMerge, merge_of}
 use Rattle.bucket_merge.specs.Job.{Job}
-use Rattle.bucket_merge.specs.Merge.{IsMerge}
-use Rattle.bucket_merge.specs.Walk.{merge_of}
 use Rattle.bucket_merge.proofs.Merging.{pass_is_merge}
 use Rattle.bucket_merge.proofs.job.MergeJob.run.Goals as goal
 

@@ -1,4 +1,4 @@
-use Rattle.std.proofs.Common.{rules}
+use Rattle.entry_map.proofs.Prelude.{rules}
 use Rattle.entry_map.proofs.Saved.{kept_saved}
 use Rattle.entry_map.proofs.entries.Entries.commit.Goals as goal
 

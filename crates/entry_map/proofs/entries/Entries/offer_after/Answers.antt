@@ -1,6 +1,4 @@
-use Rattle.std.proofs.Common.{subst}
-use Rattle.entry_map.specs.Undo.{Undo}
-use Rattle.entry_map.specs.Indexes.{IsIndexOf}
+use Rattle.entry_map.proofs.Prelude.{subst, Undo, IsIndexOf}
 use Rattle.entry_map.proofs.entries.Entries.offer_after.Goals as goal
 
 pub returns : goal.returns

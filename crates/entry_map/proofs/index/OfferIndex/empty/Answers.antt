@@ -1,7 +1,6 @@
-use Rattle.std.proofs.Common.{ap, ◌∙◌}
-use Rattle.std.specs.FinMap.{from_sorted}
-use Rattle.entry_map.proofs.Places.{order}
-use Rattle.entry_map.proofs.PlaceMaps.{row_empty}
+use Rattle.entry_map.proofs.Prelude.{ap, ◌∙◌, from_sorted}
+use Rattle.entry_map.proofs.Positions.{order}
+use Rattle.entry_map.proofs.PositionMaps.{row_empty}
 use Rattle.entry_map.proofs.index.OfferIndex.empty.Goals as goal
 
 pub returns : goal.returns

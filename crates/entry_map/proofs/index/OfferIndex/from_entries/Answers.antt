@@ -1,15 +1,9 @@
-use Rattle.std.proofs.Common.{◌≡◌, refl, arith, List, [], ◌∷◌, ◌++◌, sym, ap, subst, ◌∙◌, append_assoc, append-nil, map}
-use Rattle.std.proofs.Common.{length}
-use Rattle.std.specs.List.{IsDistinct}
-use Rattle.std.specs.Ordering.{eq_by_cmp}
-use Rattle.std.specs.FinMap.{from_entries}
-use Rattle.ledger_types.specs.KeyOrder.{key_cmp}
-use Rattle.ledger_types.specs.Keys.{key_of}
-use Rattle.ledger_types.specs.declared.entry.LedgerEntry.{LedgerEntry}
-use Rattle.entry_map.specs.Indexes.{IsIndexOf}
+use Rattle.entry_map.proofs.Prelude.{◌≡◌, refl, arith, List, [], ◌∷◌, ◌++◌, sym, ap, subst, ◌∙◌, append_assoc}
+use Rattle.entry_map.proofs.Prelude.{append-nil, map, length, IsDistinct, eq_by_cmp, from_entries, key_cmp, key_of}
+use Rattle.entry_map.proofs.Prelude.{LedgerEntry, IsIndexOf}
 use Rattle.entry_map.proofs.Layers.{with_key}
-use Rattle.entry_map.proofs.Books.{index_empty}
-use Rattle.entry_map.proofs.Building.{distinct_behind, not_there}
+use Rattle.entry_map.proofs.Aggregates.{index_empty}
+use Rattle.entry_map.proofs.Building.{distinct_after, not_there}
 use Rattle.entry_map.proofs.index.OfferIndex.from_entries.Goals as goal
 
 pub loop-last-init : goal.loop-last-init
@@ -24,7 +18,7 @@ loop-last-preserved c =
       c.in-Some.last.now ∷ done,
       all,
       c.in_ok-index.ensures.map (from_entries (map with_key done)) c.loop-last.invariant.2
-          (not_there c.in-Some.last.now done (distinct_behind c.in-Some.earlier.now (c.in-Some.last.now ∷ done)
+          (not_there c.in-Some.last.now done (distinct_after c.in-Some.earlier.now (c.in-Some.last.now ∷ done)
           (subst (λ es. IsDistinct (eq_by_cmp key_cmp) (map key_of es)) (sym all) c.requires))),
     )
 

@@ -1,11 +1,8 @@
-use Rattle.std.proofs.Common.{◌≡◌, ◌++◌, List, length, map}
-use Rattle.std.specs.FinMap.{from_entries}
-use Rattle.ledger_types.specs.declared.entry.LedgerEntry.{LedgerEntry}
-use Rattle.entry_map.specs.Indexes.{IsIndexOf}
+use Rattle.entry_map.proofs.Prelude.{◌≡◌, ◌++◌, List, length, map, from_entries, LedgerEntry, IsIndexOf}
 use Rattle.entry_map.proofs.Layers.{with_key}
 use Rattle.entry_map.proofs.index.OfferIndex.from_entries.Given as goal
 
--- the index is that of the entries behind those ahead
+-- the index is that of the entries after those ahead
 abbrev pub invariant-loop-last : goal.invariant-loop-last
 invariant-loop-last l = (done : List LedgerEntry) × (l.ahead ++ done ≡ l.fn.entries)
     × IsIndexOf (from_entries (map with_key done)) l.index

@@ -1,4 +1,4 @@
-use Rattle.std.specs.FinMap.{empty}
+use Rattle.entry_map.proofs.Prelude.{empty}
 use Rattle.entry_map.proofs.Building.{more_offers, all_offers_in, no_offers_in}
 use Rattle.entry_map.proofs.index.OfferIndex.from_offers.Goals as goal
 

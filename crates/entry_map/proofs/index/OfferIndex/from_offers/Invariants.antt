@@ -1,5 +1,4 @@
-use Rattle.std.proofs.Common.{◌≡◌, take}
-use Rattle.entry_map.specs.Indexes.{index_of}
+use Rattle.entry_map.proofs.Prelude.{◌≡◌, take, index_of}
 use Rattle.entry_map.proofs.index.OfferIndex.from_offers.Given as goal
 
 abbrev pub invariant-loop-offer : goal.invariant-loop-offer

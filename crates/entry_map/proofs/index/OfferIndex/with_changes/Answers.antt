@@ -1,7 +1,4 @@
-use Rattle.std.proofs.Common.{ap, ◌∙◌}
-use Rattle.std.proofs.lemmas.Result.{IfOk-weaker}
-use Rattle.entry_map.specs.Book.{offers_in}
-use Rattle.entry_map.specs.Indexes.{with_offers}
+use Rattle.entry_map.proofs.Prelude.{ap, ◌∙◌, IfOk-weaker, offers_in, with_offers}
 use Rattle.entry_map.proofs.Rebuilt.{rebuilt}
 use Rattle.entry_map.proofs.index.OfferIndex.with_changes.Goals as goal
 

@@ -1,6 +1,4 @@
-use Rattle.std.proofs.Common.{◌≡◌, take}
-use Rattle.entry_map.specs.Book.{offers_in}
-use Rattle.entry_map.specs.Indexes.{with_offers}
+use Rattle.entry_map.proofs.Prelude.{◌≡◌, take, offers_in, with_offers}
 use Rattle.entry_map.proofs.index.OfferIndex.with_entries.Given as goal
 
 abbrev pub invariant-loop-entry : goal.invariant-loop-entry

@@ -1,9 +1,5 @@
-use Rattle.std.proofs.Common.{sym, ap, subst, ◌∙◌}
-use Rattle.std.specs.Option.{option_copied}
-use Rattle.std.proofs.lemmas.Result.{IfOk-weaker}
-use Rattle.entry_map.specs.EntryMap.{put}
-use Rattle.entry_map.specs.Indexes.{IsIndexOf}
-use Rattle.entry_map.proofs.Books.{index_kept}
+use Rattle.entry_map.proofs.Prelude.{sym, ap, subst, ◌∙◌, option_copied, IfOk-weaker, put, IsIndexOf}
+use Rattle.entry_map.proofs.Aggregates.{index_kept}
 use Rattle.entry_map.proofs.Building.{index_new, none_put, one_put}
 use Rattle.entry_map.proofs.index.OfferIndex.with_entry.Goals as goal
 

@@ -1,5 +1,4 @@
-use Rattle.std.proofs.Common.{◌≡◌, take}
-use Rattle.entry_map.specs.Indexes.{without_offers}
+use Rattle.entry_map.proofs.Prelude.{◌≡◌, take, without_offers}
 use Rattle.entry_map.proofs.index.OfferIndex.without_offers.Given as goal
 
 abbrev pub invariant-loop-offer : goal.invariant-loop-offer

@@ -1,8 +1,4 @@
-use Rattle.std.proofs.Common.{◌≡◌, ◌⊎◌, subst, OnOk}
-use Rattle.std.specs.Option.{option_or}
-use Rattle.std.specs.FinMap.{get}
-use Rattle.std.proofs.lemmas.Result.{IfOk-weaker}
-use Rattle.ledger_types.specs.declared.key.LedgerKey.{LedgerKey}
+use Rattle.entry_map.proofs.Prelude.{◌≡◌, ◌⊎◌, subst, OnOk, option_or, get, IfOk-weaker, LedgerKey}
 use Rattle.entry_map.proofs.KeyMaps.{seen, get-absorbed, each-absorbed}
 use Rattle.entry_map.proofs.key_map.KeyMap.absorb.Goals as goal
 

@@ -1,8 +1,4 @@
-use Rattle.std.proofs.Common.{◌||◌, ap, sym, ◌∙◌}
-use Rattle.std.specs.FinMap.{contains_key}
-use Rattle.std.specs.List.{list_any}
-use Rattle.std.specs.Ordering.{eq_by_cmp}
-use Rattle.ledger_types.specs.KeyOrder.{key_cmp}
+use Rattle.entry_map.proofs.Prelude.{◌||◌, ap, sym, ◌∙◌, contains_key, list_any, eq_by_cmp, key_cmp}
 use Rattle.entry_map.proofs.KeyMaps.{contains-seen, key_moved}
 use Rattle.entry_map.proofs.key_map.KeyMap.add_keys_to.Goals as goal
 

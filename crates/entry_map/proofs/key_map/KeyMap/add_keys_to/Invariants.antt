@@ -1,9 +1,4 @@
-use Rattle.std.proofs.Common.{◌≡◌, ◌||◌}
-use Rattle.std.specs.List.{list_any}
-use Rattle.std.specs.Ordering.{eq_by_cmp}
-use Rattle.std.specs.FinMap.{contains_key}
-use Rattle.ledger_types.specs.declared.key.LedgerKey.{LedgerKey}
-use Rattle.ledger_types.specs.KeyOrder.{key_cmp}
+use Rattle.entry_map.proofs.Prelude.{◌≡◌, ◌||◌, list_any, eq_by_cmp, contains_key, LedgerKey, key_cmp}
 use Rattle.entry_map.proofs.key_map.KeyMap.add_keys_to.Given as goal
 
 -- with the keys that are left, all are there

@@ -1,5 +1,4 @@
-use Rattle.std.proofs.Common.{ap, ◌∙◌}
-use Rattle.std.specs.FinMap.{get}
+use Rattle.entry_map.proofs.Prelude.{ap, ◌∙◌, get}
 use Rattle.entry_map.proofs.KeyMaps.{get-derived}
 use Rattle.entry_map.proofs.key_map.KeyMap.get.Goals as goal
 

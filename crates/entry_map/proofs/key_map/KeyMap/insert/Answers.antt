@@ -1,5 +1,4 @@
-use Rattle.std.proofs.Common.{ap, ◌∙◌}
-use Rattle.std.specs.FinMap.{insert}
+use Rattle.entry_map.proofs.Prelude.{ap, ◌∙◌, insert}
 use Rattle.entry_map.proofs.KeyMaps.{seen_inserted}
 use Rattle.entry_map.proofs.key_map.KeyMap.insert.Goals as goal
 

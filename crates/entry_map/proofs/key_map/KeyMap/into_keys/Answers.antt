@@ -1,7 +1,5 @@
-use Rattle.std.proofs.Common.{◌≡◌, rules, subst, IfOk}
+use Rattle.entry_map.proofs.Prelude.{◌≡◌, rules, subst, IfOk, IfOk-weaker, AreKeysOf}
 use Rattle.std.specs.BTreeMap as tree
-use Rattle.std.proofs.lemmas.Result.{IfOk-weaker}
-use Rattle.entry_map.specs.KeyMaps.{AreKeysOf}
 use Rattle.entry_map.proofs.KeyMaps.{keys-seen}
 use Rattle.entry_map.proofs.key_map.KeyMap.into_keys.Goals as goal
 

@@ -1,5 +1,4 @@
-use Rattle.std.proofs.Common.{subst, MatchOption}
-use Rattle.entry_map.specs.KeyMaps.{NoneAbove, IsLeastAt}
+use Rattle.entry_map.proofs.Prelude.{subst, MatchOption, NoneAbove, IsLeastAt}
 use Rattle.entry_map.proofs.KeyMaps.{next_seen}
 use Rattle.entry_map.proofs.key_map.KeyMap.next_after.Goals as goal
 

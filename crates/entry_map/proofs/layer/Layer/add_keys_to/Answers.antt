@@ -1,6 +1,4 @@
-use Rattle.std.proofs.Common.{◌≡◌, ◌||◌, subst, OnOk}
-use Rattle.std.specs.FinMap.{contains_key}
-use Rattle.ledger_types.specs.declared.key.LedgerKey.{LedgerKey}
+use Rattle.entry_map.proofs.Prelude.{◌≡◌, ◌||◌, subst, OnOk, contains_key, LedgerKey}
 use Rattle.entry_map.proofs.layer.Layer.add_keys_to.Goals as goal
 
 pub returns : goal.returns

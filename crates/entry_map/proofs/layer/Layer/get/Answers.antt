@@ -1,5 +1,4 @@
-use Rattle.std.proofs.Common.{subst}
-use Rattle.entry_map.specs.Layers.{IsKeyedLayer}
+use Rattle.entry_map.proofs.Prelude.{subst, IsKeyedLayer}
 use Rattle.entry_map.proofs.layer.Layer.get.Goals as goal
 
 pub returns-clause-keyed : goal.returns-clause-keyed

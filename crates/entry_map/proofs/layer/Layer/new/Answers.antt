@@ -1,5 +1,4 @@
-use Rattle.std.proofs.Common.{sym, subst}
-use Rattle.entry_map.specs.Layers.{IsKeyedLayer}
+use Rattle.entry_map.proofs.Prelude.{sym, subst, IsKeyedLayer}
 use Rattle.entry_map.proofs.Layers.{keyed_empty}
 use Rattle.entry_map.proofs.layer.Layer.new.Goals as goal
 

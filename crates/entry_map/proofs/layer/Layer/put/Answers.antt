@@ -1,5 +1,4 @@
-use Rattle.std.proofs.Common.{sym, subst}
-use Rattle.entry_map.specs.Layers.{IsKeyedLayer}
+use Rattle.entry_map.proofs.Prelude.{sym, subst, IsKeyedLayer}
 use Rattle.entry_map.proofs.Layers.{either_way, keyed_change, keyed_boxed}
 use Rattle.entry_map.proofs.layer.Layer.put.Goals as goal
 

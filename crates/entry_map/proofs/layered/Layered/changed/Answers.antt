@@ -1,5 +1,4 @@
-use Rattle.std.proofs.Common.{ap, ◌∙◌}
-use Rattle.entry_map.specs.Layers.{undo_of}
+use Rattle.entry_map.proofs.Prelude.{ap, ◌∙◌, undo_of}
 use Rattle.entry_map.proofs.Under.{changed_under}
 use Rattle.entry_map.proofs.layered.Layered.changed.Goals as goal
 

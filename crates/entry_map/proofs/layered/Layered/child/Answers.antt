@@ -1,5 +1,4 @@
-use Rattle.std.proofs.Common.{◌∙◌, ap}
-use Rattle.entry_map.specs.Undo.{opened}
+use Rattle.entry_map.proofs.Prelude.{◌∙◌, ap, opened}
 use Rattle.entry_map.proofs.Under.{undo_of-child}
 use Rattle.entry_map.proofs.layered.Layered.child.Goals as goal
 

@@ -1,7 +1,4 @@
-use Rattle.std.proofs.Common.{◌∙◌, ap}
-use Rattle.std.specs.Option.{option_or}
-use Rattle.std.specs.FinMap.{get}
-use Rattle.entry_map.specs.Undo.{kept}
+use Rattle.entry_map.proofs.Prelude.{◌∙◌, ap, option_or, get, kept}
 use Rattle.entry_map.proofs.Under.{undo_of-commit}
 use Rattle.entry_map.proofs.layered.Layered.commit.Goals as goal
 

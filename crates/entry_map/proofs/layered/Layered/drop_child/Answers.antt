@@ -1,5 +1,4 @@
-use Rattle.std.proofs.Common.{◌∙◌, ap}
-use Rattle.entry_map.specs.Undo.{undone}
+use Rattle.entry_map.proofs.Prelude.{◌∙◌, ap, undone}
 use Rattle.entry_map.proofs.Under.{undo_of-drop}
 use Rattle.entry_map.proofs.layered.Layered.drop_child.Goals as goal
 

@@ -1,7 +1,4 @@
-use Rattle.std.proofs.Common.{◌∙◌, ap}
-use Rattle.std.proofs.lemmas.Result.{on_ok_weaker}
-use Rattle.entry_map.specs.EntryMap.{put}
-use Rattle.entry_map.specs.Undo.{with_current}
+use Rattle.entry_map.proofs.Prelude.{◌∙◌, ap, on_ok_weaker, put, with_current}
 use Rattle.entry_map.proofs.Under.{undo_of-put}
 use Rattle.entry_map.proofs.layered.Layered.put.Goals as goal
 

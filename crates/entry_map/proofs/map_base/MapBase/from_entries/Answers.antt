@@ -1,11 +1,6 @@
-use Rattle.std.proofs.Common.{arith, ◌≡◌, [], ◌∷◌, ◌++◌, ap, sym, subst, ◌∙◌, append_assoc, append-nil, map}
-use Rattle.std.specs.List.{IsDistinct}
-use Rattle.std.specs.Ordering.{eq_by_cmp}
-use Rattle.std.proofs.lemmas.Grind.{common_steps}
-use Rattle.std.specs.FinMap.{from_entries}
-use Rattle.std.specs.Vec.Iter.{into_iter_items}
-use Rattle.ledger_types.specs.KeyOrder.{key_cmp}
-use Rattle.entry_map.specs.Indexes.{IsIndexOf}
+use Rattle.entry_map.proofs.Prelude.{arith, ◌≡◌, [], ◌∷◌, ◌++◌, ap, sym, subst, ◌∙◌, append_assoc, append-nil, map}
+use Rattle.entry_map.proofs.Prelude.{IsDistinct, eq_by_cmp, common_steps, from_entries, into_iter_items, key_cmp}
+use Rattle.entry_map.proofs.Prelude.{IsIndexOf}
 use Rattle.entry_map.proofs.Layers.{with_key}
 use Rattle.entry_map.proofs.Lists.{map_push, all_keys}
 use Rattle.entry_map.proofs.map_base.MapBase.from_entries.Goals as goal

@@ -1,5 +1,4 @@
-use Rattle.std.proofs.Common.{◌≡◌, ◌++◌, map}
-use Rattle.std.specs.Vec.Iter.{into_iter_items}
+use Rattle.entry_map.proofs.Prelude.{◌≡◌, ◌++◌, map, into_iter_items}
 use Rattle.entry_map.proofs.Layers.{with_key}
 use Rattle.entry_map.proofs.map_base.MapBase.from_entries.Given as goal
 

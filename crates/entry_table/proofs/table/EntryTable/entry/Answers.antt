@@ -1,4 +1,4 @@
-use Rattle.std.proofs.Common.{rules, ap, ◌∙◌, length}
+use Rattle.entry_table.proofs.Prelude.{rules, ap, ◌∙◌, length}
 use Rattle.entry_table.proofs.Tables.{entries_of, value_in, keyed_row}
 use Rattle.entry_table.proofs.table.EntryTable.entry.Goals as goal
 
@@ -9,7 +9,7 @@ entry-requires c =
 
 pub returns-clause-entry : goal.returns-clause-entry
 returns-clause-entry c =
-    value_in c.self.inside.tree c.args.self.now c.args.place c.self.invariant.rows.rises c.self.view_is
+    value_in c.self.inside.tree c.args.self.now c.args.index c.self.invariant.rows.rises c.self.view_is
     ∙ c.entry.ensures
 
 pub returns-clause-keyed : goal.returns-clause-keyed

@@ -1,7 +1,4 @@
-use Rattle.std.proofs.Common.{ap, sym, subst, ◌∙◌}
-use Rattle.std.specs.FinMap.{values, from_entries}
-use Rattle.entry_map.specs.Indexes.{IsIndexOf}
-use Rattle.entry_table.specs.Rows.{map_of, IsTableRow}
+use Rattle.entry_table.proofs.Prelude.{ap, sym, subst, ◌∙◌, values, from_entries, IsIndexOf, map_of, IsTableRow}
 use Rattle.entry_table.proofs.Tables.{map_made, values_made}
 use Rattle.entry_table.proofs.table.EntryTable.from_rising.Goals as goal
 

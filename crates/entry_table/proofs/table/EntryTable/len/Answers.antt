@@ -1,4 +1,4 @@
-use Rattle.std.proofs.Common.{ap, length, rules}
+use Rattle.entry_table.proofs.Prelude.{ap, length, rules}
 use Rattle.entry_table.proofs.Tables.{entries_of, keyed_row}
 use Rattle.entry_table.proofs.table.EntryTable.len.Goals as goal
 

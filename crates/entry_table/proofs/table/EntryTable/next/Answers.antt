@@ -1,8 +1,4 @@
-use Rattle.std.proofs.Common.{refl, sym, subst, ap, ◌∙◌, map}
-use Rattle.ledger_types.specs.Keys.{key_of}
-use Rattle.entry_map.specs.declared.batch.Batch.{Batch}
-use Rattle.entry_map.specs.KeyMaps.{AreRising}
-use Rattle.entry_table.specs.Rows.{map_of, IsTableRow}
+use Rattle.entry_table.proofs.Prelude.{refl, sym, subst, ap, ◌∙◌, map, key_of, Batch, AreRising, map_of, IsTableRow}
 use Rattle.entry_table.proofs.Batches.{stamped_keys, next_row_is, next_entries, exact_batch}
 use Rattle.entry_table.proofs.Stamped.{next_index}
 use Rattle.entry_table.proofs.Tables.{keyed_row}

@@ -1,7 +1,4 @@
-use Rattle.std.proofs.Common.{ap, ◌∙◌}
-use Rattle.std.proofs.lemmas.Result.{IfOk-weaker}
-use Rattle.std.specs.FinMap.Entries.{find}
-use Rattle.entry_map.proofs.KeyMaps.{derived_is}
+use Rattle.entry_table.proofs.Prelude.{ap, ◌∙◌, IfOk-weaker, find, derived_is}
 use Rattle.entry_table.proofs.Tables.{get_in, keyed_row}
 use Rattle.entry_table.proofs.Walks.{derived_sorted}
 use Rattle.entry_table.proofs.table.EntryTableBase.find.Goals as goal

@@ -1,5 +1,4 @@
-use Rattle.std.proofs.Common.{◌∙◌}
-use Rattle.std.proofs.lemmas.Result.{IfOk-weaker}
+use Rattle.entry_table.proofs.Prelude.{◌∙◌, IfOk-weaker}
 use Rattle.entry_table.proofs.Above.{next_is}
 use Rattle.entry_table.proofs.Tables.{keyed_row}
 use Rattle.entry_table.proofs.table.EntryTableBase.next_after.Goals as goal

@@ -1,14 +1,10 @@
-use Rattle.std.proofs.Common.{◌≡◌, refl, sym, ap, subst, ◌∙◌, ◌+◌}
-use Rattle.std.specs.Prelude.{◌%◌}
-use Rattle.outside.specs.Disk.{Disk}
-use Rattle.gate_journal.specs.Calls.{JournalState}
-use Rattle.image_store.specs.State.{StoreState}
-use Rattle.image_store.specs.Calls.{IsSettled}
+use Rattle.image_store.proofs.Prelude.{◌≡◌, refl, sym, ap, subst, ◌∙◌, ◌+◌, ◌%◌, Disk, JournalState, StoreState}
+use Rattle.image_store.proofs.Prelude.{IsSettled}
 use Rattle.image_store.proofs.Keeping.{journal_settled, grown_settled, append_runs}
 use Rattle.image_store.proofs.store.Store.append.Goals as goal
 
 pub returns-in-Ok-clause-ok : goal.returns-in-Ok-clause-ok
-returns-in-Ok-clause-ok g c = λ told kept settled.
+returns-in-Ok-clause-ok g c = λ reported kept settled.
     let old : Disk = g.V.Volume.disk c.args.vol.now in
     let new : Disk = g.V.Volume.disk c.append.new.vol in
     let j : JournalState = c.self.inside.journal in
@@ -28,11 +24,11 @@ returns-in-Ok-clause-ok g c = λ told kept settled.
       network = c.self.inside.network;
       failed = c.if-self.false i;
     })
-    (c.in-Ok.ensures.ok told kept.records js) c.in-Ok.ensures.safe
-    (λ k other. (c.in-Ok.ensures.written told kept.records js).others k (λ is. other (is ∙ sym same)))
+    (c.in-Ok.ensures.ok reported kept.records js) c.in-Ok.ensures.safe
+    (λ k other. (c.in-Ok.ensures.written reported kept.records js).others k (λ is. other (is ∙ sym same)))
 
 pub returns-in-Ok-clause-runs : goal.returns-in-Ok-clause-runs
-returns-in-Ok-clause-runs g c = λ told kept settled.
+returns-in-Ok-clause-runs g c = λ reported kept settled.
     let old : Disk = g.V.Volume.disk c.args.vol.now in
     let j : JournalState = c.self.inside.journal in
     let before : StoreState = record {
@@ -44,10 +40,10 @@ returns-in-Ok-clause-runs g c = λ told kept settled.
     let s = subst (λ (x : StoreState). IsSettled x old kept) (sym c.self.view_is) settled in
     let js = journal_settled j before old kept c.self.invariant.0 refl (c.self.invariant.1 c.if-self.false) s in
     append_runs kept c.args.buf j.file (c.self.invariant.0 ∙ ap (λ n. 2 + n % 2) s.epoch) old
-    (g.V.Volume.disk c.append.new.vol) (c.append.ensures.runs told kept.records js)
+    (g.V.Volume.disk c.append.new.vol) (c.append.ensures.runs reported kept.records js)
 
 pub returns-in-Err-clause-runs : goal.returns-in-Err-clause-runs
-returns-in-Err-clause-runs g c = λ told kept settled.
+returns-in-Err-clause-runs g c = λ reported kept settled.
     let old : Disk = g.V.Volume.disk c.args.vol.now in
     let j : JournalState = c.self.inside.journal in
     let before : StoreState = record {
@@ -59,4 +55,4 @@ returns-in-Err-clause-runs g c = λ told kept settled.
     let s = subst (λ (x : StoreState). IsSettled x old kept) (sym c.self.view_is) settled in
     let js = journal_settled j before old kept c.self.invariant.0 refl (c.self.invariant.1 c.if-self.false) s in
     append_runs kept c.args.buf j.file (c.self.invariant.0 ∙ ap (λ n. 2 + n % 2) s.epoch) old
-    (g.V.Volume.disk c.append.new.vol) (c.append.ensures.runs told kept.records js)
+    (g.V.Volume.disk c.append.new.vol) (c.append.ensures.runs reported kept.records js)

@@ -1,12 +1,9 @@
-use Rattle.std.proofs.Common.{sym, subst, ◌∙◌, ◌+◌, ◌-◌, ◌<◌, ◌^◌}
-use Rattle.outside.specs.Disk.{Disk}
-use Rattle.image_store.specs.State.{StoreState}
-use Rattle.image_store.specs.Calls.{IsSettled}
+use Rattle.image_store.proofs.Prelude.{sym, subst, ◌∙◌, ◌+◌, ◌-◌, ◌<◌, ◌^◌, Disk, StoreState, IsSettled}
 use Rattle.image_store.proofs.Rolled.{roll_runs, roll_settled}
 use Rattle.image_store.proofs.store.Store.roll.Goals as goal
 
 pub returns-in-Ok-turn-clause-ok : goal.returns-in-Ok-turn-clause-ok
-returns-in-Ok-turn-clause-ok g c = λ told kept settled.
+returns-in-Ok-turn-clause-ok g c = λ reported kept settled.
     let old : Disk = g.V.Volume.disk c.args.vol.now in
     let new : Disk = g.V.Volume.disk c.turn.new.vol in
     let before : StoreState = record {
@@ -19,8 +16,8 @@ returns-in-Ok-turn-clause-ok g c = λ told kept settled.
     let low : before.epoch < 2 ^ 63 - 1 =
     subst (λ (x : StoreState). x.epoch < 2 ^ 63 - 1) (sym c.self.view_is) c.requires.epoch in
     roll_settled c.args.image.now c.requires.within c.in-Ok.ensures.sized c.in-Ok.ensures.fits before old new kept s
-    c.behind_gate.ensures.network low c.as_slice.result.now (c.as_slice.ensures.value ∙ c.in-Ok.ensures.piece) _
-    (c.in-Ok-turn.ensures.turned told) c.in-Ok-turn.ensures.safe
+    c.after_gate.ensures.network low c.as_slice.result.now (c.as_slice.ensures.value ∙ c.in-Ok.ensures.piece) _
+    (c.in-Ok-turn.ensures.turned reported) c.in-Ok-turn.ensures.safe
     (λ i. record {
       epoch = before.epoch + 1;
       end = (c.in-Ok-turn.ensures.journal i).end;
@@ -29,7 +26,7 @@ returns-in-Ok-turn-clause-ok g c = λ told kept settled.
     })
 
 pub returns-in-Ok-turn-clause-runs : goal.returns-in-Ok-turn-clause-runs
-returns-in-Ok-turn-clause-runs g c = λ told kept settled.
+returns-in-Ok-turn-clause-runs g c = λ reported kept settled.
     let old : Disk = g.V.Volume.disk c.args.vol.now in
     let before : StoreState = record {
       epoch = c.self.inside.epoch;
@@ -41,11 +38,11 @@ returns-in-Ok-turn-clause-runs g c = λ told kept settled.
     let low : before.epoch < 2 ^ 63 - 1 =
     subst (λ (x : StoreState). x.epoch < 2 ^ 63 - 1) (sym c.self.view_is) c.requires.epoch in
     roll_runs c.args.image.now c.requires.within c.in-Ok.ensures.sized c.in-Ok.ensures.fits before old
-    (g.V.Volume.disk c.turn.new.vol) kept s c.behind_gate.ensures.network low c.as_slice.result.now
-    (c.as_slice.ensures.value ∙ c.in-Ok.ensures.piece) (c.turn.ensures.runs told)
+    (g.V.Volume.disk c.turn.new.vol) kept s c.after_gate.ensures.network low c.as_slice.result.now
+    (c.as_slice.ensures.value ∙ c.in-Ok.ensures.piece) (c.turn.ensures.runs reported)
 
 pub returns-clause-runs : goal.returns-clause-runs
-returns-clause-runs g c = λ told kept settled.
+returns-clause-runs g c = λ reported kept settled.
     let old : Disk = g.V.Volume.disk c.args.vol.now in
     let before : StoreState = record {
       epoch = c.self.inside.epoch;
@@ -57,5 +54,5 @@ returns-clause-runs g c = λ told kept settled.
     let low : before.epoch < 2 ^ 63 - 1 =
     subst (λ (x : StoreState). x.epoch < 2 ^ 63 - 1) (sym c.self.view_is) c.requires.epoch in
     roll_runs c.args.image.now c.requires.within c.in-Ok.ensures.sized c.in-Ok.ensures.fits before old
-    (g.V.Volume.disk c.turn.new.vol) kept s c.behind_gate.ensures.network low c.as_slice.result.now
-    (c.as_slice.ensures.value ∙ c.in-Ok.ensures.piece) (c.turn.ensures.runs told)
+    (g.V.Volume.disk c.turn.new.vol) kept s c.after_gate.ensures.network low c.as_slice.result.now
+    (c.as_slice.ensures.value ∙ c.in-Ok.ensures.piece) (c.turn.ensures.runs reported)

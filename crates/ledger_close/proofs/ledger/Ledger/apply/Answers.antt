@@ -1,18 +1,11 @@
-use Rattle.std.proofs.Common.{◌≡◌, subst, sym, ◌∙◌, None}
-use Rattle.close_rules.specs.Refusals.{set_fault}
-use Rattle.close_rules.specs.Close.{applied_in}
-use Rattle.close_laws.proofs.SpelledSets.{set_spelled}
-use Rattle.close_rules.specs.Images.{state_of}
-use Rattle.ledger_close.specs.Answers.{FaultIs}
-use Rattle.ledger_close.specs.declared.apply.Worked.{Worked}
-use Rattle.ledger_close.specs.Worked.{Leaves}
-use Rattle.ledger_close.specs.States.{LedgerAt}
+use Rattle.ledger_close.proofs.Prelude.{◌≡◌, subst, sym, ◌∙◌, None, set_fault, applied_in, set_encoded, state_of}
+use Rattle.ledger_close.proofs.Prelude.{FaultIs, Worked, Leaves, LedgerAt}
 use Rattle.ledger_close.proofs.Works.{refused_set, applied_set, applied_done, applied_keyed}
 use Rattle.ledger_close.proofs.Works.{applied_batch, applied_index}
 use Rattle.ledger_close.proofs.ledger.Ledger.apply.Goals as goal
 
 pub apply_set_in_order-requires-clause-within : goal.apply_set_in_order-requires-clause-within
-apply_set_in_order-requires-clause-within c = (set_spelled c.args.closing.now c.requires.spelled).within
+apply_set_in_order-requires-clause-within c = (set_encoded c.args.closing.now c.requires.encoded).within
 
 pub returns-in-Err : goal.returns-in-Err
 returns-in-Err c =
@@ -20,10 +13,10 @@ returns-in-Err c =
     let s = state_of l.network l.header l.levels.pairs l.entries in
     let here = refused_set s c.args.closing.now c.in_ok-entries.entries c.apply_set_in_order.new.entries c.in-Err.fault
     c.in_ok-entries.ensures c.in-Err.ensures.answer in
-    let told = subst (λ f. FaultIs f (λ g. set_fault s c.args.closing.now ≡ Rattle.std.proofs.Common.Some g))
+    let recorded = subst (λ f. FaultIs f (λ g. set_fault s c.args.closing.now ≡ Rattle.std.proofs.Common.Some g))
     (sym c.fault_of.ensures) here in
     subst (λ (x : LedgerAt). FaultIs c.fault_of.result
-    (λ g. set_fault x.state c.args.closing.now ≡ Rattle.std.proofs.Common.Some g)) c.self.view_is told
+    (λ g. set_fault x.state c.args.closing.now ≡ Rattle.std.proofs.Common.Some g)) c.self.view_is recorded
 
 pub next-requires : goal.next-requires
 next-requires c =

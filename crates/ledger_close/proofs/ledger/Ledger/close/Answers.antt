@@ -1,6 +1,4 @@
-use Rattle.std.proofs.Common.{None, subst}
-use Rattle.close_rules.specs.State.{IsClosingState}
-use Rattle.ledger_close.specs.States.{LedgerAt}
+use Rattle.ledger_close.proofs.Prelude.{None, subst, IsClosingState, LedgerAt}
 use Rattle.ledger_close.proofs.Parts.{by_terms_refused, by_set_refused, by_set, goes_on}
 use Rattle.ledger_close.proofs.Finishing.{seq_by_terms}
 use Rattle.ledger_close.proofs.ledger.Ledger.close.Goals as goal

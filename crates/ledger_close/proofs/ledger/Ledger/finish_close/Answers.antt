@@ -1,41 +1,27 @@
-use Rattle.std.proofs.Common.{◌≡◌, ◌≤◌, None, length, ℕ, refl, sym, ap, ◌∙◌, subst, arith}
-use Rattle.entry_table.specs.entry_changes.Next.{IsExactBatch}
-use Rattle.ledger_close.specs.declared.apply.Worked.{Worked}
-use Rattle.ledger_close.specs.Counted.{AreStepsTo, AreStepsWith}
-use Rattle.ledger_close.specs.Worked.{Leaves}
-use Rattle.ledger_close.specs.States.{LedgerAt}
+use Rattle.ledger_close.proofs.Prelude.{◌≡◌, ◌≤◌, None, length, ℕ, refl, sym, ap, ◌∙◌, subst, arith, IsExactBatch}
+use Rattle.ledger_close.proofs.Prelude.{Worked, AreStepsTo, AreStepsWith, Leaves, LedgerAt, Hash, LedgerHeader}
+use Rattle.ledger_close.proofs.Prelude.{CloseRecord, EntryMap, IsKeyed, list_hash, finished, close_record, ClosingState}
+use Rattle.ledger_close.proofs.Prelude.{IsClosingState, IsEncoded, record_fault, IsClosed, upgraded_header, IsClosable}
+use Rattle.ledger_close.proofs.Prelude.{AreClosed, NextIsLegal, next_counts, IsLeveled}
 use Rattle.ledger_close.proofs.Counting.{steps_with}
-use Rattle.ledger_types.specs.declared.ids.Hash.{Hash}
-use Rattle.ledger_types.specs.declared.header.LedgerHeader.{LedgerHeader}
-use Rattle.xdr_header.specs.declared.record.CloseRecord.{CloseRecord}
-use Rattle.entry_map.specs.EntryMap.{EntryMap, IsKeyed}
-use Rattle.bucket_levels.specs.Hash.{list_hash}
-use Rattle.header_chain.specs.SkipList.{finished}
-use Rattle.xdr_header.specs.Records.{close_record}
-use Rattle.close_rules.specs.State.{ClosingState, IsClosingState, IsSpelled}
-use Rattle.close_rules.specs.Refusals.{record_fault}
-use Rattle.close_rules.specs.Close.{IsClosed, upgraded_header}
-use Rattle.close_laws.specs.Legal.{IsClosable, AreClosed, NextIsLegal}
 use Rattle.close_laws.proofs.Unrefused.{seq_below}
-use Rattle.close_laws.proofs.NextHeader.{next_counts}
-use Rattle.ledger_close.specs.Leveled.{IsLeveled}
 use Rattle.ledger_close.proofs.Works.{keyed_by}
-use Rattle.ledger_close.proofs.Finishing.{closes, closed_with, results_spelled, header_spelled}
+use Rattle.ledger_close.proofs.Finishing.{closes, closed_with, results_encoded, header_encoded}
 use Rattle.ledger_close.proofs.ledger.Ledger.finish_close.Goals as goal
 
--- the entries behind a close stand under their own keys
-keyed_behind : NextIsLegal → (s : ClosingState) (closing : CloseRecord) (after : EntryMap) → IsClosable s closing
+-- the entries after a close are under their own keys
+keyed_after : NextIsLegal → (s : ClosingState) (closing : CloseRecord) (after : EntryMap) → IsClosable s closing
     → AreClosed s closing after → IsKeyed after
-keyed_behind law s closing after can closed =
+keyed_after law s closing after can closed =
     keyed_by after (law s closing after s.header.bucket_list_hash can closed).keyed
 
 -- the record closes the ledger whose state this is
 closable_by : (own now : LedgerAt) (closing : CloseRecord) → own ≡ now → IsClosingState own.state
-    → IsSpelled close_record closing → record_fault now.state closing ≡ None → length closing.tx_set.txs ≤ 16777216
+    → IsEncoded close_record closing → record_fault now.state closing ≡ None → length closing.tx_set.txs ≤ 16777216
     → IsClosable now.state closing
-closable_by own now closing is state spelled unrefused few = record {
+closable_by own now closing is state encoded unrefused few = record {
   state = subst (λ (l : LedgerAt). IsClosingState l.state) is state;
-  spelled = spelled;
+  encoded = encoded;
   unrefused = unrefused;
   few = few;
 }
@@ -48,28 +34,28 @@ counted : NextIsLegal → (l : LedgerAt) (closing : CloseRecord) (worked : Worke
     → AreStepsWith l closing old new
 counted law l closing worked old new can left few =
     steps_with l closing worked.entries old new can.unrefused left.entries
-    (few worked.entries left.batch (keyed_behind law l.state closing worked.entries can left.entries))
+    (few worked.entries left.batch (keyed_after law l.state closing worked.entries can left.entries))
 
 pub level-requires-clause-seq : goal.level-requires-clause-seq
 level-requires-clause-seq g c =
     let state = subst (λ (l : LedgerAt). IsClosingState l.state) c.self.view_is c.self.invariant.state in
     seq_below c.args.self.now.state c.args.closing c.requires.unrefused state.legal.header.seq_high
 
-pub level-requires-clause-spellable : goal.level-requires-clause-spellable
-level-requires-clause-spellable g c =
+pub level-requires-clause-encodable : goal.level-requires-clause-encodable
+level-requires-clause-encodable g c =
     let can = closable_by _ c.args.self.now c.args.closing c.self.view_is c.self.invariant.state
-    c.requires.spelled c.requires.unrefused c.requires.few in (
+    c.requires.encoded c.requires.unrefused c.requires.few in (
       c.args.worked.entries,
       c.requires.worked.batch,
-      c.entries_stay_spellable.ensures c.args.self.now.state c.args.closing c.args.worked.entries can
+      c.entries_stay_encodable.ensures c.args.self.now.state c.args.closing c.args.worked.entries can
           c.requires.worked.entries,
     )
 
 pub file_total-bytes-requires : goal.file_total-bytes-requires
 file_total-bytes-requires g c =
     let can = closable_by _ c.args.self.now c.args.closing c.self.view_is c.self.invariant.state
-    c.requires.spelled c.requires.unrefused c.requires.few in
-    let keyed = keyed_behind c.next_is_legal.ensures c.args.self.now.state c.args.closing c.args.worked.entries can
+    c.requires.encoded c.requires.unrefused c.requires.few in
+    let keyed = keyed_after c.next_is_legal.ensures c.args.self.now.state c.args.closing c.args.worked.entries can
     c.requires.worked.entries in
     let leveled = c.in_ok-step.ensures.levels c.args.worked.entries c.requires.worked.batch keyed in
     omega (arith, leveled.levels.count)
@@ -78,8 +64,8 @@ pub returns-then-bytes-gt-MAX_FILE_TOTAL-clause-finished : goal.returns-then-byt
 returns-then-bytes-gt-MAX_FILE_TOTAL-clause-finished g c =
     let s = c.args.self.now.state in
     let can = closable_by _ c.args.self.now c.args.closing c.self.view_is c.self.invariant.state
-    c.requires.spelled c.requires.unrefused c.requires.few in
-    let keyed = keyed_behind c.next_is_legal.ensures s c.args.closing c.args.worked.entries can
+    c.requires.encoded c.requires.unrefused c.requires.few in
+    let keyed = keyed_after c.next_is_legal.ensures s c.args.closing c.args.worked.entries can
     c.requires.worked.entries in
     let leveled = subst (λ (h : LedgerHeader). IsLeveled s h.ledger_version c.args.worked.entries c.in_ok-step.step)
     c.requires.next (c.in_ok-step.ensures.levels c.args.worked.entries c.requires.worked.batch keyed) in
@@ -98,17 +84,17 @@ head-requires-clause-seq g c =
 
 pub head-requires-clause-results : goal.head-requires-clause-results
 head-requires-clause-results g c =
-    results_spelled c.results_are_spelled.ensures c.args.self.now.state c.args.closing c.args.worked.done.results
+    results_encoded c.results_are_encoded.ensures c.args.self.now.state c.args.closing c.args.worked.done.results
     (closable_by _ c.args.self.now c.args.closing c.self.view_is c.self.invariant.state
-    c.requires.spelled c.requires.unrefused c.requires.few)
+    c.requires.encoded c.requires.unrefused c.requires.few)
     c.requires.worked.done.results
 
 pub ledger_hash-requires : goal.ledger_hash-requires
 ledger_hash-requires g c =
-    header_spelled c.next_header_is_spelled.ensures c.args.self.now.state c.args.closing c.in_ok-step.step
+    header_encoded c.next_header_is_encoded.ensures c.args.self.now.state c.args.closing c.in_ok-step.step
     c.in_ok-header.header
     (closable_by _ c.args.self.now c.args.closing c.self.view_is c.self.invariant.state
-    c.requires.spelled c.requires.unrefused c.requires.few)
+    c.requires.encoded c.requires.unrefused c.requires.few)
     (c.in_ok-header.ensures c.args.closing refl c.requires.next c.requires.worked.done)
 
 pub invariant_of-result : goal.invariant_of-result
@@ -116,8 +102,8 @@ invariant_of-result g c =
     let s = c.args.self.now.state in
     let closing = c.args.closing in
     let can = closable_by _ c.args.self.now c.args.closing c.self.view_is c.self.invariant.state
-    c.requires.spelled c.requires.unrefused c.requires.few in
-    let keyed = keyed_behind c.next_is_legal.ensures s closing c.args.worked.entries can c.requires.worked.entries in
+    c.requires.encoded c.requires.unrefused c.requires.few in
+    let keyed = keyed_after c.next_is_legal.ensures s closing c.args.worked.entries can c.requires.worked.entries in
     let leveled = c.in_ok-step.ensures.levels c.args.worked.entries c.requires.worked.batch keyed in
     let header_is = c.in_ok-header.ensures closing refl c.requires.next c.requires.worked.done in
     let counts = next_counts s closing (list_hash c.in_ok-step.step.pairs) in
@@ -133,8 +119,8 @@ returns-clause-finished g c =
     let worked = c.args.worked in
     let step = c.in_ok-step.step in
     let can = closable_by _ c.args.self.now c.args.closing c.self.view_is c.self.invariant.state
-    c.requires.spelled c.requires.unrefused c.requires.few in
-    let keyed = keyed_behind c.next_is_legal.ensures s closing worked.entries can c.requires.worked.entries in
+    c.requires.encoded c.requires.unrefused c.requires.few in
+    let keyed = keyed_after c.next_is_legal.ensures s closing worked.entries can c.requires.worked.entries in
     let leveled = subst (λ (h : LedgerHeader). IsLeveled s h.ledger_version worked.entries step) c.requires.next
     (c.in_ok-step.ensures.levels worked.entries c.requires.worked.batch keyed) in
     let header_is = c.in_ok-header.ensures closing refl c.requires.next c.requires.worked.done in
@@ -152,29 +138,29 @@ returns-clause-finished g c =
 pub returns-in_err-step-clause-steps : goal.returns-in_err-step-clause-steps
 returns-in_err-step-clause-steps g c =
     counted c.next_is_legal.ensures c.args.self.now c.args.closing c.args.worked _ _
-    (closable_by _ c.args.self.now c.args.closing c.self.view_is c.self.invariant.state c.requires.spelled
+    (closable_by _ c.args.self.now c.args.closing c.self.view_is c.self.invariant.state c.requires.encoded
     c.requires.unrefused c.requires.few) c.requires.worked c.level.ensures.steps
 
 pub returns-then-bytes-gt-MAX_FILE_TOTAL-clause-steps : goal.returns-then-bytes-gt-MAX_FILE_TOTAL-clause-steps
 returns-then-bytes-gt-MAX_FILE_TOTAL-clause-steps g c =
     counted c.next_is_legal.ensures c.args.self.now c.args.closing c.args.worked _ _
-    (closable_by _ c.args.self.now c.args.closing c.self.view_is c.self.invariant.state c.requires.spelled
+    (closable_by _ c.args.self.now c.args.closing c.self.view_is c.self.invariant.state c.requires.encoded
     c.requires.unrefused c.requires.few) c.requires.worked c.level.ensures.steps
 
 pub returns-in_err-header-clause-steps : goal.returns-in_err-header-clause-steps
 returns-in_err-header-clause-steps g c =
     counted c.next_is_legal.ensures c.args.self.now c.args.closing c.args.worked _ _
-    (closable_by _ c.args.self.now c.args.closing c.self.view_is c.self.invariant.state c.requires.spelled
+    (closable_by _ c.args.self.now c.args.closing c.self.view_is c.self.invariant.state c.requires.encoded
     c.requires.unrefused c.requires.few) c.requires.worked c.level.ensures.steps
 
 pub returns-in_err-digest-clause-steps : goal.returns-in_err-digest-clause-steps
 returns-in_err-digest-clause-steps g c =
     counted c.next_is_legal.ensures c.args.self.now c.args.closing c.args.worked _ _
-    (closable_by _ c.args.self.now c.args.closing c.self.view_is c.self.invariant.state c.requires.spelled
+    (closable_by _ c.args.self.now c.args.closing c.self.view_is c.self.invariant.state c.requires.encoded
     c.requires.unrefused c.requires.few) c.requires.worked c.level.ensures.steps
 
 pub returns-clause-steps : goal.returns-clause-steps
 returns-clause-steps g c =
     counted c.next_is_legal.ensures c.args.self.now c.args.closing c.args.worked _ _
-    (closable_by _ c.args.self.now c.args.closing c.self.view_is c.self.invariant.state c.requires.spelled
+    (closable_by _ c.args.self.now c.args.closing c.self.view_is c.self.invariant.state c.requires.encoded
     c.requires.unrefused c.requires.few) c.requires.worked c.level.ensures.steps

@@ -1,8 +1,6 @@
-use Rattle.std.proofs.Common.{rules, ◌≡◌, List, map, Err, sym, subst}
-use Rattle.bucket_levels.specs.Levels.{pair_of}
-use Rattle.bucket_levels.specs.Pairs.{Pair}
-use Rattle.ledger_close.specs.Judging.{DoFilesFit, Stands, AreJudged}
-use Rattle.ledger_close.proofs.Judged.{by_entries, has_levels, is_kept, whole_judged}
+use Rattle.ledger_close.proofs.Prelude.{rules, ◌≡◌, List, map, Err, sym, subst, pair_of, Pair, DoFilesFit, Lists}
+use Rattle.ledger_close.proofs.Prelude.{AreJudged}
+use Rattle.ledger_close.proofs.Judged.{by_entries, has_levels, is_kept, complete_judged}
 use Rattle.ledger_close.proofs.ledger.Ledger.from_image.Goals as goal
 
 pub returns-in-Err-judge_entries-clause-judges : goal.returns-in-Err-judge_entries-clause-judges
@@ -11,13 +9,13 @@ returns-in-Err-judge_entries-clause-judges c =
     let slice : c.as_slice.result.now ≡ c.in-Ok-judge_files.pairs.items = search rules in
     let files : DoFilesFit c.args.image.files (map pair_of c.in-Ok-judge_files.pairs.items) =
     c.in-Ok-judge_files.ensures.ok in
-    let stands : Stands (map pair_of c.as_slice.result.now) c.in-Ok-judge_marks.entries =
+    let exists : Lists (map pair_of c.as_slice.result.now) c.in-Ok-judge_marks.entries =
     c.in-Ok-judge_marks.ensures.ok in
     let same : map pair_of c.as_slice.result.now ≡ map pair_of c.in-Ok-judge_files.pairs.items = cc in
     by_entries c.args.network c.args.image c.in-Ok.header (map pair_of c.in-Ok-judge_files.pairs.items)
     c.in-Ok-judge_marks.entries c.in-Err-judge_entries.fault
     (has_levels c.args.image c.in-Ok.header (map pair_of c.in-Ok-judge_files.pairs.items) c.in-Ok.ensures.0 files)
-    (subst (λ (l : List Pair). Stands l c.in-Ok-judge_marks.entries) same stands)
+    (subst (λ (l : List Pair). Lists l c.in-Ok-judge_marks.entries) same exists)
     (subst
     (λ (l : List Pair). AreJudged c.in-Ok.header l c.in-Ok-judge_marks.entries (Err c.in-Err-judge_entries.fault))
     levels c.in-Err-judge_entries.ensures)
@@ -29,7 +27,7 @@ invariant_of-result c =
     let number : c.in_ok-levels.levels.seq ≡ c.in-Ok.header.ledger_seq = search rules in
     let files : DoFilesFit c.args.image.files (map pair_of c.in-Ok-judge_files.pairs.items) =
     c.in-Ok-judge_files.ensures.ok in
-    let stands : Stands (map pair_of c.as_slice.result.now) c.in-Ok-judge_marks.entries =
+    let exists : Lists (map pair_of c.as_slice.result.now) c.in-Ok-judge_marks.entries =
     c.in-Ok-judge_marks.ensures.ok in
     let same : map pair_of c.as_slice.result.now ≡ c.in_ok-levels.levels.pairs = cc in
     is_kept c.args.network c.in_ok-digest.digest c.args.image c.in-Ok.header c.in-Ok-judge_marks.entries
@@ -37,7 +35,7 @@ invariant_of-result c =
     (record {
       header = c.in-Ok.ensures;
       files = subst (λ (l : List Pair). DoFilesFit c.args.image.files l) (sym levels) files;
-      stands = subst (λ (l : List Pair). Stands l c.in-Ok-judge_marks.entries) same stands;
+      exists = subst (λ (l : List Pair). Lists l c.in-Ok-judge_marks.entries) same exists;
       judged = c.in-Ok-judge_entries.ensures;
     }) c.in_ok-digest.ensures number
 
@@ -47,13 +45,13 @@ returns-clause-judges c =
     let slice : c.as_slice.result.now ≡ c.in-Ok-judge_files.pairs.items = search rules in
     let files : DoFilesFit c.args.image.files (map pair_of c.in-Ok-judge_files.pairs.items) =
     c.in-Ok-judge_files.ensures.ok in
-    let stands : Stands (map pair_of c.as_slice.result.now) c.in-Ok-judge_marks.entries =
+    let exists : Lists (map pair_of c.as_slice.result.now) c.in-Ok-judge_marks.entries =
     c.in-Ok-judge_marks.ensures.ok in
     let same : map pair_of c.as_slice.result.now ≡ c.in_ok-levels.levels.pairs = cc in
-    whole_judged c.args.network c.args.image c.in-Ok.header c.in_ok-levels.levels.pairs c.in-Ok-judge_marks.entries
+    complete_judged c.args.network c.args.image c.in-Ok.header c.in_ok-levels.levels.pairs c.in-Ok-judge_marks.entries
     (record {
       header = c.in-Ok.ensures;
       files = subst (λ (l : List Pair). DoFilesFit c.args.image.files l) (sym levels) files;
-      stands = subst (λ (l : List Pair). Stands l c.in-Ok-judge_marks.entries) same stands;
+      exists = subst (λ (l : List Pair). Lists l c.in-Ok-judge_marks.entries) same exists;
       judged = c.in-Ok-judge_entries.ensures;
     })

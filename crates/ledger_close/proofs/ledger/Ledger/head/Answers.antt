@@ -1,10 +1,7 @@
-use Rattle.std.proofs.Common.{◌+◌, ap, ◌∙◌, to_z, of_z, w64, FitsSigned, rules}
+use Rattle.ledger_close.proofs.Prelude.{◌+◌, ap, ◌∙◌, to_z, of_z, w64, FitsSigned, rules, ledger_hash_of}
+use Rattle.ledger_close.proofs.Prelude.{results_hash_of, finished, result_set, upgraded_header, LedgerAt}
 use Rattle.std.proofs.lemmas.Int.{to_z-of_z}
-use Rattle.value_hashes.specs.Hashes.{ledger_hash_of, results_hash_of}
-use Rattle.header_chain.specs.SkipList.{finished}
-use Rattle.close_rules.specs.Close.{result_set, upgraded_header}
 use Rattle.ledger_close.specs.declared.heading.Given.{Given}
-use Rattle.ledger_close.specs.States.{LedgerAt}
 use Rattle.ledger_close.proofs.Finishing.{headed}
 use Rattle.ledger_close.proofs.ledger.Ledger.head.Goals as goal
 
@@ -21,10 +18,10 @@ returns c = λ closing is_value is_next done.
       fee_pool = to_z w64 (of_z w64 fee);
       id_pool = c.args.done.now.id_pool;
     } in
-    let whole = headed s closing given c.args.next
+    let entire = headed s closing given c.args.next
     (c.self.invariant.hashed ∙ ap (λ (x : LedgerAt). ledger_hash_of x.state.header) c.self.view_is) is_value
     (ap (λ (x : LedgerAt). x.state.header.ledger_seq + 1) c.self.view_is)
     (c.in_ok-results_hash.ensures ∙ ap (λ pairs. results_hash_of (result_set pairs)) done.results)
     (to_z-of_z w64 fee fits ∙ done.fee_pool) done.id_pool is_next in
-    c.finish.ensures ∙ ap (λ h. finished h c.hash.result) (c.fill.ensures ∙ whole)
+    c.finish.ensures ∙ ap (λ h. finished h c.hash.result) (c.fill.ensures ∙ entire)
     ∙ ap (finished (upgraded_header s closing)) c.hash.ensures

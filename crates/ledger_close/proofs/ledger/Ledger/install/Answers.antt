@@ -1,8 +1,5 @@
-use Rattle.std.proofs.Common.{◌≡◌, ℕ, ◌+◌, List, sym, ap, ◌∙◌, subst}
-use Rattle.bucket_levels.specs.Pairs.{Pair}
-use Rattle.bucket_levels.specs.Step.{IsStep}
-use Rattle.close_rules.specs.Close.{PreparedClose}
-use Rattle.ledger_close.specs.States.{LedgerAt, IsKept}
+use Rattle.ledger_close.proofs.Prelude.{◌≡◌, ℕ, ◌+◌, List, sym, ap, ◌∙◌, subst, Pair, IsStep, PreparedClose, LedgerAt}
+use Rattle.ledger_close.proofs.Prelude.{IsKept}
 use Rattle.ledger_close.proofs.Installs.{IsMade, installed_number, installed_step, installed_state}
 use Rattle.ledger_close.proofs.ledger.Ledger.install.Goals as goal
 

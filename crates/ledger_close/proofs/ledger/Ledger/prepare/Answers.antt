@@ -1,4 +1,4 @@
-use Rattle.std.proofs.Common.{arith}
+use Rattle.ledger_close.proofs.Prelude.{arith}
 use Rattle.ledger_close.proofs.Finishing.{answered}
 use Rattle.ledger_close.proofs.Counting.{steps_of}
 use Rattle.close_laws.proofs.FewOfRecords.{record_few}

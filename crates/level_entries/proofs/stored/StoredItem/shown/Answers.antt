@@ -1,7 +1,4 @@
-use Rattle.std.proofs.Common.{Option, subst}
-use Rattle.std.specs.Prelude.{IsSomeAnd}
-use Rattle.bucket_items.specs.declared.item.BucketItem.{BucketItem}
-use Rattle.bucket_items.specs.Item.{Shows}
+use Rattle.level_entries.proofs.Prelude.{Option, subst, IsSomeAnd, BucketItem, Shows}
 use Rattle.level_entries.proofs.StoredItems.{shown_item, key_shown}
 use Rattle.level_entries.proofs.stored.StoredItem.shown.Goals as goal
 

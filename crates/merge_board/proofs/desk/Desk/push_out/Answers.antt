@@ -1,10 +1,5 @@
-use Rattle.std.proofs.Common.{ℕ, ◌++◌, ◌∷◌, [], List, ap, sym, subst, ◌∙◌, arith}
-use Rattle.crossbeam_queue.specs.Passes.{view}
-use Rattle.bucket_merge.specs.Job.{Job}
-use Rattle.merge_board.specs.OutOrder.{QueuedBehind}
-use Rattle.merge_board.specs.Work.{AreDealt, FoundFull}
-use Rattle.merge_board.specs.declared.log.Sent.{Sent}
-use Rattle.merge_board.specs.declared.log.Log.{Log}
+use Rattle.merge_board.proofs.Prelude.{ℕ, ◌++◌, ◌∷◌, [], List, ap, sym, subst, ◌∙◌, arith, view, Job, QueuedAfter}
+use Rattle.merge_board.proofs.Prelude.{AreDealt, FoundFull, Sent, Log}
 use Rattle.merge_board.proofs.OutSteps.{pushes, queued}
 use Rattle.merge_board.proofs.Working.{pushed_one, left_one}
 use Rattle.merge_board.proofs.desk.Desk.push_out.Goals as goal
@@ -38,8 +33,8 @@ returns-in-Err-clause-dealt g c =
     let number = ap (λ (v : Log). v.worker) c.requires.at_work.log in
     let full : FoundFull desk.passes.number pushed = (
       back.2.0,
-      back.2.1 ∙ c.args.room.now.out_places,
-      subst (λ (n : ℕ). QueuedBehind n pushed back.2.0) number back.2.2,
+      back.2.1 ∙ c.args.room.now.out_capacity,
+      subst (λ (n : ℕ). QueuedAfter n pushed back.2.0) number back.2.2,
     ) in
     let more = c.push_reserved.ensures.items
     ∙ ap (λ (s : Sent). desk.left.items ++ s.out ∷ []) back.0 in

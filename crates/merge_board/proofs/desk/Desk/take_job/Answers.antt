@@ -1,16 +1,13 @@
-use Rattle.std.proofs.Common.{ℕ, ◌∷◌, [], List, length, length-append, ap, sym, subst, ◌∙◌, arith}
-use Rattle.crossbeam_queue.specs.Passes.{view}
-use Rattle.merge_board.specs.Lists.{Has}
-use Rattle.merge_board.specs.Work.{AreDealt, numbers_of}
-use Rattle.merge_board.specs.declared.hand.Hand.{Hand}
-use Rattle.merge_board.proofs.JobSteps.{takes, behind}
+use Rattle.merge_board.proofs.Prelude.{ℕ, ◌∷◌, [], List, length, length-append, ap, sym, subst, ◌∙◌, arith, view, Has}
+use Rattle.merge_board.proofs.Prelude.{AreDealt, numbers_of, Hand}
+use Rattle.merge_board.proofs.JobSteps.{takes, after}
 use Rattle.merge_board.proofs.Lists.{has_last}
 use Rattle.merge_board.proofs.Working.{hand_grown, below_all, took}
 use Rattle.merge_board.proofs.desk.Desk.take_job.Goals as goal
 
 pub pop_as-requires-clause-rule : goal.pop_as-requires-clause-rule
 pop_as-requires-clause-rule g c =
-    (takes _ _ (let some_part = ap (λ (v : Hand). v.parts) c.requires.at_work.hand in omega arith), behind _ _)
+    (takes _ _ (let some_part = ap (λ (v : Hand). v.parts) c.requires.at_work.hand in omega arith), after _ _)
 
 pub returns-clause-some : goal.returns-clause-some
 returns-clause-some g c =
@@ -26,7 +23,7 @@ returns-clause-some g c =
           omega (arith, length-append old (c.in_ok-job.job.number ∷ []), ap (λ (v : Hand). length v.taken) is));
       pushed = at.pushed;
       accounted = (let so_far = at.accounted in omega arith);
-      places = at.places;
+      slots = at.slots;
     }
 
 pub returns-clause-in_hand : goal.returns-clause-in_hand

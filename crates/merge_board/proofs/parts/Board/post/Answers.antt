@@ -1,4 +1,4 @@
-use Rattle.std.proofs.Common.{rules, arith}
+use Rattle.merge_board.proofs.Prelude.{rules, arith}
 use Rattle.merge_board.proofs.JobSteps.{posts, waits}
 use Rattle.merge_board.proofs.parts.Board.post.Goals as goal
 

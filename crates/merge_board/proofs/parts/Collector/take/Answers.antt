@@ -1,4 +1,4 @@
-use Rattle.std.proofs.Common.{rules}
+use Rattle.merge_board.proofs.Prelude.{rules}
 use Rattle.merge_board.proofs.OutSteps.{collects, accounts}
 use Rattle.merge_board.proofs.parts.Collector.take.Goals as goal
 

@@ -1,6 +1,4 @@
-use Rattle.std.proofs.Common.{◌≡◌, true}
-use Rattle.crossbeam_queue.specs.Passes.{view, IsPassOf}
-use Rattle.merge_board.specs.Settling.{IsDrained}
+use Rattle.merge_board.proofs.Prelude.{◌≡◌, true, view, IsPassOf, IsDrained}
 use Rattle.merge_board.proofs.parts.Room.drain.Given as goal
 
 abbrev pub invariant-loop : goal.invariant-loop

@@ -1,11 +1,5 @@
-use Rattle.std.proofs.Common.{◌+◌, sym, subst}
-use Rattle.crossbeam_queue.specs.Passes.{view}
-use Rattle.std.specs.List.{AllByRecursion}
-use Rattle.merge_board.specs.Parts.{IsWorkerEndOf}
-use Rattle.merge_board.specs.Settling.{AreTakenIn}
-use Rattle.merge_board.specs.declared.hand.Hand.{Hand}
-use Rattle.merge_board.specs.declared.log.Log.{Log}
-use Rattle.merge_board.proofs.Lists.{every_front}
+use Rattle.merge_board.proofs.Prelude.{◌+◌, sym, subst, view, AllByRecursion, IsWorkerEndOf, AreTakenIn, Hand, Log}
+use Rattle.merge_board.proofs.Lists.{every_prefix}
 use Rattle.merge_board.proofs.Settling.{one_taken_in}
 use Rattle.merge_board.proofs.parts.Room.take_in_all.Goals as goal
 
@@ -18,7 +12,7 @@ loop-end-preserved c =
     let is = c.in-Some.ensures.items in record {
       jobs = c.take_in.ensures.jobs;
       outs = c.take_in.ensures.outs;
-      ends = (every_front (IsWorkerEndOf room) rest end
+      ends = (every_prefix (IsWorkerEndOf room) rest end
           (subst (AllByRecursion (IsWorkerEndOf room)) is it.invariant.ends)).0;
       all = subst (λ (x : Hand × Log).
           AreTakenIn c.args.ends.items rest (view c.args.hand.now) x.0 (view c.args.log.now) x.1

@@ -1,8 +1,4 @@
-use Rattle.std.proofs.Common.{vec_len}
-use Rattle.crossbeam_queue.specs.Passes.{view, IsPassOf}
-use Rattle.std.specs.List.{AllByRecursion}
-use Rattle.merge_board.specs.Parts.{IsWorkerEndOf}
-use Rattle.merge_board.specs.Settling.{AreTakenIn}
+use Rattle.merge_board.proofs.Prelude.{vec_len, view, IsPassOf, AllByRecursion, IsWorkerEndOf, AreTakenIn}
 use Rattle.merge_board.proofs.parts.Room.take_in_all.Given as goal
 
 abbrev pub invariant-loop-end : goal.invariant-loop-end

@@ -1,9 +1,5 @@
-use Rattle.std.proofs.Common.{◌≡◌, take, refl, ◌∙◌}
-use Rattle.outside.specs.Disk.{InFile, CutShort}
-use Rattle.outside.specs.MemDisk.{now_standing}
-use Rattle.outside.specs.declared.call.Call.TheVariants.{Cut}
+use Rattle.outside.proofs.Prelude.{◌≡◌, take, refl, ◌∙◌, InFile, CutShort, now_on_disk, Cut, uncut, changed}
 use Rattle.outside.proofs.MemDisk.{either, on_ok, pushed, reads_pushed, unmoved, if_done}
-use Rattle.outside.specs.MemLaws.{uncut, changed}
 use Rattle.outside.proofs.mem_disk.MemDisk.cut.Goals as goal
 
 pub returns-then-not-done-clause-runs : goal.returns-then-not-done-clause-runs
@@ -19,7 +15,7 @@ returns-clause-cut c = on_ok c.put.result c.put.ensures.noted (λ is done.
     let old = c.args.self.now in
     let call = Cut c.args.file c.args.size c.args.done in
     changed c.args.file (take c.args.size) (λ before after.
-    after ≡ take c.args.size before) (now_standing old).reads (now_standing c.put.new.self).reads
+    after ≡ take c.args.size before) (now_on_disk old).reads (now_on_disk c.put.new.self).reads
     (reads_pushed old call c.put.new.self is ∙ if_done c.args.done _ _ done) refl)
 
 pub returns-clause-runs : goal.returns-clause-runs

@@ -1,4 +1,4 @@
-use Rattle.outside.specs.MemDisk.{image_of, items_of}
+use Rattle.outside.proofs.Prelude.{image_of, items_of}
 use Rattle.outside.proofs.MemDisk.{noted, of_files_push}
 use Rattle.outside.proofs.mem_disk.MemDisk.note.Goals as goal
 

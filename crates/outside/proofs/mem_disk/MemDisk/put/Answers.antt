@@ -1,6 +1,5 @@
-use Rattle.std.proofs.Common.{◌≡◌, ◌<◌, length, sym, ◌∙◌, ap, arith, set}
-use Rattle.outside.specs.Disk.{Image}
-use Rattle.outside.specs.MemDisk.{DiskState, image_of, items_of, with_file, now_standing, after_calls, at_first}
+use Rattle.outside.proofs.Prelude.{◌≡◌, ◌<◌, length, sym, ◌∙◌, ap, arith, set, Image, DiskState, image_of, items_of}
+use Rattle.outside.proofs.Prelude.{with_file, now_on_disk, after_calls, at_first}
 use Rattle.outside.proofs.MemDisk.{reads_push, image_set, of_files_push}
 use Rattle.outside.proofs.mem_disk.MemDisk.put.Goals as goal
 
@@ -14,8 +13,8 @@ invariant_of-self-2 c =
     let reads : image_of (items_of (set c.self.inside.files k next)) ≡ (after_calls log (at_first start)).reads =
     image_set c.self.inside.files k next within
     ∙ ap (λ (image : Image). with_file k (λ _. next.items) image) (c.self.invariant.1
-    ∙ ap (λ (v : DiskState). (now_standing v).reads) c.self.view_is)
-    ∙ ap (λ file. with_file file (λ _. next.items) (now_standing c.args.self.now).reads) c.from.ensures
+    ∙ ap (λ (v : DiskState). (now_on_disk v).reads) c.self.view_is)
+    ∙ ap (λ file. with_file file (λ _. next.items) (now_on_disk c.args.self.now).reads) c.from.ensures
     ∙ sym (reads_push start c.self.inside.log.items c.args.call log c.args.self.now _ c.self.view_is
     c.in_ok-push.ensures.items c.requires.reads) in (
       of_files_push c.self.inside.log.items c.args.call log c.in_ok-push.ensures.items

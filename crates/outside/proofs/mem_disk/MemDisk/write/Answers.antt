@@ -1,9 +1,6 @@
-use Rattle.std.proofs.Common.{◌≡◌, ℕ, length, ◌∙◌, ap, subst}
-use Rattle.outside.specs.Disk.{InFile, Torn, Wrote}
-use Rattle.outside.specs.MemDisk.{now_standing, written}
-use Rattle.outside.specs.declared.call.Call.TheVariants.{Write}
+use Rattle.outside.proofs.Prelude.{◌≡◌, ℕ, length, ◌∙◌, ap, subst, InFile, Torn, Wrote, now_on_disk, written, Write}
+use Rattle.outside.proofs.Prelude.{untorn, changed}
 use Rattle.outside.proofs.MemDisk.{either, on_ok, pushed, reads_pushed, unmoved, if_done, written_within}
-use Rattle.outside.specs.MemLaws.{untorn, changed}
 use Rattle.outside.proofs.mem_disk.MemDisk.write.Goals as goal
 
 pub returns-then-not-done-clause-runs : goal.returns-then-not-done-clause-runs
@@ -24,11 +21,11 @@ returns-clause-written c = on_ok c.put.result c.put.ensures.noted (λ is done wi
     let old = c.args.self.now in
     let piece = c.in_ok-from_slice.field-0 in
     let call = Write c.args.file c.args.at piece c.args.done in
-    changed c.args.file (written 0 c.args.at piece.items) (Wrote c.args.at c.args.piece.now) (now_standing old).reads
-    (now_standing c.put.new.self).reads
+    changed c.args.file (written 0 c.args.at piece.items) (Wrote c.args.at c.args.piece.now) (now_on_disk old).reads
+    (now_on_disk c.put.new.self).reads
     (reads_pushed old call c.put.new.self is ∙ if_done c.args.done _ _ done)
     (written_within c.args.at piece.items c.args.piece.now
-    ((now_standing old).reads c.args.file) c.in_ok-from_slice.ensures.items within))
+    ((now_on_disk old).reads c.args.file) c.in_ok-from_slice.ensures.items within))
 
 pub returns-clause-runs : goal.returns-clause-runs
 returns-clause-runs c =

@@ -1,6 +1,4 @@
-use Rattle.std.proofs.Common.{◌≡◌, ℕ, length, sym, ◌∙◌, ap, subst}
-use Rattle.outside.specs.Disk.{Image}
-use Rattle.outside.specs.MemDisk.{DiskState, now_standing, filled}
+use Rattle.outside.proofs.Prelude.{◌≡◌, ℕ, length, sym, ◌∙◌, ap, subst, Image, DiskState, now_on_disk, filled}
 use Rattle.outside.specs.MemVolume.{VolumeState}
 use Rattle.outside.proofs.Crashed.{filled_is_left, length-filled}
 use Rattle.outside.proofs.mem_volume.MemVolume.crashed.Goals as goal
@@ -14,7 +12,7 @@ returns-clause-image c =
     let disk = c.args.self.now.disk in
     let is = left_is c.args.fill c.self.inside.disk c.args.self.now _
     (ap (λ (v : VolumeState). v.disk) c.self.view_is) c.in_ok-crashed.ensures.reads in
-    subst (λ (image : Image). (now_standing disk).may_leave image) (sym is) (filled_is_left c.args.fill disk)
+    subst (λ (image : Image). (now_on_disk disk).may_leave image) (sym is) (filled_is_left c.args.fill disk)
 
 pub returns-clause-lengths : goal.returns-clause-lengths
 returns-clause-lengths c =

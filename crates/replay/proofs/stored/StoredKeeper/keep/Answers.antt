@@ -1,5 +1,5 @@
-use Rattle.outside.specs.Disk.{Disk}
-use Rattle.replay.proofs.Comes.{stored_more, stored_more_runs}
+use Rattle.replay.proofs.Prelude.{Disk}
+use Rattle.replay.proofs.Yields.{stored_more, stored_more_runs}
 use Rattle.replay.proofs.stored.StoredKeeper.keep.Goals as goal
 
 pub returns-in-Ok-clause-kept : goal.returns-in-Ok-clause-kept

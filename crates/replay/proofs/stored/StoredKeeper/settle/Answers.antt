@@ -1,12 +1,7 @@
-use Rattle.std.proofs.Common.{Err, sym, ap, subst, ◌∙◌}
-use Rattle.outside.specs.Disk.{Disk}
-use Rattle.replay.specs.Keeping.{Ready, UnlessDisk}
+use Rattle.replay.proofs.Prelude.{Err, sym, ap, subst, ◌∙◌, Disk, Ready, UnlessDisk, StoreState, IsSettled, IsStored}
 use Rattle.replay.specs.declared.keeper.KeepFault.{KeepFault}
-use Rattle.image_store.specs.State.{StoreState}
-use Rattle.image_store.specs.Calls.{IsSettled}
-use Rattle.replay.specs.Stored.{IsStored}
 use Rattle.replay.proofs.Faults.{unless_of}
-use Rattle.replay.proofs.Comes.{stored_rolled, stored_rolled_runs, stored_still}
+use Rattle.replay.proofs.Yields.{stored_rolled, stored_rolled_runs, stored_still}
 use Rattle.replay.proofs.stored.StoredKeeper.settle.Goals as goal
 
 pub returns-in-Ok-roll-clause-kept : goal.returns-in-Ok-roll-clause-kept

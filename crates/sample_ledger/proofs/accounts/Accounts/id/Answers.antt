@@ -1,8 +1,5 @@
-use Rattle.std.proofs.Common.{◌≡◌, ℕ, List, get_or, map, ap, ◌∙◌}
-use Rattle.std.specs.List.{range_with_len}
-use Rattle.ledger_types.specs.declared.ids.AccountId.{AccountId}
-use Rattle.sample_ledger.specs.Accounts.{account_id}
-use Rattle.sample_ledger.specs.Image.{account_count}
+use Rattle.sample_ledger.proofs.Prelude.{◌≡◌, ℕ, List, get_or, map, ap, ◌∙◌, range_with_len, AccountId, account_id}
+use Rattle.sample_ledger.proofs.Prelude.{account_count}
 use Rattle.sample_ledger.proofs.Listed.{at_number}
 use Rattle.sample_ledger.proofs.accounts.Accounts.id.Goals as goal
 

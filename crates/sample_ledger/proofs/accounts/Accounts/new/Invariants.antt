@@ -1,6 +1,4 @@
-use Rattle.std.proofs.Common.{◌≡◌, map}
-use Rattle.std.specs.List.{range_with_len}
-use Rattle.sample_ledger.specs.Accounts.{account_id}
+use Rattle.sample_ledger.proofs.Prelude.{◌≡◌, map, range_with_len, account_id}
 use Rattle.sample_ledger.proofs.accounts.Accounts.new.Given as goal
 
 abbrev pub invariant-loop-account : goal.invariant-loop-account

@@ -1,5 +1,5 @@
-use Rattle.std.proofs.Common.{◌+◌, length}
+use Rattle.shared_tree.proofs.Prelude.{◌+◌, length}
 use Rattle.shared_tree.proofs.tree.Tree.+linked.Given as goal
 
 abbrev pub decreases-linked : goal.decreases-linked
-decreases-linked g l = length l.before.now + length l.behind.now
+decreases-linked g l = length l.before.now + length l.after.now

@@ -1,7 +1,5 @@
-use Rattle.std.proofs.Common.{rules, arith, ap, sym, ◌∙◌, ◌++◌}
-use Rattle.std.proofs.lemmas.Result.{IfOk-weaker}
-use Rattle.std.specs.Option.{option_copied}
-use Rattle.shared_tree.specs.Rows.{between, all_changed}
+use Rattle.shared_tree.proofs.Prelude.{rules, arith, ap, sym, ◌∙◌, ◌++◌, IfOk-weaker, option_copied, between}
+use Rattle.shared_tree.proofs.Prelude.{all_changed}
 use Rattle.shared_tree.proofs.Parts.{parted}
 use Rattle.shared_tree.proofs.Divided.{all_new, made}
 use Rattle.shared_tree.proofs.tree.Tree.+with_changes.Goals as goal
@@ -15,9 +13,9 @@ returns-in_default g t c =
 pub with_changes-requires : goal.with_changes-requires
 with_changes-requires g t c =
     let fork = c.in-Some.fork.now in
-    let p = parted g.met.K.Ord.total c.args.self.now fork.before fork.kept fork.behind c.in-Some.ensures
+    let p = parted g.met.K.Ord.total c.args.self.now fork.before fork.kept fork.after c.in-Some.ensures
     c.requires.row in
-    let m = made g.met.K.Ord.total c.args.self.now fork.before fork.kept fork.behind c.args.changes.now
+    let m = made g.met.K.Ord.total c.args.self.now fork.before fork.kept fork.after c.args.changes.now
     c.divided.result.0.now (option_copied c.divided.result.1) c.divided.result.2.now p c.requires.changes
     c.divided.ensures in
     let less = p.before_shorter in
@@ -28,24 +26,24 @@ with_changes-requires g t c =
 pub with_changes-requires-2 : goal.with_changes-requires-2
 with_changes-requires-2 g t c =
     let fork = c.in-Some.fork.now in
-    let p = parted g.met.K.Ord.total c.args.self.now fork.before fork.kept fork.behind c.in-Some.ensures
+    let p = parted g.met.K.Ord.total c.args.self.now fork.before fork.kept fork.after c.in-Some.ensures
     c.requires.row in
-    let m = made g.met.K.Ord.total c.args.self.now fork.before fork.kept fork.behind c.args.changes.now
+    let m = made g.met.K.Ord.total c.args.self.now fork.before fork.kept fork.after c.args.changes.now
     c.divided.result.0.now (option_copied c.divided.result.1) c.divided.result.2.now p c.requires.changes
     c.divided.ensures in
-    let less = p.behind_shorter in
-    let sorted = p.behind_sorted in
+    let less = p.after_shorter in
+    let sorted = p.after_sorted in
     let rises = m.later_sorted in
     search (rules, arith, less, sorted, rises)
 
 pub returns : goal.returns
 returns g t c =
     let fork = c.in-Some.fork.now in
-    let p = parted g.met.K.Ord.total c.args.self.now fork.before fork.kept fork.behind c.in-Some.ensures
+    let p = parted g.met.K.Ord.total c.args.self.now fork.before fork.kept fork.after c.in-Some.ensures
     c.requires.row in
-    let m = made g.met.K.Ord.total c.args.self.now fork.before fork.kept fork.behind c.args.changes.now
+    let m = made g.met.K.Ord.total c.args.self.now fork.before fork.kept fork.after c.args.changes.now
     c.divided.result.0.now (option_copied c.divided.result.1) c.divided.result.2.now p c.requires.changes
     c.divided.ensures in
     IfOk-weaker c.joined.result _ _ (λ tree is. is
-    ∙ (λ i. c.in_ok-before.ensures i ++ between (option_copied c.divided.result.1) (c.in_ok-behind.ensures i))
+    ∙ (λ i. c.in_ok-before.ensures i ++ between (option_copied c.divided.result.1) (c.in_ok-after.ensures i))
     ∙ m.same) c.joined.ensures

@@ -1,7 +1,6 @@
-use Rattle.std.proofs.Common.{rules, ◌≡◌, List, sym, ap, ◌∙◌}
-use Rattle.ledger_types.specs.declared.signer.Signer.{Signer}
+use Rattle.signer_check.proofs.Prelude.{rules, ◌≡◌, List, sym, ap, ◌∙◌, Signer, Counted, counted, reaches}
+use Rattle.signer_check.proofs.Prelude.{until_reached, used_for}
 use Rattle.signer_check.specs.Checks.{Checks}
-use Rattle.signer_check.specs.Weight.{Counted, counted, reaches, until_reached, used_for}
 use Rattle.signer_check.proofs.Own.{own_never_counts}
 use Rattle.signer_check.proofs.checker.Checker.check.Goals as goal
 

@@ -1,0 +1,41 @@
+-- Names that several proofs of this crate use.
+use Rattle.xdr_core.proofs.Prelude as lower
+pub use lower.{Err, Fields, Fits-lt-pow, Format, IsBytes, List, Ok, Position, Reading, Some, Takes, Xdr, [], ap}
+pub use lower.{append-nil, append_assoc, arith, big_bytes, cast_unsigned, closed, drop, drop_at, extension_of, length}
+pub use lower.{length-append, list_of, marked, number, optional, padding_len, pos, refl, replicate, struct_of, subst}
+pub use lower.{suc, sym, tag, take, take_at, to_z-of_z, w32, zero, ℕ, ℤ, ◌++◌, ◌+◌, ◌<◌, ◌>>=◌, ◌^◌, ◌∙◌, ◌∷◌, ◌≡◌, ◌≤◌}
+pub use lower.{◌⨾◌}
+unfoldable pub use lower.{fixed, i32, i64, mark, u32, var}
+pub use Rattle.std.proofs.Common.{get_or, negsuc, of_z, slice_index, to_z, w8, ◌%◌, ◌*◌, ◌/◌}
+pub use Rattle.std.specs.Int.{byte_at, bytes_high_first}
+pub use Rattle.std.specs.Ordering.{MatchOrdering, nat_cmp, ordering_then}
+pub use Rattle.std.specs.Prelude.{IsSomeAnd, None, Option, Result}
+pub use Rattle.std.specs.declared.cmp.Ordering.{Ordering}
+pub use Rattle.bucket_items.specs.Item.{IsItemText, Shows, ended, ended_by, entire_at, item_key_text, item_type}
+pub use Rattle.bucket_items.specs.Item.{type_with}
+pub use Rattle.bucket_items.specs.KeyRef.{key_seen}
+pub use Rattle.bucket_items.specs.KeyText.{AreByBytes, IsKeyText}
+pub use Rattle.bucket_items.specs.MarkedItem.{IsEncodable, TakesItem, after_mark, item_at, item_in, max_item_len}
+pub use Rattle.bucket_items.specs.MarkedItem.{record_of}
+pub use Rattle.ledger_types.specs.KeyOrder.{account_cmp, bytes_cmp, hash_cmp, key_cmp, key_kind, line_cmp}
+pub use Rattle.ledger_types.specs.Keys.{key_of, key_of_body}
+pub use Rattle.ledger_types.specs.declared.asset.TrustLineAsset.{TrustLineAsset}
+pub use Rattle.ledger_types.specs.declared.bucket.BucketEntry.{BucketEntry}
+pub use Rattle.ledger_types.specs.declared.entry.LedgerEntry.{LedgerEntry}
+pub use Rattle.ledger_types.specs.declared.ids.AccountId.{AccountId}
+pub use Rattle.ledger_types.specs.declared.key.LedgerKey.{LedgerKey}
+pub use Rattle.xdr_core.proofs.Marks.{mark_is_read, mark_lawful, marked_leaves}
+pub use Rattle.xdr_core.proofs.Numbers.{IsWide, wide4}
+pub use Rattle.xdr_core.specs.Position.{start_of}
+pub use Rattle.xdr_core.specs.declared.fault.XdrFault.{XdrFault}
+pub use Rattle.xdr_entries.proofs.KeyLaws.{bucket_entry_laws, ledger_key_laws}
+pub use Rattle.xdr_entries.specs.Basic.{account_id_fields, balance_id_fields, hash_fields}
+unfoldable pub use Rattle.xdr_entries.specs.Basic.{account_id, asset, claimable_balance_id, hash, pool_params, price}
+unfoldable pub use Rattle.xdr_entries.specs.Basic.{trust_line_asset}
+pub use Rattle.xdr_entries.specs.Entries.{account_fields, balance_fields, data_fields, line_fields, offer_fields}
+pub use Rattle.xdr_entries.specs.Entries.{pool_fields}
+unfoldable pub use Rattle.xdr_entries.specs.Entries.{account_entry, account_head, account_tail, claimable_balance_entry}
+unfoldable pub use Rattle.xdr_entries.specs.Entries.{claimable_balance_extension_v1, claimant, data_entry, ledger_entry}
+unfoldable pub use Rattle.xdr_entries.specs.Entries.{ledger_entry_body, ledger_entry_extension_v1, liquidity_pool_entry}
+unfoldable pub use Rattle.xdr_entries.specs.Entries.{offer_entry, trust_line_entry, trust_line_extension_v1}
+unfoldable pub use Rattle.xdr_entries.specs.Keys.{bucket_entry, ledger_key}

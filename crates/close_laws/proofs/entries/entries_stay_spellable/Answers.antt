@@ -1,7 +1,0 @@
-use Rattle.close_laws.proofs.NextEntries.{entries_stay_spellable}
-use Rattle.close_laws.proofs.entries.entries_stay_spellable.Goals as goal
-
-pub returns : goal.returns
-returns c =
-    entries_stay_spellable c.transaction_laws.ensures c.legal_settles.ensures c.settled_legal.ensures
-    c.sets_conserve.ensures

@@ -1,5 +1,0 @@
-use Rattle.close_laws.proofs.SetResults.{results_are_spelled}
-use Rattle.close_laws.proofs.results.results_are_spelled.Goals as goal
-
-pub returns : goal.returns
-returns c = results_are_spelled c.transaction_laws.ensures c.legal_settles.ensures

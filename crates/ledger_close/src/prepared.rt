@@ -1,0 +1,62 @@
+//! A prepared close: what the ledger takes when it is installed.
+
+ghost use Rattle.std.specs.Prelude.{◌≡◌};
+ghost use Rattle.value_hashes.specs.Hashes.{ledger_hash_of};
+
+use bucket_levels::LevelStep;
+use entry_table::EntryTable;
+use ledger_types::{Hash, LedgerHeader};
+use op_types::TransactionResultSet;
+use std::marker::Model;
+
+/// A close that is made and not yet taken: its results, and the state after it. Contracts see these.
+#[derive(Drop)]
+pub struct Prepared {
+    pub(crate) network: Hash,
+    pub(crate) results: TransactionResultSet,
+    pub(crate) header: LedgerHeader,
+    // The hash of the header.
+    pub(crate) digest: Hash,
+    pub(crate) entries: EntryTable,
+    pub(crate) step: LevelStep,
+}
+
+impl Model for Prepared {
+    ghost use Rattle.close_rules.specs.Close.{PreparedClose};
+    ghost use Rattle.close_rules.specs.Images.{state_of};
+    ghost use Rattle.ledger_close.specs.States.{closed_code, IsReady};
+
+    ghost Value = { PreparedClose };
+
+    ghost coded = { closed_code };
+
+    ghost view = { λ p. record {
+      results = p.results.results;
+      state = state_of p.network p.header p.step.pairs p.entries;
+    } };
+
+    ghost invariant = { λ p. IsReady p.digest p.header p.step };
+}
+
+impl Prepared {
+    /// The header after the close.
+    pub fn header(&self) -> &LedgerHeader
+        ensures { result.now ≡ self.now.state.header }
+    {
+        &self.header
+    }
+
+    /// The hash of that header, SHA-256 (FIPS 180-4) of its XDR.
+    pub fn header_hash(&self) -> Hash
+        ensures { result ≡ ledger_hash_of self.now.state.header }
+    {
+        self.digest
+    }
+
+    /// The results of the set, in the order in which its transactions were applied.
+    pub fn results(&self) -> &TransactionResultSet
+        ensures { result.now.results ≡ self.now.results }
+    {
+        &self.results
+    }
+}

@@ -1,5 +1,0 @@
-use Rattle.legal_rules.proofs.whole_states.bounds_are_rounded.Goals as goal
-use Rattle.legal_rules.proofs.Rounded.{bounds_are_rounded}
-
-pub returns : goal.returns
-returns c = bounds_are_rounded

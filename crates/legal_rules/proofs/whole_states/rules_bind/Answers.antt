@@ -1,5 +1,0 @@
-use Rattle.legal_rules.proofs.whole_states.rules_bind.Goals as goal
-use Rattle.legal_rules.proofs.Breaking.{rules_bind}
-
-pub returns : goal.returns
-returns c = rules_bind

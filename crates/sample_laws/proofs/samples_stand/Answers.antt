@@ -1,7 +1,0 @@
-use Rattle.sample_laws.proofs.GoingOn.{samples_stand}
-use Rattle.sample_laws.proofs.samples_stand.Goals as goal
-
-pub returns : goal.returns
-returns c =
-    samples_stand c.first_states_close.ensures c.records_are_written.ensures c.taken_is_closable.ensures
-    c.next_is_closing.ensures c.closes_keep_accounts.ensures

@@ -1,0 +1,45 @@
+-- What an envelope that has an encoding says of its transaction.
+use Rattle.tx_apply.proofs.Prelude.{◌≤◌, length, list, Transaction, TransactionV0, TransactionV0Envelope}
+use Rattle.tx_apply.proofs.Prelude.{TransactionV1Envelope, FeeBumpTransactionEnvelope, TransactionEnvelope}
+use Rattle.tx_apply.proofs.Prelude.{after_source, transaction, transaction_v1_envelope, fee_bump_transaction}
+use Rattle.tx_apply.proofs.Prelude.{fee_bump_envelope, transaction_v0, transaction_v0_envelope, transaction_envelope}
+use Rattle.tx_apply.proofs.Prelude.{operations_of}
+use Rattle.op_types.specs.declared.transaction.TransactionEnvelope.TheVariants as envelope
+
+-- at most 100 operations
+few_operations : (tx : Transaction) → transaction.within tx → length tx.operations ≤ 100
+unfolding transaction after_source list
+few_operations tx within = within.1.1.1.1.1.0.0
+
+pub few_of_v1 : (signed : TransactionV1Envelope) → transaction_v1_envelope.within signed
+    → length signed.tx.operations ≤ 100
+unfolding transaction_v1_envelope
+few_of_v1 signed within = few_operations signed.tx within.0
+
+-- the inner transaction of a fee bump has an encoding
+inner_within_by : (signed : FeeBumpTransactionEnvelope) → fee_bump_transaction.within signed.tx
+    → transaction_v1_envelope.within signed.tx.inner_tx
+unfolding fee_bump_transaction
+inner_within_by signed within = within.1.1.0.1
+
+pub inner_within : (signed : FeeBumpTransactionEnvelope) → fee_bump_envelope.within signed
+    → transaction_v1_envelope.within signed.tx.inner_tx
+unfolding fee_bump_envelope
+inner_within signed within = inner_within_by signed within.0
+
+-- ---- any envelope
+
+few_of_v0 : (tx : TransactionV0) → transaction_v0.within tx → length tx.operations ≤ 100
+unfolding transaction_v0 after_source list
+few_of_v0 tx within = within.1.1.1.1.1.0.0
+
+few_of_v0_envelope : (signed : TransactionV0Envelope) → transaction_v0_envelope.within signed
+    → length signed.tx.operations ≤ 100
+unfolding transaction_v0_envelope
+few_of_v0_envelope signed within = few_of_v0 signed.tx within.0
+
+pub few_of : (entire : TransactionEnvelope) → transaction_envelope.within entire → length (operations_of entire) ≤ 100
+unfolding transaction_envelope
+few_of (envelope.V0 signed) within = few_of_v0_envelope signed within
+few_of (envelope.V1 signed) within = few_of_v1 signed within
+few_of (envelope.FeeBump signed) within = few_of_v1 signed.tx.inner_tx (inner_within signed within)

@@ -7,8 +7,9 @@ leaves in its store with what it has to be.
 Where no program is named, these are crates/ledger/out/ledger, built by LLVM, and crates/ledger/out/ledger.by-rattle, built by
 Rattle's own compiler; one that is missing is proved and built by `rt run`. A C compiler (cc) makes the shim that has calls of the C
 library fail. Before the runs it looks whether each wrong body of `wrong_bodies/` and each must-fail edit still applies, whether
-crates.txt lists just what each crate names, and whether what scripts write is up to date. The last line is `N passed, M failed`, and
-the exit status is 1 where anything failed, 2 where the tests can't be run.
+crates.txt lists just what each crate names, whether what scripts write is up to date, and whether the tool in `tools/` reads and
+copies files as they are. The last line is `N passed, M failed`, and the exit status is 1 where anything failed, 2 where the tests
+can't be run.
 
 Python 3.9 or later and its standard library; Linux.
 """
@@ -26,6 +27,8 @@ from typing import Callable, List, Tuple
 
 import applies
 import beside
+import bridge
+import bridge_made
 import cases
 import crate_list
 import generated
@@ -79,6 +82,7 @@ def built(name: str, words: List[str]) -> str:
 def jobs_of(program: Program) -> List[Job]:
     """What is to be tried of a program, longest first."""
     parts = [(module.check, (program, part)) for module in (beside, stops, words) for part in module.PARTS]
+    parts += [(bridge_made.check_program, (program, part)) for part in bridge_made.PARTS]
     return parts + [(cases.check, (program, name)) for name in cases.names()]
 
 
@@ -108,7 +112,7 @@ def main() -> None:
     asked = reader.parse_args()
     total = Tally()
     if not asked.only:
-        for check in (applies.check, crate_list.check, generated.check):
+        for check in (applies.check, crate_list.check, generated.check, bridge.check, bridge_made.check):
             total.add(check(TOP))
     with tempfile.TemporaryDirectory(prefix="ledger-shim-") as folder:
         shim = compiled_shim(folder)

@@ -124,7 +124,7 @@ install_closes s old new sound i = record {
   network = i.closes.network;
   entries = i.closes.entries;
   fresh = i.closes.fresh;
-  reported = i.closes.reported;
+  recorded = i.closes.recorded;
   levels = (levelled old new old.state.header.ledger_seq i.closes.fresh i.closed.state.levels sound.files
       i.closes.levels).step;
   header = i.closes.header;

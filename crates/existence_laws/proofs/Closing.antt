@@ -35,7 +35,7 @@ some_closed next_legal s closing can =
         network = refl;
         entries = next.1;
         fresh = fresh.0;
-        shown = record { meta = fresh.1; changes = fresh.2 };
+        recorded = record { meta = fresh.1; changes = fresh.2 };
         levels = step.1;
         header = refl;
       },

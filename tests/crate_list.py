@@ -1,11 +1,9 @@
-"""Whether crates.txt lists for each crate the crates that its files name, and no other but libraries of the toolchain whose names
-come through the prelude of a lower crate."""
+"""Whether crates.txt lists for each crate the crates that its files name, and no other."""
 
 from __future__ import annotations
 
 import os
 import re
-from functools import lru_cache
 from typing import Dict, List, Set
 
 from harness import Tally
@@ -41,37 +39,12 @@ def named(text: str, crates: Set[str]) -> Set[str]:
     return set(heads) & crates
 
 
-def prelude(top: str, crate: str) -> str:
-    """What a crate's prelude passes on, or nothing where it has none."""
-    path = f"{top}/crates/{crate}/proofs/Prelude.antt"
-    if not os.path.isfile(path):
-        return ""
-    with open(path, encoding="utf-8") as file:
-        return file.read()
-
-
-@lru_cache(maxsize=None)
-def passed_on(top: str, crate: str) -> Dict[str, str]:
-    """The names of a crate's prelude, each with the library that it comes from, through the preludes below it."""
-    text, origins = prelude(top, crate), {}
-    paths = {alias: path for path, alias in re.findall(r"(?m)^use (Rattle\S+) as (\w+)$", text)}
-    for head, names in re.findall(r"(?m)^(?:unfoldable )?pub use ([\w.]+)\.\{(.*)\}$", text):
-        parts = paths.get(head, head).split(".")
-        is_prelude = parts[0] == "Rattle" and parts[-1] == "Prelude" and "proofs" in parts
-        below = passed_on(top, re.sub("_proofs$", "", parts[-2]) if parts[-2] != "proofs" else parts[1]) if is_prelude else {}
-        for name in names.split(", "):
-            origins[name] = below.get(name, parts[1] if parts[0] == "Rattle" else "")
-    return origins
-
-
 def check(top: str) -> Tally:
     tally, lines = Tally(), listed(top)
     libraries = {crate for crate in lines if os.path.isfile(f"{top}/crates/{crate}/src/lib.rt")}
     known = libraries | {name for names in lines.values() for name in names}
     for crate, names in lines.items():
         used = named(text_of(f"{top}/crates/{crate}"), known) - {crate}
-        # a library of the toolchain may be listed where its names come through the prelude of a lower crate alone
-        through = set(passed_on(top, crate).values()) - libraries
-        lacks, needless = sorted(used - set(names)), sorted(set(names) - used - through)
+        lacks, needless = sorted(used - set(names)), sorted(set(names) - used)
         tally.check("crates.txt lists what a crate names", not lacks + needless, f"{crate}: lacks {lacks}, needn't list {needless}")
     return tally

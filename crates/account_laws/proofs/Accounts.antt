@@ -3,8 +3,9 @@
 use Rattle.account_laws.proofs.Prelude.{List, None, Ok, Option, Some, [], is_some, nat_eq, not, pos, ℕ, ◌∷◌, get}
 use Rattle.account_laws.proofs.Prelude.{int_lt, AccountEntry, DataEntry, AccountId, LedgerKey, Signer, SignerKey}
 use Rattle.account_laws.proofs.Prelude.{NoAccount, EntryMap, account_at, data_at, Ctx, FoundSigner, map_after_adding}
-use Rattle.account_laws.proofs.Prelude.{map_after_moving, open_sponsor, found_signer, map_after_adding_signer}
-use Rattle.account_laws.proofs.Prelude.{map_after_moving_signer, map_after_removing_signer, if_either}
+use Rattle.account_laws.proofs.Prelude.{open_sponsor, found_signer, map_after_adding_signer, map_after_moving_signer}
+use Rattle.account_laws.proofs.Prelude.{map_after_removing_signer, if_either}
+use Rattle.close_laws.specs.sponsor_rules.Moving.{map_after_moving}
 use Rattle.close_laws.specs.ledger_types.declared.key.LedgerKey.TheVariants as key
 use Rattle.close_laws.specs.op_types.declared.account_ops.BumpSequenceOp.{BumpSequenceOp}
 use Rattle.close_laws.specs.op_types.declared.account_ops.CreateAccountOp.{CreateAccountOp}

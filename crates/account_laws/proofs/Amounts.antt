@@ -1,9 +1,11 @@
 -- Amounts that are given and taken, and liabilities that are bound and released, keep each account that existed.
-use Rattle.account_laws.proofs.Prelude.{Bool, None, Ok, Option, Some, false, if◌then◌else◌, true, ok_or, ℤ}
-use Rattle.account_laws.proofs.Prelude.{AccountEntry, Asset, TrustLineAsset, AccountId, LedgerKey, OfferEntry}
-use Rattle.account_laws.proofs.Prelude.{TrustLineEntry, EntryMap, account_at, line_at, Ctx, acquiring, binding}
-use Rattle.account_laws.proofs.Prelude.{bound_account, bound_line, releasing, paid, holder, map_after_cancelling}
-use Rattle.account_laws.proofs.Prelude.{offer_key, line_paid, paying, is_issued_by, line_asset_of, if_either}
+use Rattle.account_laws.proofs.Prelude.{Bool, None, Ok, Option, Some, false, if◌then◌else◌, true, ℤ, AccountEntry}
+use Rattle.account_laws.proofs.Prelude.{Asset, TrustLineAsset, AccountId, LedgerKey, OfferEntry, TrustLineEntry}
+use Rattle.account_laws.proofs.Prelude.{EntryMap, account_at, line_at, Ctx, acquiring, binding, bound_account}
+use Rattle.account_laws.proofs.Prelude.{bound_line, releasing, paid, holder, map_after_cancelling, offer_key}
+use Rattle.account_laws.proofs.Prelude.{is_issued_by, line_asset_of, if_either}
+use Rattle.std.specs.Option.{ok_or}
+use Rattle.close_laws.specs.trade_cross.Holdings.{line_paid, paying}
 use Rattle.close_laws.specs.ledger_types.declared.asset.Asset.TheVariants as asset
 use Rattle.close_laws.specs.ledger_types.declared.key.LedgerKey.TheVariants as key
 use Rattle.close_laws.specs.op_form.Amounts as amounts

@@ -1,11 +1,11 @@
 -- Changes of entries that keep each account that existed: entries that are put or changed, and entries of other
 -- kinds that are erased.
-use Rattle.account_laws.proofs.Prelude.{List, None, Option, Some, ℕ, ◌≢◌, get, ℤ, AccountEntry, TrustLineAsset}
-use Rattle.account_laws.proofs.Prelude.{DataEntry, LedgerEntry, LedgerEntryBody, AccountId, Hash, LedgerKey}
-use Rattle.account_laws.proofs.Prelude.{LiquidityPoolEntry, OfferEntry, TrustLineEntry, EntryMap, erase, put}
-use Rattle.account_laws.proofs.Prelude.{with_account, with_account_in, with_account_of, with_data, with_data_in}
-use Rattle.account_laws.proofs.Prelude.{with_data_of, with_line, with_line_in, with_line_of, with_offer, with_offer_in}
-use Rattle.account_laws.proofs.Prelude.{with_offer_of, with_pool, with_pool_in, with_pool_of, DoAccountsExist}
+use Rattle.account_laws.proofs.Prelude as prelude
+use prelude.{List, None, Option, Some, ℕ, ◌≢◌, get, ℤ, AccountEntry, TrustLineAsset, DataEntry, LedgerEntry}
+use prelude.{LedgerEntryBody, AccountId, Hash, LedgerKey, LiquidityPoolEntry, OfferEntry, TrustLineEntry, EntryMap}
+use prelude.{erase, put, with_account, with_account_in, with_account_of, with_data, with_data_in, with_data_of}
+use prelude.{with_line, with_line_in, with_line_of, with_pool, with_pool_in, with_pool_of, DoAccountsExist}
+use Rattle.close_laws.specs.entry_slots.Offers.{with_offer, with_offer_in, with_offer_of}
 use Rattle.close_laws.specs.ledger_types.declared.entry.LedgerEntryBody.TheVariants as body
 use Rattle.close_laws.specs.ledger_types.declared.key.LedgerKey.TheVariants as key
 use Rattle.close_laws.proofs.sponsor_laws_proofs.Settling.{exists_erased, exists_put}

@@ -1,10 +1,13 @@
 -- Flags of lines that issuers change, and what goes with an authorisation, keep each account that existed.
-use Rattle.account_laws.proofs.Prelude as prelude
-use prelude.{Bool, List, None, Option, Some, [], false, is_some, pos, suc, true, zero, ℕ, ◌∷◌, filter, neg_ℤ, Asset}
-use prelude.{AccountId, Hash, LiquidityPoolEntry, OfferEntry, TrustLineEntry, OperationResult, NoAccount, NotSupported}
-use prelude.{EntryMap, account_at, balance_at, line_at, pool_at, Ctx, map_after_adding, offers_by, map_after_cancelling}
-use prelude.{part_of, is_issued_by, line_asset_of, line_of_asset, Given, Revoked, map_after_cancelling_all}
-use prelude.{map_without_offers, trades_in, if_either}
+use Rattle.account_laws.proofs.Prelude.{Bool, List, None, Option, Some, [], false, is_some, pos, suc, true, zero, ℕ}
+use Rattle.account_laws.proofs.Prelude.{◌∷◌, neg_ℤ, Asset, AccountId, Hash, LiquidityPoolEntry, OfferEntry}
+use Rattle.account_laws.proofs.Prelude.{TrustLineEntry, OperationResult, NoAccount, NotSupported, EntryMap, account_at}
+use Rattle.account_laws.proofs.Prelude.{balance_at, line_at, pool_at, Ctx, map_after_adding, map_after_cancelling}
+use Rattle.account_laws.proofs.Prelude.{part_of, is_issued_by, line_asset_of, line_of_asset, if_either}
+use Rattle.std.specs.List.{filter}
+use Rattle.close_laws.specs.offer_book.Book.{offers_by}
+use Rattle.close_laws.specs.op_flags.RevokedShares.{Given, Revoked}
+use Rattle.close_laws.specs.op_flags.Revoking.{map_after_cancelling_all, map_without_offers, trades_in}
 use Rattle.close_laws.specs.ledger_types.declared.asset.TrustLineAsset.TheVariants as line
 use Rattle.close_laws.specs.op_types.declared.trust_ops.AllowTrustOp.{AllowTrustOp}
 use Rattle.close_laws.specs.op_types.declared.trust_ops.SetTrustLineFlagsOp.{SetTrustLineFlagsOp}

@@ -11,4 +11,4 @@ pub mod Accounts
 pub mod Payments
 pub mod Operations
 pub mod Sets
-pub mod Prelude
+mod Prelude

@@ -3,8 +3,7 @@ use Rattle.account_laws.proofs.Prelude as prelude
 use prelude.{Err, None, Ok, Option, Result, Some, if◌then◌else◌, pos, suc, zero, ℕ, ◌+◌, get, int_eq, neg_ℤ}
 use prelude.{LedgerEntry, LedgerEntryBody, AccountId, OfferEntry, EntryMap, sponsor_of, first_fault, unless_fault, Ctx}
 use prelude.{AddFault, map_after_counting_subentry, holder, CrossEnd, CrossSelf, TooMany, Trade, map_after_cancelling}
-use prelude.{converted, offer_key, is_malformed, Answer, attempt_of_managed, Asked, Sold, map_after_keeping}
-use prelude.{map_without_offer, offer_left, settled, sold, source_gives_at, source_takes_at, trade_of, if_either}
+use prelude.{converted, offer_key, is_malformed, Answer, attempt_of_managed, if_either}
 use Rattle.close_laws.specs.ledger_types.declared.entry.LedgerEntryBody.TheVariants as body
 use Rattle.close_laws.specs.ledger_types.declared.key.LedgerKey.TheVariants as key
 use Rattle.close_laws.specs.op_offers.declared.ask.Ask.{Ask}
@@ -15,8 +14,9 @@ use Rattle.close_laws.specs.op_offers.Managing.{made, managed}
 use Rattle.close_laws.specs.op_offers.Managing.{managed_at, managed_old, new_asked, of_sold, old_asked, sell_fault}
 use Rattle.close_laws.specs.op_offers.Managing.{unless_lines}
 use Rattle.close_laws.specs.op_offers.Managing.{unless_some, with_reserve}
-use Rattle.close_laws.specs.op_offers.Selling.{after_tests, by_end, crossed_by, left_of}
-use Rattle.close_laws.specs.op_offers.Selling.{wanted_tests}
+use Rattle.close_laws.specs.op_offers.Selling.{after_tests, by_end, crossed_by, left_of, wanted_tests, Asked, Sold}
+use Rattle.close_laws.specs.op_offers.Selling.{map_after_keeping, map_without_offer, offer_left, settled, sold}
+use Rattle.close_laws.specs.op_offers.Selling.{source_gives_at, source_takes_at, trade_of}
 use Rattle.account_laws.proofs.Amounts.{acquiring_keeps, cancelling_keeps, paying_keeps, releasing_offer_keeps}
 use Rattle.account_laws.proofs.Sponsored.{counting_keeps, discounting_keeps}
 use Rattle.account_laws.proofs.Existing.{Keeps, erase_keeps, put_keeps}

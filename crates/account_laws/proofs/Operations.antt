@@ -1,9 +1,15 @@
 -- An operation that isn't ACCOUNT_MERGE keeps each account that existed.
-use Rattle.account_laws.proofs.Prelude.{false, ◌≡◌, EntryMap, Ctx, account_operation, options_operation}
-use Rattle.account_laws.proofs.Prelude.{payment_operation, change_trust, trust_operation, ask_passively, ask_to_buy}
-use Rattle.account_laws.proofs.Prelude.{ask_to_sell, answer_of, attempt_of, offers_operation, flags_operation}
-use Rattle.account_laws.proofs.Prelude.{claim_operation, pool_operation, sponsor_operation, any_operation}
+use Rattle.account_laws.proofs.Prelude.{false, ◌≡◌, EntryMap, Ctx, change_trust, trust_operation, ask_passively}
+use Rattle.account_laws.proofs.Prelude.{ask_to_buy, ask_to_sell, answer_of, attempt_of, offers_operation}
 use Rattle.account_laws.proofs.Prelude.{OperationsKeepAccounts, is_merge}
+use Rattle.close_laws.specs.op_account.Operations.{account_operation}
+use Rattle.close_laws.specs.op_options.Operations.{options_operation}
+use Rattle.close_laws.specs.op_payment.Operations.{payment_operation}
+use Rattle.close_laws.specs.op_flags.Operations.{flags_operation}
+use Rattle.close_laws.specs.op_claim.Operations.{claim_operation}
+use Rattle.close_laws.specs.op_pool.Operations.{pool_operation}
+use Rattle.close_laws.specs.op_sponsor.Operations.{sponsor_operation}
+use Rattle.close_laws.specs.op_laws.AnyOperation.{any_operation}
 use Rattle.close_laws.specs.op_types.declared.operation.OperationBody.{OperationBody}
 use Rattle.close_laws.specs.op_types.declared.operation.OperationBody.TheVariants as body
 use Rattle.close_laws.specs.op_account.BumpSequence.{bump_sequence}

@@ -1,8 +1,9 @@
 -- Payments, also along paths, claimable balances and clawbacks keep each account that existed.
-use Rattle.account_laws.proofs.Prelude.{Err, Ok, Result, [], is_some, pos, ◌∷◌, account_of, NotSupported, EntryMap}
-use Rattle.account_laws.proofs.Prelude.{balance_at, Ctx, map_after_adding, map_after_removing, map_after_credit}
-use Rattle.account_laws.proofs.Prelude.{map_after_debit, line_asset_of, line_of_asset, Attempt, unless_refused}
+use Rattle.account_laws.proofs.Prelude.{Err, Ok, Result, [], is_some, pos, ◌∷◌, NotSupported, EntryMap, balance_at, Ctx}
+use Rattle.account_laws.proofs.Prelude.{map_after_adding, line_asset_of, line_of_asset, Attempt, unless_refused}
 use Rattle.account_laws.proofs.Prelude.{PathFault, Carried, received, sent, set_out, if_either}
+use Rattle.close_laws.specs.ledger_types.Ids.{account_of}
+use Rattle.close_laws.specs.sponsor_rules.Removing.{map_after_removing}
 use Rattle.close_laws.specs.ledger_types.declared.key.LedgerKey.TheVariants as key
 use Rattle.close_laws.specs.op_types.declared.balance_ops.ClaimClaimableBalanceOp.{ClaimClaimableBalanceOp}
 use Rattle.close_laws.specs.op_types.declared.balance_ops.ClawbackClaimableBalanceOp.{ClawbackClaimableBalanceOp}
@@ -15,7 +16,7 @@ use Rattle.close_laws.specs.op_types.declared.payment_ops.PathPaymentStrictSendO
 use Rattle.close_laws.specs.op_types.declared.payment_ops.PaymentOp.{PaymentOp}
 use Rattle.close_laws.specs.op_types.declared.trust_ops.ClawbackOp.{ClawbackOp}
 use Rattle.close_laws.specs.op_types.declared.trust_results.ClawbackResult.TheVariants as claw
-use Rattle.close_laws.specs.op_form.Amounts.{with_less}
+use Rattle.close_laws.specs.op_form.Amounts.{with_less, map_after_credit, map_after_debit}
 use Rattle.close_laws.specs.op_payment.PathReceive as receiving
 use Rattle.close_laws.specs.op_payment.PathSend as sending
 use Rattle.close_laws.specs.op_payment.Payment as paying

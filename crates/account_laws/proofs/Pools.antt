@@ -1,9 +1,10 @@
 -- Pools and lines of their shares, which come, change and go, keep each account that existed.
 use Rattle.account_laws.proofs.Prelude as prelude
 use prelude.{None, Option, Some, pos, ℕ, neg_ℤ, ℤ, PoolParams, AccountId, Hash, LedgerKey, LiquidityPoolEntry, EntryMap}
-use prelude.{erase, line_at, pool_at, Ctx, new_pool, needed_line, map_with_share_lines, map_with_uses_at, with_lines}
-use prelude.{with_uses, holder, empty_pool, has_no_line, map_with_pool_by, map_without_bare_pool}
-use prelude.{map_without_share_line, map_with_shares, part_of, share_key, with_change, if_either}
+use prelude.{erase, line_at, pool_at, Ctx, needed_line, map_with_share_lines, map_with_uses_at, with_lines, with_uses}
+use prelude.{holder, empty_pool, has_no_line, map_with_pool_by, map_without_bare_pool, map_without_share_line}
+use prelude.{map_with_shares, part_of, share_key, with_change, if_either}
+use Rattle.close_laws.specs.legal_rules.PoolLaws.{new_pool}
 use Rattle.close_laws.specs.ledger_types.declared.asset.TrustLineAsset.TheVariants as line
 use Rattle.close_laws.specs.ledger_types.declared.key.LedgerKey.TheVariants as key
 use Rattle.close_laws.specs.op_types.declared.pool_ops.LiquidityPoolDepositOp.{LiquidityPoolDepositOp}

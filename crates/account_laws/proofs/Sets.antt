@@ -1,13 +1,20 @@
 -- A set without ACCOUNT_MERGE keeps each account that existed, and so does a close.
-use Rattle.account_laws.proofs.Prelude as prelude
-use prelude.{All, Bool, List, None, Option, Some, [], ap, false, if◌then◌else◌, length, nat_eq, not, sym, true, ℕ, ◌+◌}
-use prelude.{◌∙◌, ◌∷◌, ◌≡◌, All-head, All-tail, get, neg_ℤ, ℤ, AccountEntry, LedgerEntry, AccountId, Hash}
-use prelude.{signed_hash_of, transaction_hash_of, EntryMap, account_at, account_in, first_fault, Ctx}
-use prelude.{map_after_removing_preauth, numbered, paid, apply_order_of, fee_of, fees_taken, map_after_fee}
-use prelude.{operations_of, Ran, done_at, done_by, inserted, run, Setting, all_applied, all_held, ctx_in}
-use prelude.{envelope_applied, envelopes_in_order, fees_taken_of, set_done, Auth, are_used, auth_of, source_of, all_at}
-use prelude.{applied_in, setting_in, ClosesKeepAccounts, DoAccountsExist, MergesNone, SetsKeepAccounts, is_merge}
-use prelude.{if_either}
+use Rattle.account_laws.proofs.Prelude.{All, Bool, List, None, Option, Some, [], ap, false, if◌then◌else◌, length}
+use Rattle.account_laws.proofs.Prelude.{nat_eq, not, sym, true, ℕ, ◌+◌, ◌∙◌, ◌∷◌, ◌≡◌, get, neg_ℤ, ℤ, AccountEntry}
+use Rattle.account_laws.proofs.Prelude.{LedgerEntry, AccountId, Hash, EntryMap, account_at, account_in, first_fault}
+use Rattle.account_laws.proofs.Prelude.{Ctx, map_after_removing_preauth, numbered, paid, ClosesKeepAccounts}
+use Rattle.account_laws.proofs.Prelude.{DoAccountsExist, MergesNone, SetsKeepAccounts, is_merge, if_either}
+use Rattle.std.proofs.lemmas.List.Elements.{All-head, All-tail}
+use Rattle.close_laws.specs.value_hashes.Hashes.{signed_hash_of, transaction_hash_of}
+use Rattle.close_laws.specs.fee_rules.Turns.{apply_order_of}
+use Rattle.close_laws.specs.tx_apply.Fees.{fee_of, fees_taken, map_after_fee}
+use Rattle.close_laws.specs.tx_apply.Operations.{operations_of}
+use Rattle.close_laws.specs.tx_apply.Running.{Ran, done_at, done_by, inserted, run}
+use Rattle.close_laws.specs.tx_apply.Set.{Setting, all_applied, all_held, ctx_in, envelope_applied, envelopes_in_order}
+use Rattle.close_laws.specs.tx_apply.Set.{fees_taken_of, set_done}
+use Rattle.close_laws.specs.tx_apply.Signing.{Auth, are_used, auth_of, source_of}
+use Rattle.close_laws.proofs.tx_apply_proofs.Conserving.{all_at}
+use Rattle.close_laws.specs.close_rules.Close.{applied_in, setting_in}
 use Rattle.close_laws.specs.ledger_types.declared.key.LedgerKey.TheVariants as key
 use Rattle.close_laws.specs.ledger_types.declared.signer.SignerKey.TheVariants.{PreAuthTx}
 use Rattle.close_laws.specs.op_types.declared.operation.Operation.{Operation}

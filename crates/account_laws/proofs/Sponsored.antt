@@ -1,9 +1,12 @@
 -- Adding, removing and moving keep each account that existed, where no account is removed.
-use Rattle.account_laws.proofs.Prelude as prelude
-use prelude.{None, Option, Some, ℕ, get, AccountEntry, LedgerEntry, AccountId, LedgerKey, Signer, SignerKey, EntryMap}
-use prelude.{account_at, account_in, with_account, sponsor_of, with_sponsor, Ctx, FoundSigner, charge_of, with_less}
-use prelude.{with_more, open_sponsor, payer_of, payer_other_than, map_after_charging, map_after_exchange}
-use prelude.{map_after_releasing, with_other_payer, with_subentry, without_subentry, found_signer}
+use Rattle.account_laws.proofs.Prelude.{None, Option, Some, ℕ, get, AccountEntry, LedgerEntry, AccountId, LedgerKey}
+use Rattle.account_laws.proofs.Prelude.{Signer, SignerKey, EntryMap, account_at, account_in, with_account, sponsor_of}
+use Rattle.account_laws.proofs.Prelude.{with_sponsor, Ctx, FoundSigner, open_sponsor, payer_of, payer_other_than}
+use Rattle.account_laws.proofs.Prelude.{found_signer}
+use Rattle.close_laws.specs.sponsor_rules.Charge.{charge_of}
+use Rattle.close_laws.specs.sponsor_rules.Counting.{with_less, with_more}
+use Rattle.close_laws.specs.sponsor_rules.Paying.{map_after_charging, map_after_exchange, map_after_releasing}
+use Rattle.close_laws.specs.sponsor_rules.Paying.{with_other_payer, with_subentry, without_subentry}
 use Rattle.close_laws.specs.sponsor_rules.declared.charge.Charge.{Charge}
 use Rattle.close_laws.specs.sponsor_rules.declared.charge.Charge.TheVariants as charge
 use Rattle.close_laws.specs.sponsor_rules.declared.count.Count.TheVariants.{Sponsoring}

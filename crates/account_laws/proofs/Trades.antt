@@ -1,16 +1,17 @@
 -- Trades keep each account that existed: offers that are crossed, hops and paths.
 use Rattle.account_laws.proofs.Prelude as prelude
 use prelude.{Bool, Err, List, None, Ok, Option, Result, Some, [], false, if◌then◌else◌, pos, suc, true, zero, ℕ, ◌&&◌}
-use prelude.{◌-◌, ◌∷◌, neg_ℤ, unsigned_abs, Asset, OfferEntry, Amounts, Bounds, exchanged, wheat_stays, EntryMap, Ctx}
-use prelude.{releasing, CrossEnd, Converted, CrossSelf, TooMany, Trade, Crossing, Left, amount_at, at_limit, converted}
-use prelude.{crossed, ended, joined, left_after, left_of, map_after_rest, meeting, offer_key, seller_gives_at}
-use prelude.{seller_takes_at, step, step_by, turn, with_amount, hop, is_served, pool_of_pair, swapped, with_swap}
-use prelude.{PathFault, Carried, after_hop, and_then, by_end, carried_on, hopped, is_same_asset, needed_before}
-use prelude.{received, received_hop, receiving, sending, sent, sent_hop, if_either}
+use prelude.{◌-◌, ◌∷◌, neg_ℤ, unsigned_abs, Asset, OfferEntry, EntryMap, Ctx, releasing, CrossEnd, Converted, CrossSelf}
+use prelude.{TooMany, Trade, Crossing, Left, amount_at, at_limit, converted, crossed, ended, joined, left_after}
+use prelude.{left_of, map_after_rest, meeting, offer_key, seller_gives_at, seller_takes_at, step, step_by, turn}
+use prelude.{with_amount, PathFault, Carried, after_hop, and_then, by_end, carried_on, hopped, is_same_asset}
+use prelude.{needed_before, received, received_hop, receiving, sending, sent, sent_hop, if_either}
+use Rattle.close_laws.specs.offer_exchange.Exchange.{Amounts, Bounds, exchanged, wheat_stays}
 use Rattle.close_laws.specs.offer_exchange.declared.rounding.Rounding.{Rounding}
 use Rattle.close_laws.specs.trade_cross.declared.turn.Turn.{Turn}
 use Rattle.close_laws.specs.trade_cross.declared.turn.Turn.TheVariants.{Ends, Meets}
-use Rattle.close_laws.specs.trade_cross.Hop.{better_of, is_cheaper, swap_of}
+use Rattle.close_laws.specs.trade_cross.Hop.{better_of, is_cheaper, swap_of, hop, is_served, pool_of_pair, swapped}
+use Rattle.close_laws.specs.trade_cross.Hop.{with_swap}
 use Rattle.close_laws.specs.op_payment.declared.path_fault.PathFault.TheVariants as fault
 use Rattle.account_laws.proofs.Amounts.{acquiring_keeps, paying_keeps, releasing_offer_keeps}
 use Rattle.account_laws.proofs.Sponsored.{removing_keeps}

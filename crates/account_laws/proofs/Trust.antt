@@ -1,8 +1,9 @@
 -- CHANGE_TRUST keeps each account that existed.
 use Rattle.account_laws.proofs.Prelude.{None, Option, Some, [], is_some, not, pos, ◌+◌, ◌∷◌, int_eq, ℤ, AccountEntry}
-use Rattle.account_laws.proofs.Prelude.{Asset, PoolParams, TrustLineEntry, EntryMap, use_count, line_at, pool_at, Ctx}
+use Rattle.account_laws.proofs.Prelude.{Asset, PoolParams, TrustLineEntry, EntryMap, line_at, pool_at, Ctx}
 use Rattle.account_laws.proofs.Prelude.{map_after_adding, needed_line, share_line, map_with_pool, issuer_at}
 use Rattle.account_laws.proofs.Prelude.{line_asset_of, line_of_asset, change_trust, trust_in, if_either}
+use Rattle.close_laws.specs.entry_slots.LineExtensions.{use_count}
 use Rattle.close_laws.specs.ledger_types.declared.asset.Asset.TheVariants as asset
 use Rattle.close_laws.specs.ledger_types.declared.asset.ChangeTrustAsset.{ChangeTrustAsset}
 use Rattle.close_laws.specs.ledger_types.declared.asset.ChangeTrustAsset.TheVariants as asked

@@ -1,1 +1,1 @@
-pub mod Prelude
+mod Prelude

@@ -8,4 +8,4 @@ pub mod Walking
 pub mod Texts
 pub use Rattle.bucket_items.proofs as bucket_items_proofs
 pub use Rattle.ledger_types.proofs as ledger_types_proofs
-pub mod Prelude
+mod Prelude

@@ -1,7 +1,8 @@
 -- Where the order of big-endian numbers is that of their bytes, and that of texts goes part by part.
 use Rattle.bucket_items.proofs.Prelude.{◌≡◌, ℕ, zero, suc, ◌+◌, ◌*◌, ◌/◌, ◌%◌, ◌^◌, ◌<◌, ◌≤◌, List, [], ◌∷◌, ◌++◌}
 use Rattle.bucket_items.proofs.Prelude.{length, refl, sym, ap, ◌∙◌, arith, Ordering, nat_cmp, ordering_then}
-use Rattle.bucket_items.proofs.Prelude.{MatchOrdering, byte_at, bytes_high_first, big_bytes, bytes_cmp}
+use Rattle.bucket_items.proofs.Prelude.{MatchOrdering, byte_at, bytes_high_first, bytes_cmp}
+use Rattle.byteorder.specs.Endian.{big_bytes}
 use Rattle.std.proofs.Math.Nat.{add-mul, add_assoc, div-add-mod', mod-eq_of_lt, mod-lt, mul-add-mod_self_right}
 use Rattle.std.proofs.Math.Nat.{mul-le-mul_right, mul_assoc, one-le-pow, pow-succ', div-one}
 use Rattle.std.specs.declared.cmp.Ordering.TheVariants.{Less, Equal, Greater}

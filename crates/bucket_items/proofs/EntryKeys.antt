@@ -24,7 +24,8 @@ one_after : {A B : Type 0} (mark : ℤ) (f : Xdr A) (g : Xdr B) (v : A × B)
 one_after mark f g v = (g.encoding v.1, sym (append_assoc (i32.encoding mark) (f.encoding v.0) (g.encoding v.1)))
 
 two_after : {A B C : Type 0} (mark : ℤ) (f : Xdr A) (g : Xdr B) (h : Xdr C) (v : A × (B × C))
-    → (t : List ℕ) × (i32.encoding mark ++ (f ⨾ g ⨾ h).encoding v ≡ (i32.encoding mark ++ (f ⨾ g).encoding (v.0, v.1.0)) ++ t)
+    → (t : List ℕ) × (i32.encoding mark ++ (f ⨾ g ⨾ h).encoding v ≡ (i32.encoding mark ++ (f ⨾ g).encoding (v.0, v.1.0))
+    ++ t)
 two_after mark f g h v = (h.encoding v.1.1, simp append_assoc)
 
 -- the first part of the first of two

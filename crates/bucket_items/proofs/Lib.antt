@@ -6,4 +6,4 @@ pub mod EntryKeys
 pub mod Holding
 pub mod Marking
 pub mod RecordLaws
-pub mod Prelude
+mod Prelude

@@ -16,7 +16,8 @@ pub both_ordered : {F A B : Type 0} {f : Format F A} {g : Format F B} {C : A →
     → Ordered f C → Ordered g D → Ordered (f ⨾ g) (λ v w. ordering_then (C v.0 w.0) (D v.1 w.1))
 both_ordered {f = f} {g = g} {C = C} {D = D} a b = record {
   decides = λ v w x y wv ww sv sw.
-      (λ i. bytes_cmp (append_assoc (f.encoding v.0) (g.encoding v.1) x i) (append_assoc (f.encoding w.0) (g.encoding w.1) y i))
+      (λ i. bytes_cmp (append_assoc (f.encoding v.0) (g.encoding v.1) x i)
+      (append_assoc (f.encoding w.0) (g.encoding w.1) y i))
       ∙ a.decides v.0 w.0 (g.encoding v.1 ++ x) (g.encoding w.1 ++ y) wv.0 ww.0 sv.0 sw.0
       ∙ ap (ordering_then (C v.0 w.0)) (b.decides v.1 w.1 x y wv.1 ww.1 sv.1 sw.1)
       ∙ sym (then_assoc (C v.0 w.0) (D v.1 w.1) (bytes_cmp x y));
@@ -32,7 +33,8 @@ pub marked_ordered : {F A : Type 0} {f : Format F A} {C : A → A → Ordering} 
     → Ordered f C → Ordered (marked mark f) C
 marked_ordered {f = f} mark a = record {
   decides = λ v w x y wv ww sv sw.
-      (λ i. bytes_cmp (append_assoc (mark.encoding tt) (f.encoding v) x i) (append_assoc (mark.encoding tt) (f.encoding w) y i))
+      (λ i. bytes_cmp (append_assoc (mark.encoding tt) (f.encoding v) x i)
+      (append_assoc (mark.encoding tt) (f.encoding w) y i))
       ∙ same_prefix (mark.encoding tt) (f.encoding v ++ x) (f.encoding w ++ y)
       ∙ a.decides v w x y wv.1 ww.1 sv.1 sw.1;
 }
@@ -73,7 +75,8 @@ pub same_arm : {B : Type 0} (mark : ℤ) (f : Xdr B) (C : B → B → Ordering) 
     → bytes_cmp ((i32.encoding mark ++ f.encoding v) ++ x) ((i32.encoding mark ++ f.encoding w) ++ y)
     ≡ ordering_then (C v w) (bytes_cmp x y)
 same_arm mark f C a v w x y wv ww sv sw =
-    (λ i. bytes_cmp (append_assoc (i32.encoding mark) (f.encoding v) x i) (append_assoc (i32.encoding mark) (f.encoding w) y i))
+    (λ i. bytes_cmp (append_assoc (i32.encoding mark) (f.encoding v) x i)
+    (append_assoc (i32.encoding mark) (f.encoding w) y i))
     ∙ same_prefix (i32.encoding mark) (f.encoding v ++ x) (f.encoding w ++ y)
     ∙ a.decides v w x y wv ww sv sw
 

@@ -1,13 +1,10 @@
 -- Names that several proofs of this crate use.
-use Rattle.xdr_core.proofs.Prelude as lower
-pub use lower.{Err, Fields, Fits-lt-pow, Format, IsBytes, List, Ok, Position, Reading, Some, Takes, Xdr, [], ap}
-pub use lower.{append-nil, append_assoc, arith, big_bytes, cast_unsigned, closed, drop, drop_at, extension_of, length}
-pub use lower.{length-append, list_of, marked, number, optional, padding_len, pos, refl, replicate, struct_of, subst}
-pub use lower.{suc, sym, tag, take, take_at, to_z-of_z, w32, zero, ℕ, ℤ, ◌++◌, ◌+◌, ◌<◌, ◌>>=◌, ◌^◌, ◌∙◌, ◌∷◌, ◌≡◌, ◌≤◌}
-pub use lower.{◌⨾◌}
-unfoldable pub use lower.{fixed, i32, i64, mark, u32, var}
-pub use Rattle.std.proofs.Common.{get_or, negsuc, of_z, slice_index, to_z, w8, ◌%◌, ◌*◌, ◌/◌}
-pub use Rattle.std.specs.Int.{byte_at, bytes_high_first}
+pub use Rattle.std.proofs.Common.{Err, List, Ok, Some, [], ap, append_assoc, arith, drop, get_or, length, negsuc, of_z}
+pub use Rattle.std.proofs.Common.{pos, refl, replicate, slice_index, subst, suc, sym, take, to_z, w8, zero, ℕ, ℤ, ◌%◌}
+pub use Rattle.std.proofs.Common.{◌*◌, ◌++◌, ◌+◌, ◌/◌, ◌<◌, ◌^◌, ◌∙◌, ◌∷◌, ◌≡◌, ◌≤◌}
+pub use Rattle.std.proofs.Math.Facts.{Fits-lt-pow, to_z-of_z}
+pub use Rattle.std.proofs.lemmas.List.{append-nil, drop_at, length-append, take_at}
+pub use Rattle.std.specs.Int.{byte_at, bytes_high_first, cast_unsigned, w32}
 pub use Rattle.std.specs.Ordering.{MatchOrdering, nat_cmp, ordering_then}
 pub use Rattle.std.specs.Prelude.{IsSomeAnd, None, Option, Result}
 pub use Rattle.std.specs.declared.cmp.Ordering.{Ordering}
@@ -26,7 +23,12 @@ pub use Rattle.ledger_types.specs.declared.ids.AccountId.{AccountId}
 pub use Rattle.ledger_types.specs.declared.key.LedgerKey.{LedgerKey}
 pub use Rattle.xdr_core.proofs.Marks.{mark_is_read, mark_lawful, marked_leaves}
 pub use Rattle.xdr_core.proofs.Numbers.{IsWide, wide4}
-pub use Rattle.xdr_core.specs.Position.{start_of}
+pub use Rattle.xdr_core.specs.Combinators.{Fields, closed, marked, struct_of, ◌⨾◌}
+pub use Rattle.xdr_core.specs.Format.{Format, IsBytes, Takes}
+pub use Rattle.xdr_core.specs.Leaves.{number, padding_len}
+unfoldable pub use Rattle.xdr_core.specs.Leaves.{fixed, i32, i64, mark, u32, var}
+pub use Rattle.xdr_core.specs.Position.{Position, Reading, start_of, ◌>>=◌}
+pub use Rattle.xdr_core.specs.Xdr.{Xdr, extension_of, list_of, optional, tag}
 pub use Rattle.xdr_core.specs.declared.fault.XdrFault.{XdrFault}
 pub use Rattle.xdr_entries.proofs.KeyLaws.{bucket_entry_laws, ledger_key_laws}
 pub use Rattle.xdr_entries.specs.Basic.{account_id_fields, balance_id_fields, hash_fields}

@@ -56,7 +56,8 @@ fn type_with(discriminant: i32) -> Option<BucketEntryType>
 
 /// What the item that is all of a text says of its key, by its discriminant.
 fn type_in(text: &[u8]) -> Option<BucketEntryType>
-    ensures { (p : Position) (e : AnItem) → p.rest ≡ text.now → item.entire_at p ≡ Ok e → result ≡ Some (item.item_type e) }
+    ensures { (p : Position) (e : AnItem) → p.rest ≡ text.now → item.entire_at p ≡ Ok e
+        → result ≡ Some (item.item_type e) }
 {
     let mut ahead = Cursor::new(text);
     match ahead.i32() {

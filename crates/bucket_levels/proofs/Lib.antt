@@ -14,4 +14,4 @@ pub mod Ordering
 pub mod Unmerged
 pub use Rattle.bucket_core.proofs as bucket_core_proofs
 pub use Rattle.entry_map.proofs as entry_map_proofs
-pub mod Prelude
+mod Prelude

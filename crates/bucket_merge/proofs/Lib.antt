@@ -3,4 +3,4 @@ pub mod Merging
 pub mod Writing
 pub mod Stepping
 pub mod Sides
-pub mod Prelude
+mod Prelude

@@ -1,12 +1,13 @@
 -- What the pass over two buckets makes is their merge, and has a file.
-use Rattle.bucket_merge.proofs.Prelude as prelude
-use prelude.{◌≡◌, ℕ, ◌≤◌, pos, Bool, true, false, cond, T, List, [], ◌∷◌, map, max, Option, Some, None, refl, sym, ap}
-use prelude.{subst, ◌∙◌, All, eqb, arith, length, ◌++◌, ◌⊎◌, inl, inr, cases_lt, length-append, option_and_then}
-use prelude.{All-from_recursion, recursion_from_All, AllByRecursion, entries, entries_sorted, get-entries}
-use prelude.{entries-from_sorted, get-from_sorted, find, LedgerKey, LedgerEntry, key_cmp, i32, ledger_entry}
-use prelude.{bucket_entry, IsEncodable, max_item_len, i32_len, Change, Init, Live, Dead, Contents, change_at}
-use prelude.{version_of, IsUnderKey, item_of, items_of, HasFile, joined, kept, merged_change, greater_version, IsMerge}
-use prelude.{Pair, put, walk, changes_of, filled_with, merge_of}
+use Rattle.bucket_merge.proofs.Prelude.{◌≡◌, ℕ, ◌≤◌, pos, Bool, true, false, cond, T, List, [], ◌∷◌, map, max, Option}
+use Rattle.bucket_merge.proofs.Prelude.{Some, None, refl, sym, ap, subst, ◌∙◌, All, eqb, arith, length, ◌++◌, ◌⊎◌, inl}
+use Rattle.bucket_merge.proofs.Prelude.{inr, cases_lt, length-append, option_and_then, AllByRecursion, find, LedgerKey}
+use Rattle.bucket_merge.proofs.Prelude.{LedgerEntry, key_cmp, i32, ledger_entry, bucket_entry, IsEncodable}
+use Rattle.bucket_merge.proofs.Prelude.{max_item_len, i32_len, Change, Init, Live, Dead, Contents, change_at}
+use Rattle.bucket_merge.proofs.Prelude.{version_of, IsUnderKey, item_of, items_of, HasFile, joined, kept, merged_change}
+use Rattle.bucket_merge.proofs.Prelude.{greater_version, IsMerge, Pair, put, walk, changes_of, filled_with, merge_of}
+use Rattle.std.proofs.lemmas.List.Elements.{All-from_recursion, recursion_from_All}
+use Rattle.std.specs.FinMap.{entries, entries_sorted, get-entries, entries-from_sorted, get-from_sorted}
 use Rattle.bucket_core.specs.ledger_types.declared.bucket.BucketEntry.TheVariants as bucket
 use Rattle.bucket_core.proofs.Files.{nothing_has_file}
 use Rattle.bucket_merge.proofs.WalkLaws.{Sorted, along, walk_in_order, walk_merges}

@@ -2,10 +2,10 @@
 use Rattle.bucket_merge.proofs.Prelude.{◌≡◌, ℕ, ◌+◌, ◌<◌, List, [], ◌∷◌, ◌++◌, length, Option, Some, None, refl, sym}
 use Rattle.bucket_merge.proofs.Prelude.{ap, subst, ◌∙◌, append_assoc, arith, option_and_then, IsSomeAnd, Result, OnOk}
 use Rattle.bucket_merge.proofs.Prelude.{append-nil, on_ok_weaker, Ordering, Less, Equal, Greater, LedgerKey}
-use Rattle.bucket_merge.proofs.Prelude.{BucketEntry, key_cmp, keys_exact, BucketItem, Shows, IsKeyText, record_of}
-use Rattle.bucket_merge.proofs.Prelude.{Change, Init, Live, Dead, item_of, TakesFirst, Side, kept, joined, Pair, put}
-use Rattle.bucket_merge.proofs.Prelude.{by_order, walk, States, Has, records_of, first_key, Nearer}
-use Rattle.bucket_items.specs.KeyText.{OrdersKeys}
+use Rattle.bucket_merge.proofs.Prelude.{BucketEntry, key_cmp, keys_exact, BucketItem, Shows, record_of, Change, Init}
+use Rattle.bucket_merge.proofs.Prelude.{Live, Dead, item_of, TakesFirst, Side, kept, joined, Pair, put, by_order, walk}
+use Rattle.bucket_merge.proofs.Prelude.{States, Has, records_of, first_key, Nearer}
+use Rattle.bucket_items.specs.KeyText.{OrdersKeys, IsKeyText}
 use Rattle.bucket_core.proofs.Judging.{entry_key_text, init_key_text, dead_key_text}
 
 -- ---- what is in hand
@@ -45,7 +45,8 @@ pub both_in_hand : (older newer : Side) (a b : BucketItem) (r : Ordering) (old n
 both_in_hand older newer a b r [] new ha hb o h g = absurd (cc (ha, h.first.0))
 both_in_hand older newer a b r (x ∷ xs) [] ha hb o h g = absurd (cc (hb, g.first.0))
 both_in_hand older newer a b r (x ∷ xs) (y ∷ ys) ha hb o h g =
-    o x.0 y.0 (key_stated a x.0 x.1 (hand_states older x xs a h ha)) (key_stated b y.0 y.1 (hand_states newer y ys b g hb))
+    o x.0 y.0 (key_stated a x.0 x.1 (hand_states older x xs a h ha))
+    (key_stated b y.0 y.1 (hand_states newer y ys b g hb))
 
 pub older_in_hand : (older newer : Side) (a : BucketItem) (old new : List Pair) → older.hand ≡ Some a
     → newer.hand ≡ None → Has older old → Has newer new → Less ≡ first_key old new

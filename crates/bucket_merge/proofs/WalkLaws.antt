@@ -1,10 +1,10 @@
 -- The merge of two lists in one pass stays in the order of keys, and is the merge key by key.
 use Rattle.bucket_merge.proofs.Prelude.{◌≡◌, ℕ, Bool, true, false, cond, T, List, [], ◌∷◌, Option, Some, None, refl}
-use Rattle.bucket_merge.proofs.Prelude.{sym, ap, subst, ◌∙◌, option_and_then, Ordering, Less, Equal, Greater, is_lt}
-use Rattle.bucket_merge.proofs.Prelude.{is_eq, eq_by_cmp, find, is_sorted, below_all, LedgerKey, key_cmp, keys_total}
-use Rattle.bucket_merge.proofs.Prelude.{Change, joined, kept, merged_change, Pair, put, rest_kept, by_order, among}
-use Rattle.bucket_merge.proofs.Prelude.{walk, both_true, first_true, second_true, same_keys}
-use Rattle.std.specs.Ordering.{ordering_reverse}
+use Rattle.bucket_merge.proofs.Prelude.{sym, ap, subst, ◌∙◌, option_and_then, Ordering, Less, Equal, Greater, find}
+use Rattle.bucket_merge.proofs.Prelude.{is_sorted, below_all, LedgerKey, key_cmp, keys_total, Change, joined, kept}
+use Rattle.bucket_merge.proofs.Prelude.{merged_change, Pair, put, rest_kept, by_order, among, walk, same_keys}
+use Rattle.bucket_core.proofs.ledger_types_proofs.Booleans.{both_true, first_true, second_true}
+use Rattle.std.specs.Ordering.{ordering_reverse, is_lt, is_eq, eq_by_cmp}
 use Rattle.std.specs.Cmp.{tied_itself}
 use Rattle.bucket_core.proofs.Keyed.{below, found_below, is_less}
 

@@ -103,7 +103,8 @@ by_types (Live w) (Live e) k = refl
 by_types (Live w) (Init e) k = refl
 by_types (Live w) Dead k = refl
 
-pub joining_gives : (j : Joining) (c d : Change) (k : LedgerKey) (older newer : BucketItem) → States older k c → States newer k d
+pub joining_gives : (j : Joining) (c d : Change) (k : LedgerKey) (older newer : BucketItem) → States older k c
+    → States newer k d
     → joining_of older.mark newer.mark ≡ j → Gives j c d
 joining_gives j c d k older newer t u is =
     let types :

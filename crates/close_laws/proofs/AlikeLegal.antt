@@ -2,8 +2,9 @@
 use Rattle.close_laws.proofs.Prelude.{◌≡◌, ℕ, refl, sym, ap, subst, ◌∙◌, Option, Some, None, pos, ◌≤ℤ◌, get, AccountId}
 use Rattle.close_laws.proofs.Prelude.{LedgerEntry, LedgerEntryBody, LedgerEntryExtensionV1, LedgerKey, key_of_body}
 use Rattle.close_laws.proofs.Prelude.{EntryMap, parts_of, account_at, account_in, total, Subentries, Selling, Buying}
-use Rattle.close_laws.proofs.Prelude.{Shares, ShareLines, Uses, View, offer_with, held, view, params_of, weight}
-use Rattle.close_laws.proofs.Prelude.{IsEntryLegal, IsSettled}
+use Rattle.close_laws.proofs.Prelude.{Shares, ShareLines, Uses, View, held, view, params_of, weight, IsEntryLegal}
+use Rattle.close_laws.proofs.Prelude.{IsSettled}
+use Rattle.close_rules.specs.legal_rules.OfferIds.{offer_with}
 use Rattle.close_rules.specs.ledger_types.declared.asset.Asset.TheVariants as asset
 use Rattle.close_rules.specs.ledger_types.declared.key.LedgerKey.TheVariants as key
 use Rattle.close_rules.specs.entry_slots.Accounts.{account_of}

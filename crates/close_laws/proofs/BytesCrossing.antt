@@ -166,7 +166,8 @@ module _ (v : View) (id_pool base : ℕ) (owed : Owed) (right : IsOwedRightly ow
     few : suc j ≤ unlimited
     few = subst (λ x. x ≤ unlimited) is
         (adjusted_few n d (min amount (most_given base t w)) (most_taken t s) (most_given base t w)
-        (unsigned_abs_positive o.price.n range.n) (unsigned_abs_positive o.price.d range.d) (min-le_right amount (most_given base t w))
+        (unsigned_abs_positive o.price.n range.n) (unsigned_abs_positive o.price.d range.d)
+        (min-le_right amount (most_given base t w))
         (given_fits v id_pool base (owed_then v id_pool base owed right o) sum_then t open_t.legal covered w
         open_t.gives))
 

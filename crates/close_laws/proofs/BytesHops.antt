@@ -72,7 +72,8 @@ module _ (trade : Trade) (m : EntryMap) (a : Amounts) (its : IsSwapping trade m 
       reserves_bytes (pos a.sheep) (neg_ℤ (pos a.wheat)) (rises_few p.reserve_a a.sheep does.fits)
       (sub_natural_at_most p.reserve_b greatest_i64 a.wheat its_bytes.reserve_b)
   by_order false does =
-      reserves_bytes (neg_ℤ (pos a.wheat)) (pos a.sheep) (sub_natural_at_most p.reserve_a greatest_i64 a.wheat its_bytes.reserve_a)
+      reserves_bytes (neg_ℤ (pos a.wheat)) (pos a.sheep)
+      (sub_natural_at_most p.reserve_a greatest_i64 a.wheat its_bytes.reserve_a)
       (rises_few p.reserve_b a.sheep does.fits)
 
   swapped_pool : ArePoolBytes (with_swap trade a p)

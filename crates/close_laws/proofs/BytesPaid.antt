@@ -1,11 +1,12 @@
 -- Counts and signers that change leave the bytes of accounts.
-use Rattle.close_laws.proofs.Prelude as prelude
-use prelude.{ℕ, List, [], ◌∷◌, map, All, Option, Some, None, Bool, true, false, if◌then◌else◌, nat_eq, slice_set}
-use prelude.{All-nil, All-cons, All-set, ◌≤ℤ◌, insert, remove, AccountId, Signer, AccountEntry, AccountEntryExtensionV1}
-use prelude.{AccountEntryExtensionV2, signer_key, EntryMap, liabilities_in, second_in, sponsorship_of, sponsorship_in}
-use prelude.{with_sponsorship, greatest_i64, SubEntries, Sponsoring, Sponsored, count_in, with_count, with_new_count}
-use prelude.{with_more, with_less, with_sponsors_in, with_sponsors, with_signer_at, without_signer, with_signer_sponsor}
-use prelude.{IsEncoded, all_insert, all_remove}
+use Rattle.close_laws.proofs.Prelude.{ℕ, List, [], ◌∷◌, map, All, Option, Some, None, Bool, true, false, if◌then◌else◌}
+use Rattle.close_laws.proofs.Prelude.{nat_eq, slice_set, All-nil, All-cons, All-set, ◌≤ℤ◌, insert, remove, AccountId}
+use Rattle.close_laws.proofs.Prelude.{Signer, AccountEntry, AccountEntryExtensionV1, AccountEntryExtensionV2}
+use Rattle.close_laws.proofs.Prelude.{signer_key, EntryMap, liabilities_in, second_in, sponsorship_of, sponsorship_in}
+use Rattle.close_laws.proofs.Prelude.{with_sponsorship, greatest_i64, SubEntries, Sponsoring, Sponsored, count_in}
+use Rattle.close_laws.proofs.Prelude.{with_count, with_new_count, with_more, with_less, with_sponsors_in, with_sponsors}
+use Rattle.close_laws.proofs.Prelude.{with_signer_at, without_signer, with_signer_sponsor, IsEncoded}
+use Rattle.close_rules.proofs.ledger_types_proofs.Lists.{all_insert, all_remove}
 use Rattle.close_rules.specs.sponsor_rules.declared.count.Count.{Count}
 use Rattle.close_rules.specs.sponsor_rules.Paying as paying
 use Rattle.close_laws.proofs.Bytes.{IsIdIf, no_id, sponsors_in, IsKey, AreAccountBytes, AreBytes}

@@ -1,11 +1,12 @@
 -- An offer that is out of the book and sold leaves the bytes of entries.
 use Rattle.close_laws.proofs.Prelude as prelude
 use prelude.{◌≡◌, refl, subst, ℕ, ◌≤◌, zero, suc, All, Ok, length, ℤ, pos, neg_ℤ, unsigned_abs, OfferEntry, LedgerEntry}
-use prelude.{i64, EntryMap, put, sponsor_of, adjusted, unlimited, acquiring, View, trade_aggregates, bound_of, one_more}
-use prelude.{IsOwedRightly, Owed, IsLegalOwing, CrossEnd, Converted, Partial, BadPrice, CrossSelf, TooMany}
-use prelude.{most_crossings, Crossing, converted, left_of_trade, most_given, most_taken, paying, given_fits, Asked}
-use prelude.{source_gives_at, source_takes_at, trade_of, settled, offer_left, map_after_keeping, kept, Sold, sold}
-use prelude.{IsAskedRightly, IsEncoded, natural_nonnegative, unsigned_abs_positive, zero_at_most}
+use prelude.{i64, EntryMap, put, sponsor_of, adjusted, unlimited, acquiring, View, bound_of, one_more, IsOwedRightly}
+use prelude.{Owed, IsLegalOwing, CrossEnd, Converted, Partial, BadPrice, CrossSelf, TooMany, most_crossings, Crossing}
+use prelude.{converted, left_of_trade, most_given, most_taken, paying, given_fits, Asked, source_gives_at}
+use prelude.{source_takes_at, trade_of, settled, offer_left, map_after_keeping, kept, Sold, sold, IsAskedRightly}
+use prelude.{IsEncoded, natural_nonnegative, unsigned_abs_positive, zero_at_most}
+use Rattle.close_rules.specs.legal_rules.OfferLaws.{trade_aggregates}
 use Rattle.close_rules.specs.ledger_types.declared.entry.LedgerEntryBody.TheVariants as body
 use Rattle.close_rules.proofs.legal_rules_proofs.MayOwe.{one_more_is_right}
 use Rattle.close_rules.specs.op_offers.Selling.{left_of}

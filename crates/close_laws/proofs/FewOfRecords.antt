@@ -36,7 +36,8 @@ record_len bytes closing text reads =
 middle : (first part last : List ℕ) → length part ≤ length (first ++ (part ++ last))
 middle first part last = omega (arith, length-append first (part ++ last), length-append part last)
 
-set_len : (closing : CloseRecord) → length (transaction_set.encoding closing.tx_set) ≤ length (close_record.encoding closing)
+set_len : (closing : CloseRecord)
+    → length (transaction_set.encoding closing.tx_set) ≤ length (close_record.encoding closing)
 unfolding close_record
 set_len closing = middle (u32.encoding closing.ledger_seq) (transaction_set.encoding closing.tx_set)
     (stellar_value.encoding closing.scp_value)

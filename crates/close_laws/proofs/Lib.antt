@@ -64,4 +64,4 @@ pub use Rattle.close_rules.proofs.ledger_types_proofs
 pub use Rattle.close_rules.proofs.sponsor_laws_proofs
 pub use Rattle.close_rules.proofs.tx_apply_proofs
 pub use Rattle.close_rules.proofs.xdr_header_proofs
-pub mod Prelude
+mod Prelude

@@ -6,9 +6,10 @@ use prelude.{LedgerEntry, LedgerEntryBody, key_of_body, Inner, i64, list, operat
 use prelude.{create_passive_sell_offer_op, manage_buy_offer_op, manage_offer_effect, manage_offer_success}
 use prelude.{manage_offer_result, operation_result_tr, operation_result, EntryMap, HasAccount, sponsor_of, total, Ctx}
 use prelude.{AddFault, sponsored_entry, map_after_counting_subentry, open_sponsor, unlimited, releasing, view, one_more}
-use prelude.{nothing_owed, IsLegalOwing, IsSponsorReady, held, holder, map_after_cancelling, offer_key, answer_of}
-use prelude.{code_of, fault_answer, effect_of, attempt_of_managed, attempt_of, Asked, offer_left, Sold, sold}
-use prelude.{map_without_offer, IsAskedRightly, IsUnderway, CanDraw, IsEncoded, zero_at_most}
+use prelude.{nothing_owed, IsLegalOwing, held, holder, map_after_cancelling, offer_key, answer_of, code_of}
+use prelude.{fault_answer, effect_of, attempt_of_managed, attempt_of, Asked, offer_left, Sold, sold, map_without_offer}
+use prelude.{IsAskedRightly, IsUnderway, CanDraw, IsEncoded, zero_at_most}
+use Rattle.close_rules.specs.legal_rules.Sponsorships.{IsSponsorReady}
 use Rattle.std.specs.Prelude.{if◌then◌else◌}
 use Rattle.close_rules.specs.ledger_types.declared.asset.Asset.TheVariants as asset
 use Rattle.close_rules.specs.ledger_types.declared.entry.LedgerEntryBody.TheVariants as body

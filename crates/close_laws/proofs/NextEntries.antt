@@ -260,7 +260,8 @@ account_numbers : (account : AccountEntry) → IsAccountInRange account → acco
     → (account_liabilities account).selling ≤ℤ greatest_i64 → AreAccountNumbers account
 account_numbers account range few fits ready selling = record {
   balance_low = range.range.balance;
-  balance_high = at_most_entire account.balance (account_liabilities account).buying range.range.buying range.range.fits;
+  balance_high = at_most_entire account.balance
+      (account_liabilities account).buying range.range.buying range.range.fits;
   seq_low = range.seq_num;
   seq_high = range.greatest_seq_num;
   subentries = few;

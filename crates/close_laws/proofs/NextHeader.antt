@@ -123,7 +123,8 @@ pub fees_low : (base : ℕ) (envelopes : List TransactionEnvelope) (m : EntryMap
     → pos 0 ≤ℤ sum_of (fees_taken base envelopes m).fees
 unfolding fees_taken sum_of
 fees_low base [] m = (natural_nonnegative 0)
-fees_low base (envelope ∷ envelopes) m = natural_add_nonnegative _ _ (fees_low base envelopes (map_after_fee base envelope m))
+fees_low base (envelope ∷ envelopes) m =
+    natural_add_nonnegative _ _ (fees_low base envelopes (map_after_fee base envelope m))
 
 -- ---- the header
 

@@ -136,7 +136,8 @@ pub data Said (s : ClosingState) (bytes : List ℕ) : Result PreparedClose Close
       → record_fault s closing ≡ None → IsClosed s closing closed → total ≡ file_total closed.state.levels
       → max_file_total < total → Said s bytes (Err (fault.LedgerFull total))
 
-close_is_said : (s : ClosingState) (bytes : List ℕ) (a : Result PreparedClose CloseFault) → IsClose s bytes a → Said s bytes a
+close_is_said : (s : ClosingState) (bytes : List ℕ) (a : Result PreparedClose CloseFault) → IsClose s bytes a
+    → Said s bytes a
 close_is_said s bytes (Ok closed) h =
     let taken = h.1.taken in
     Fits taken.closing closed taken.reads taken.unrefused h.1.closes

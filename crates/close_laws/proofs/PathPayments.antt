@@ -68,14 +68,16 @@ received_low op none =
     let tests = (all_pass (receiving.asked_tests op) none).0 in
     let amounts = or_parts (int_le op.send_max (pos 0) || int_le op.dest_amount (pos 0))
     (not (is_path_valid op.send_asset op.path op.dest_asset)) tests in
-    nonnegative_from_int_le op.dest_amount (or_parts (int_le op.send_max (pos 0)) (int_le op.dest_amount (pos 0)) amounts.0).1
+    nonnegative_from_int_le op.dest_amount
+    (or_parts (int_le op.send_max (pos 0)) (int_le op.dest_amount (pos 0)) amounts.0).1
 
 sent_low : (op : PathPaymentStrictSendOp) → first_fault (sending.asked_tests op) ≡ None → pos 0 ≤ℤ op.send_amount
 sent_low op none =
     let tests = (all_pass (sending.asked_tests op) none).0 in
     let amounts = or_parts (int_le op.send_amount (pos 0) || int_le op.dest_min (pos 0))
     (not (is_path_valid op.send_asset op.path op.dest_asset)) tests in
-    nonnegative_from_int_le op.send_amount (or_parts (int_le op.send_amount (pos 0)) (int_le op.dest_min (pos 0)) amounts.0).0
+    nonnegative_from_int_le op.send_amount
+    (or_parts (int_le op.send_amount (pos 0)) (int_le op.dest_min (pos 0)) amounts.0).0
 
 -- ---- where paths go
 
@@ -113,7 +115,8 @@ module _ (ctx : Ctx) (op : PathPaymentStrictReceiveOp) (m : EntryMap) (legal : A
         leaves = record { gives = record { entries = each; sponsors = work.sponsors } };
         answers = record {
           ends = received_arrived carried.atoms (account_of op.destination) op.dest_asset op.dest_amount
-              (natural_at_most_trans (length carried.atoms) most_received most_in_paths way.few (past_path op.path named.few))
+              (natural_at_most_trans (length carried.atoms) most_received most_in_paths way.few
+              (past_path op.path named.few))
               way.reported named.id named.to;
         };
       }))
@@ -164,7 +167,8 @@ module _ (ctx : Ctx) (op : PathPaymentStrictSendOp) (m : EntryMap) (legal : AreE
         leaves = record { gives = record { entries = each; sponsors = work.sponsors } };
         answers = record {
           ends = sent_arrived carried.atoms (account_of op.destination) op.dest_asset (pos carried.amount)
-              (natural_at_most_trans (length carried.atoms) most_sent most_in_paths way.few (before_path op.path named.few))
+              (natural_at_most_trans (length carried.atoms) most_sent most_in_paths way.few
+              (before_path op.path named.few))
               way.reported named.id named.to;
         };
       }))

@@ -1,45 +1,26 @@
 -- Names that several proofs of this crate use.
-use Rattle.close_rules.proofs.legal_rules_proofs.Prelude as lower
-pub use lower.{All, All-append, All-cons, All-head, All-nil, All-set, All-tail, AreEntriesLegal, AreSubentriesFew, Bool}
-pub use lower.{Buying, DoReservesFit, EachEntry, EntryMap, HasAccount, IsAccountInRange, IsBodyInRange, IsEntryLegal}
-pub use lower.{IsHeaderInRange, IsKeyed, IsLegal, IsLegalOwing, IsOfferInRange, IsOwedRightly, IsPoolInRange}
-pub use lower.{IsSponsorReady, IsTrustLineInRange, List, None, Ok, Option, Owed, Pools, Selling, ShareLines, Shares}
-pub use lower.{Some, Subentries, Tests, Uses, View, Weight, [], account_in, account_liabilities, acquiring}
-pub use lower.{add_nonnegative, all_insert, all_remove, and_parts, ap, apart_keys, arith, binding, bound_account}
-pub use lower.{bound_line, bound_of, charge_of, cond, count_in, counted, eq_by_cmp, erase, erase_each, erase_elsewhere}
-pub use lower.{false, filter, find, first_fault, flat_map, for_account, for_key, found_signer, get, get_or}
-pub use lower.{greatest_i64, holder, index_for, inl, inr, insert, int_eq, ints, is_key, is_lt, is_nothing}
-pub use lower.{is_same_account, is_some, key_cmp, key_of, key_of_body, length, liabilities_in, line_liabilities}
-pub use lower.{line_liabilities_in, line_multiplicity, line_of, line_second_in, list_all, map, map_after_adding}
-pub use lower.{map_after_adding_subentry, map_after_charging, map_after_counting, map_after_counting_subentry}
-pub use lower.{map_after_exchange, map_after_moving, map_after_releasing, map_after_removing, map_after_removing_entry}
-pub use lower.{map_with_share_lines, map_with_uses, map_with_uses_at, map_without_charge, nat_eq, natural_nonnegative}
-pub use lower.{needed_line, neg_ℤ, nothing_owed, num_sponsored, num_sponsoring, offer_with, one_more, owner_of}
-pub use lower.{params_of, payer_by, payer_of, payer_other_than, payer_tests_at, pool_in, pool_of, pos, put, put_each}
-pub use lower.{put_elsewhere, put_there, refl, releasing, remove, risen, same_itself, same_keys, second_in, share_line}
-pub use lower.{slice_set, sponsor_of, sponsored_entry, sponsored_in, sponsoring_in, sponsorship_in, stated, stated_at}
-pub use lower.{subentries_in, subentry_tests_at, subst, suc, sym, total_at_most, trade_aggregates, true, use_count}
-pub use lower.{use_count_in, uses, uses_by, uses_of, view, weight, with_account_in, with_account_of, with_count_core}
-pub use lower.{with_less, with_liabilities_in, with_line_in, with_line_of, with_lines, with_more, with_new_count}
-pub use lower.{with_offer_in, with_offer_of, with_other_payer, with_pool_in, with_pool_of, with_signer_sponsor}
-pub use lower.{with_sponsor, with_sponsors, with_subentry, with_uses, without_signer, without_subentry, zero, ℕ, ℤ}
-pub use lower.{◌&&◌, ◌*◌, ◌++◌, ◌+ℤ◌, ◌+◌, ◌-◌, ◌<◌, ◌||◌, ◌∙◌, ◌∷◌, ◌≡◌, ◌≢◌, ◌≤ℤ◌, ◌≤◌, ◌⊎◌}
-unfoldable pub use lower.{account_at, line_at, offer_at, open_sponsor, pool_at, total, wheat_stays, with_account}
-unfoldable pub use lower.{with_count, with_line, with_offer, with_pool}
-pub use Rattle.std.proofs.Common.{Err, IfOk, Result, T, append-nil, drop, if◌then◌else◌, length-append, nat_le, not}
-pub use Rattle.std.proofs.Common.{replicate, take, ◌^◌}
+use Rattle.close_rules.specs.op_types.declared.sponsor_ops as sponsor_ops
+pub use Rattle.std.proofs.Common.{All, Bool, Err, IfOk, List, None, Ok, Option, Result, Some, T, [], ap, append-nil}
+pub use Rattle.std.proofs.Common.{arith, cond, drop, false, get_or, if◌then◌else◌, inl, inr, length, length-append, map}
+pub use Rattle.std.proofs.Common.{nat_eq, nat_le, not, refl, replicate, slice_set, subst, suc, sym, take, true, zero, ℕ}
+pub use Rattle.std.proofs.Common.{◌&&◌, ◌*◌, ◌++◌, ◌+◌, ◌-◌, ◌<◌, ◌^◌, ◌||◌, ◌∙◌, ◌∷◌, ◌≡◌, ◌≢◌, ◌≤◌, ◌⊎◌}
 pub use Rattle.std.proofs.Math.Nat.{min-le_right, mul-le-mul_right}
-pub use Rattle.std.proofs.lemmas.Bool.{ltb-false, or_parts}
+pub use Rattle.std.proofs.lemmas.Bool.{and_parts, ltb-false, or_parts}
+pub use Rattle.std.proofs.lemmas.Int.{ints}
 pub use Rattle.std.proofs.lemmas.List.{length-map, length-replicate, same_lists}
-pub use Rattle.std.proofs.lemmas.List.Elements.{All-drop, All-from_recursion, All-map, All-take, All-weaker}
-pub use Rattle.std.specs.FinMap.{entries, entries-from_sorted, entries_sorted, from_sorted, get-entries}
+pub use Rattle.std.proofs.lemmas.List.Elements.{All-append, All-cons, All-drop, All-from_recursion, All-head, All-map}
+pub use Rattle.std.proofs.lemmas.List.Elements.{All-nil, All-set, All-tail, All-take, All-weaker}
+pub use Rattle.std.specs.FinMap.{entries, entries-from_sorted, entries_sorted, from_sorted, get, get-entries}
 pub use Rattle.std.specs.FinMap.{get-from_sorted, same_map}
 pub use Rattle.std.specs.Int.{byte_at, bytes_high_first, cast_unsigned, to_be_bytes, w32, w64}
-pub use Rattle.std.specs.List.{AllByRecursion, range_with_len}
+pub use Rattle.std.specs.List.{AllByRecursion, filter, find, flat_map, insert, list_all, range_with_len, remove}
 pub use Rattle.std.specs.Option.{ok_or, option_or}
-pub use Rattle.std.specs.Prelude.{FitsSigned, bit_and, int_le, int_lt, min, nat_lt, option_map, slice_get, slice_index}
-pub use Rattle.std.specs.Prelude.{unsigned_abs, unwrap_or}
-pub use Rattle.bucket_levels.proofs.entry_map_proofs.Lookups.{erase_there}
+pub use Rattle.std.specs.Ordering.{eq_by_cmp, int_eq, is_lt}
+pub use Rattle.std.specs.Prelude.{FitsSigned, bit_and, int_le, int_lt, is_some, min, nat_lt, neg_ℤ, option_map, pos}
+pub use Rattle.std.specs.Prelude.{slice_get, slice_index, unsigned_abs, unwrap_or, ℤ, ◌+ℤ◌, ◌≤ℤ◌}
+pub use Rattle.bucket_levels.proofs.entry_map_proofs.KeyMaps.{same_itself}
+pub use Rattle.bucket_levels.proofs.entry_map_proofs.Lookups.{apart_keys, erase_elsewhere, erase_there, put_elsewhere}
+pub use Rattle.bucket_levels.proofs.entry_map_proofs.Lookups.{put_there}
 pub use Rattle.bucket_levels.specs.Hash.{list_hash}
 pub use Rattle.bucket_levels.specs.Pairs.{Pair, empty_pair, pair_at}
 pub use Rattle.bucket_levels.specs.Size.{pair_size}
@@ -47,18 +28,20 @@ unfoldable pub use Rattle.bucket_levels.specs.Size.{file_total}
 pub use Rattle.bucket_levels.specs.bucket_core.Bucket.{Change, Contents, Filled, change_at, version_of}
 pub use Rattle.bucket_levels.specs.bucket_core.File.{HasFile, file_of}
 pub use Rattle.bucket_levels.specs.entry_map.Batch.{parts_of}
+pub use Rattle.bucket_levels.specs.entry_map.EntryMap.{EntryMap, erase, put}
 pub use Rattle.byteorder.specs.Numbers.{length-bytes_high_first}
 pub use Rattle.close_laws.specs.Closes.{ClosesAreOne, NextIsClosing, TakenIsClosable}
 pub use Rattle.close_laws.specs.Images.{ImagesAreOne, ImagesRepresentStates, IsImageOf}
 pub use Rattle.close_laws.specs.Legal.{AreClosed, EntriesStayEncodable, IsClosable, NextIsLegal}
-pub use Rattle.close_rules.proofs.ledger_types_proofs.Arithmetic.{indicator_at_most_one, int_lt_false}
+pub use Rattle.close_rules.proofs.entry_sums_proofs.Lookups.{erase_each, put_each}
+pub use Rattle.close_rules.proofs.ledger_types_proofs.Arithmetic.{add_nonnegative, indicator_at_most_one, int_lt_false}
 pub use Rattle.close_rules.proofs.ledger_types_proofs.Arithmetic.{less_from_unequal, natural_add_nonnegative}
-pub use Rattle.close_rules.proofs.ledger_types_proofs.Arithmetic.{natural_at_most_trans, natural_positive_from_unequal}
-pub use Rattle.close_rules.proofs.ledger_types_proofs.Arithmetic.{natural_zero_add, nonnegative_from_int_le}
-pub use Rattle.close_rules.proofs.ledger_types_proofs.Arithmetic.{sub_natural_at_most, suc_at_most_suc}
-pub use Rattle.close_rules.proofs.ledger_types_proofs.Arithmetic.{unsigned_abs_at_most, unsigned_abs_positive}
-pub use Rattle.close_rules.proofs.ledger_types_proofs.Arithmetic.{zero_at_most}
-pub use Rattle.close_rules.proofs.ledger_types_proofs.KeyOrdering.{keys_exact, keys_total}
+pub use Rattle.close_rules.proofs.ledger_types_proofs.Arithmetic.{natural_at_most_trans, natural_nonnegative}
+pub use Rattle.close_rules.proofs.ledger_types_proofs.Arithmetic.{natural_positive_from_unequal, natural_zero_add}
+pub use Rattle.close_rules.proofs.ledger_types_proofs.Arithmetic.{nonnegative_from_int_le, sub_natural_at_most}
+pub use Rattle.close_rules.proofs.ledger_types_proofs.Arithmetic.{suc_at_most_suc, unsigned_abs_at_most}
+pub use Rattle.close_rules.proofs.ledger_types_proofs.Arithmetic.{unsigned_abs_positive, zero_at_most}
+pub use Rattle.close_rules.proofs.ledger_types_proofs.KeyOrdering.{keys_exact, keys_total, same_keys}
 pub use Rattle.close_rules.proofs.legal_rules_proofs.Changed.{pool_entry}
 pub use Rattle.close_rules.proofs.legal_rules_proofs.Passed.{first_passed, unless_first_ok}
 pub use Rattle.close_rules.proofs.pool_shares_proofs.Beside.{IsNoAccount, account_beside, account_keyed, line_beside}
@@ -80,13 +63,27 @@ unfoldable pub use Rattle.close_rules.specs.Refusals.{record_fault, record_in, s
 pub use Rattle.close_rules.specs.State.{ClosingState, IsClosingState, IsEncoded, max_file_total}
 pub use Rattle.close_rules.specs.entry_changes.Encodable.{AreEncodable, IsEntryEncodable}
 pub use Rattle.close_rules.specs.entry_changes.Next.{AreNextEntries, IsNextAt, stamped}
-pub use Rattle.close_rules.specs.entry_slots.AccountExtensions.{sponsorship_of, with_sponsorship}
+pub use Rattle.close_rules.specs.entry_slots.AccountExtensions.{account_liabilities, is_nothing, liabilities_in}
+pub use Rattle.close_rules.specs.entry_slots.AccountExtensions.{num_sponsored, num_sponsoring, second_in, sponsored_in}
+pub use Rattle.close_rules.specs.entry_slots.AccountExtensions.{sponsoring_in, sponsorship_in, sponsorship_of}
+pub use Rattle.close_rules.specs.entry_slots.AccountExtensions.{with_liabilities_in, with_sponsorship}
+pub use Rattle.close_rules.specs.entry_slots.Accounts.{HasAccount, account_in, with_account_in, with_account_of}
+unfoldable pub use Rattle.close_rules.specs.entry_slots.Accounts.{account_at, with_account}
 unfoldable pub use Rattle.close_rules.specs.entry_slots.Balances.{balance_at}
 pub use Rattle.close_rules.specs.entry_slots.DataEntries.{with_data_in, with_data_of}
 unfoldable pub use Rattle.close_rules.specs.entry_slots.DataEntries.{data_at, with_data}
-pub use Rattle.close_rules.specs.entry_slots.EntrySponsor.{sponsor_in, with_sponsor_in}
-pub use Rattle.close_rules.specs.entry_slots.Tests.{unless_fault}
-pub use Rattle.close_rules.specs.entry_sums.Sums.{sum_over}
+pub use Rattle.close_rules.specs.entry_slots.EntrySponsor.{sponsor_in, sponsor_of, with_sponsor, with_sponsor_in}
+pub use Rattle.close_rules.specs.entry_slots.LineExtensions.{line_liabilities, line_liabilities_in, line_second_in}
+pub use Rattle.close_rules.specs.entry_slots.LineExtensions.{use_count, use_count_in}
+pub use Rattle.close_rules.specs.entry_slots.Lines.{line_of, with_line_in, with_line_of}
+unfoldable pub use Rattle.close_rules.specs.entry_slots.Lines.{line_at, with_line}
+pub use Rattle.close_rules.specs.entry_slots.Offers.{with_offer_in, with_offer_of}
+unfoldable pub use Rattle.close_rules.specs.entry_slots.Offers.{offer_at, with_offer}
+pub use Rattle.close_rules.specs.entry_slots.Pools.{pool_in, pool_of, with_pool_in, with_pool_of}
+unfoldable pub use Rattle.close_rules.specs.entry_slots.Pools.{pool_at, with_pool}
+pub use Rattle.close_rules.specs.entry_slots.Tests.{Tests, first_fault, unless_fault}
+pub use Rattle.close_rules.specs.entry_sums.Sums.{EachEntry, Weight, sum_over}
+unfoldable pub use Rattle.close_rules.specs.entry_sums.Sums.{total}
 pub use Rattle.close_rules.specs.fee_rules.Turns.{apply_order_of}
 pub use Rattle.close_rules.specs.header_chain.SkipList.{finished, hash_at, moves_first, moves_second, moves_third}
 pub use Rattle.close_rules.specs.header_chain.SkipList.{sets_first, skip_list_after}
@@ -94,6 +91,8 @@ pub use Rattle.close_rules.specs.header_chain.Upgrades.{all_upgraded, first_inde
 pub use Rattle.close_rules.specs.header_chain.Upgrades.{is_bad_value, is_out_of_profile, read_complete, type_before}
 pub use Rattle.close_rules.specs.header_chain.Upgrades.{type_of, upgrade_in, upgraded, upgraded_if}
 pub use Rattle.close_rules.specs.ledger_types.Ids.{account_of}
+pub use Rattle.close_rules.specs.ledger_types.KeyOrder.{key_cmp}
+pub use Rattle.close_rules.specs.ledger_types.Keys.{key_of, key_of_body}
 pub use Rattle.close_rules.specs.ledger_types.declared.account.AccountEntry.{AccountEntry}
 pub use Rattle.close_rules.specs.ledger_types.declared.account.AccountEntryExtensionV1.{AccountEntryExtensionV1}
 pub use Rattle.close_rules.specs.ledger_types.declared.account.AccountEntryExtensionV2.{AccountEntryExtensionV2}
@@ -119,21 +118,36 @@ pub use Rattle.close_rules.specs.ledger_types.declared.offer.OfferEntry.{OfferEn
 pub use Rattle.close_rules.specs.ledger_types.declared.predicate.ClaimPredicate.{ClaimPredicate}
 pub use Rattle.close_rules.specs.ledger_types.declared.predicate.ClaimPredicate.TheOpen.{ClaimPredicate-F}
 pub use Rattle.close_rules.specs.ledger_types.declared.predicate.ClaimPredicate.TheVariants.{Unconditional}
-unfoldable pub use Rattle.close_rules.specs.ledger_types.declared.predicate.ClaimPredicate.TheViews.{out-ClaimPredicate}
 pub use Rattle.close_rules.specs.ledger_types.declared.predicate.ClaimPredicate.TheViews.{out-roll-ClaimPredicate}
+unfoldable pub use Rattle.close_rules.specs.ledger_types.declared.predicate.ClaimPredicate.TheViews.{out-ClaimPredicate}
 pub use Rattle.close_rules.specs.ledger_types.declared.price.Liabilities.{Liabilities}
 pub use Rattle.close_rules.specs.ledger_types.declared.price.Price.{Price}
 pub use Rattle.close_rules.specs.ledger_types.declared.signer.Signer.{Signer}
 pub use Rattle.close_rules.specs.ledger_types.declared.signer.SignerKey.{SignerKey}
 pub use Rattle.close_rules.specs.ledger_types.declared.trust_line.TrustLineEntry.{TrustLineEntry}
-pub use Rattle.close_rules.specs.legal_rules.Headers.{header_flags_in}
+pub use Rattle.close_rules.specs.legal_rules.Aggregates.{Buying, Selling, ShareLines, Shares, Subentries, Uses, View}
+pub use Rattle.close_rules.specs.legal_rules.Aggregates.{counted, stated, stated_at}
+pub use Rattle.close_rules.specs.legal_rules.Binding.{acquiring, binding, bound_account, bound_line, releasing, risen}
+pub use Rattle.close_rules.specs.legal_rules.Bounds.{AreSubentriesFew, DoReservesFit}
+pub use Rattle.close_rules.specs.legal_rules.Headers.{IsHeaderInRange, header_flags_in}
+pub use Rattle.close_rules.specs.legal_rules.Holdings.{IsKeyed}
+pub use Rattle.close_rules.specs.legal_rules.Legal.{IsLegal, params_of, view}
+pub use Rattle.close_rules.specs.legal_rules.OfferLiabilities.{bound_of}
+pub use Rattle.close_rules.specs.legal_rules.OneMore.{IsOwedRightly, one_more}
+pub use Rattle.close_rules.specs.legal_rules.Owing.{AreEntriesLegal, IsEntryLegal, IsLegalOwing, Owed, nothing_owed}
+pub use Rattle.close_rules.specs.legal_rules.Owing.{weight}
 pub use Rattle.close_rules.specs.legal_rules.Payments.{numbered, paid}
 pub use Rattle.close_rules.specs.legal_rules.PoolLaws.{new_pool}
-pub use Rattle.close_rules.specs.legal_rules.Ranges.{AreLineFlags, IsBalanceInRange, balance_flags}
+pub use Rattle.close_rules.specs.legal_rules.PoolShares.{Pools, needed_line, uses, uses_by, uses_of}
+pub use Rattle.close_rules.specs.legal_rules.Ranges.{AreLineFlags, IsAccountInRange, IsBalanceInRange, IsBodyInRange}
+pub use Rattle.close_rules.specs.legal_rules.Ranges.{IsOfferInRange, IsPoolInRange, IsTrustLineInRange, balance_flags}
+pub use Rattle.close_rules.specs.legal_rules.ShareLaws.{map_with_share_lines, map_with_uses, map_with_uses_at}
+pub use Rattle.close_rules.specs.legal_rules.ShareLaws.{share_line, with_lines, with_uses}
 pub use Rattle.close_rules.specs.legal_rules.Supply.{held}
+pub use Rattle.close_rules.specs.legal_rules.Trades.{holder}
 unfoldable pub use Rattle.close_rules.specs.offer_book.Book.{offers_by}
 pub use Rattle.close_rules.specs.offer_exchange.Exchange.{Amounts, Bounds, offered, unlimited}
-unfoldable pub use Rattle.close_rules.specs.offer_exchange.Exchange.{adjusted, exchanged}
+unfoldable pub use Rattle.close_rules.specs.offer_exchange.Exchange.{adjusted, exchanged, wheat_stays}
 unfoldable pub use Rattle.close_rules.specs.op_account.Operations.{account_operation}
 unfoldable pub use Rattle.close_rules.specs.op_claim.Operations.{claim_operation}
 pub use Rattle.close_rules.specs.op_claim.Predicates.{fixed_claimant, fixed_level, max_levels, time_after}
@@ -190,7 +204,7 @@ pub use Rattle.close_rules.specs.op_types.declared.operation_result.OperationRes
 pub use Rattle.close_rules.specs.op_types.declared.payment_ops.PaymentOp.{PaymentOp}
 pub use Rattle.close_rules.specs.op_types.declared.pool_ops.LiquidityPoolDepositOp.{LiquidityPoolDepositOp}
 pub use Rattle.close_rules.specs.op_types.declared.pool_ops.LiquidityPoolWithdrawOp.{LiquidityPoolWithdrawOp}
-pub use Rattle.close_rules.specs.op_types.declared.sponsor_ops.BeginSponsoringFutureReservesOp.{BeginSponsoringFutureReservesOp}
+pub use sponsor_ops.BeginSponsoringFutureReservesOp.{BeginSponsoringFutureReservesOp}
 pub use Rattle.close_rules.specs.op_types.declared.sponsor_ops.RevokeSponsorshipOp.{RevokeSponsorshipOp}
 pub use Rattle.close_rules.specs.op_types.declared.transaction.FeeBumpTransaction.{FeeBumpTransaction}
 pub use Rattle.close_rules.specs.op_types.declared.transaction.Transaction.{Transaction}
@@ -208,9 +222,24 @@ pub use Rattle.close_rules.specs.pool_shares.ShareLines.{empty_pool, has_no_line
 pub use Rattle.close_rules.specs.pool_shares.ShareLines.{map_without_bare_pool, map_without_share_line}
 pub use Rattle.close_rules.specs.pool_shares.Withdrawing.{Part, map_after_withdrawing, map_with_shares, part_of}
 pub use Rattle.close_rules.specs.pool_shares.Withdrawing.{share_key, with_change}
+pub use Rattle.close_rules.specs.reserve_rules.Reserve.{greatest_i64}
 pub use Rattle.close_rules.specs.signer_check.declared.held.HeldSignature.{HeldSignature}
-pub use Rattle.close_rules.specs.sponsor_rules.Payers.{IsReadyAccount}
-pub use Rattle.close_rules.specs.sponsor_rules.SignerIndex.{with_signer_at, with_sponsors_in}
+pub use Rattle.close_rules.specs.sponsor_rules.Adding.{map_after_adding, map_after_adding_subentry, map_after_counting}
+pub use Rattle.close_rules.specs.sponsor_rules.Adding.{map_after_counting_subentry, sponsored_entry}
+pub use Rattle.close_rules.specs.sponsor_rules.Charge.{charge_of, line_multiplicity, owner_of}
+pub use Rattle.close_rules.specs.sponsor_rules.Counting.{count_in, with_less, with_more, with_new_count}
+unfoldable pub use Rattle.close_rules.specs.sponsor_rules.Counting.{with_count}
+pub use Rattle.close_rules.specs.sponsor_rules.Moving.{map_after_moving}
+pub use Rattle.close_rules.specs.sponsor_rules.Payers.{IsReadyAccount, is_same_account, payer_by, payer_of}
+pub use Rattle.close_rules.specs.sponsor_rules.Payers.{payer_other_than, payer_tests_at, subentry_tests_at}
+unfoldable pub use Rattle.close_rules.specs.sponsor_rules.Payers.{open_sponsor}
+pub use Rattle.close_rules.specs.sponsor_rules.Paying.{map_after_charging, map_after_exchange, map_after_releasing}
+pub use Rattle.close_rules.specs.sponsor_rules.Paying.{with_other_payer, with_subentry, without_subentry}
+pub use Rattle.close_rules.specs.sponsor_rules.Removing.{map_after_removing, map_after_removing_entry}
+pub use Rattle.close_rules.specs.sponsor_rules.Removing.{map_without_charge}
+pub use Rattle.close_rules.specs.sponsor_rules.SignerIndex.{found_signer, index_for, with_signer_at}
+pub use Rattle.close_rules.specs.sponsor_rules.SignerIndex.{with_signer_sponsor, with_sponsors, with_sponsors_in}
+pub use Rattle.close_rules.specs.sponsor_rules.SignerIndex.{without_signer}
 pub use Rattle.close_rules.specs.sponsor_rules.Signers.{map_after_adding_signer, map_after_moving_signer}
 pub use Rattle.close_rules.specs.sponsor_rules.Signers.{map_after_removing_preauth, map_after_removing_signer}
 pub use Rattle.close_rules.specs.sponsor_rules.declared.context.Ctx.{Ctx}

@@ -3,11 +3,12 @@ use Rattle.close_laws.proofs.Prelude as prelude
 use prelude.{◌≡◌, ◌≢◌, refl, subst, ◌∙◌, ℕ, Bool, true, false, if◌then◌else◌, List, [], ◌∷◌, Option, Some, None, ℤ, pos}
 use prelude.{neg_ℤ, filter, get, AccountId, AccountEntry, Asset, TrustLineAsset, TrustLineEntry, OfferEntry}
 use prelude.{LedgerEntry, LedgerKey, key_of, EntryMap, put, with_account, with_line, Sponsoring, with_more}
-use prelude.{is_same_account, map_after_charging, map_after_removing, with_count_core, offers_by, bound_account}
-use prelude.{bound_line, binding, releasing, IsKeyed, bound_of, with_uses, map_with_uses_at, map_with_uses, holder}
-use prelude.{map_after_cancelling, offer_key, IsNoAccount, account_beside, account_keyed, line_beside, line_keyed}
-use prelude.{removing_beside, removing_keyed, line_asset_of, with_flags, map_after_revoking, map_after_flagging}
-use prelude.{trades_in, map_after_cancelling_all, map_without_offers, put_elsewhere}
+use prelude.{is_same_account, map_after_charging, map_after_removing, offers_by, bound_account, bound_line, binding}
+use prelude.{releasing, IsKeyed, bound_of, with_uses, map_with_uses_at, map_with_uses, holder, map_after_cancelling}
+use prelude.{offer_key, IsNoAccount, account_beside, account_keyed, line_beside, line_keyed, removing_beside}
+use prelude.{removing_keyed, line_asset_of, with_flags, map_after_revoking, map_after_flagging, trades_in}
+use prelude.{map_after_cancelling_all, map_without_offers, put_elsewhere}
+use Rattle.close_rules.proofs.sponsor_rules_proofs.Keeping.{with_count_core}
 use Rattle.close_rules.specs.ledger_types.declared.asset.Asset.TheVariants as asset
 use Rattle.close_rules.specs.ledger_types.declared.asset.TrustLineAsset.TheVariants as line
 use Rattle.close_rules.specs.ledger_types.declared.key.LedgerKey.TheVariants as key

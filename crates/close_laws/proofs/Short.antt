@@ -172,7 +172,8 @@ all_len : {A : Type 0} (f : Xdr A) (n : ℕ) (vs : List A) → All (IsShort f n)
 all_len f n [] each = omega arith
 all_len f n (v ∷ vs) each =
     let rest = all_len f n vs (All-tail (IsShort f n) v vs each) in
-    let first = both_len (f.encoding v) (flat_map f.encoding vs) n (length vs * n) (All-head (IsShort f n) v vs each).short
+    let first = both_len (f.encoding v) (flat_map f.encoding vs) n (length vs * n)
+    (All-head (IsShort f n) v vs each).short
     rest in
     one_more (length vs) n first
   where
@@ -200,7 +201,8 @@ short_list max f n vs few each = record {
       (times_most (length vs) max n few (all_len f n vs each));
 }
   where
-    times_most : (k max n : ℕ) → k ≤ max → length (flat_map f.encoding vs) ≤ k * n → length (flat_map f.encoding vs) ≤ max * n
+    times_most : (k max n : ℕ) → k ≤ max → length (flat_map f.encoding vs) ≤ k * n
+        → length (flat_map f.encoding vs) ≤ max * n
     times_most k max n few le = omega (arith, le, mul-le-mul_right n few)
 
 pub short_times : {A : Type 0} (m : ℕ) (f : Xdr A) (n : ℕ) (vs : List A) → length vs ≡ m → All (IsShort f n) vs

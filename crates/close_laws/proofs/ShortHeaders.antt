@@ -71,7 +71,8 @@ signature_short = struct value_signature_fields (both_short id_short (short.shor
 value_short : AreShort stellar_value 971
 unfolding stellar_value
 value_short =
-    struct value_fields (both_short hash_short (both_short u64_short (both_short (listed 6 (var 128) 135 (short.short_var 128))
+    struct value_fields (both_short hash_short (both_short u64_short
+    (both_short (listed 6 (var 128) 135 (short.short_var 128))
     (extended (pos 1) ledger_close_value_signature 110 signature_short))))
 
 extension_short : AreShort ledger_header_extension_v1 8
@@ -83,20 +84,23 @@ extension_short =
 limits_short : AreShort limits 164
 unfolding limits
 limits_short =
-    struct limits_fields (both_short u32_short (both_short u32_short (both_short u32_short (both_short (repeated 4 hash 35 hash_short)
+    struct limits_fields (both_short u32_short (both_short u32_short (both_short u32_short
+    (both_short (repeated 4 hash 35 hash_short)
     (extended (pos 1) ledger_header_extension_v1 8 extension_short)))))
 
 counts_short : AreShort counts 196
 unfolding counts
 counts_short =
-    struct counts_fields (both_short u32_short (both_short i64_short (both_short i64_short (both_short u32_short (both_short u64_short
-    limits_short)))))
+    struct counts_fields
+    (both_short u32_short (both_short i64_short (both_short i64_short (both_short u32_short
+    (both_short u64_short limits_short)))))
 
 pub header_short : (h : LedgerHeader) → IsEncoded ledger_header h → IsShort ledger_header 1276 h
 unfolding ledger_header
 header_short =
-    struct header_fields (both_short u32_short (both_short hash_short (both_short entire_value (both_short hash_short (both_short hash_short
-    counts_short)))))
+    struct header_fields
+    (both_short u32_short (both_short hash_short (both_short entire_value (both_short hash_short
+    (both_short hash_short counts_short)))))
   where
     entire_value : AreShort (entire stellar_value) 971
     entire_value v encoded =

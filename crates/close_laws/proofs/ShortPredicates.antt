@@ -100,7 +100,8 @@ module _ (levels f : ℕ) (below : (p : ClaimPredicate) → is_valid_below false
         short = arm_most (pos 3) _ (4 + predicate_most levels) (part_most (predicate_most levels)) one.short;
       }
   level_short (ClaimPredicate-F.BeforeAbsoluteTime time) h encoded =
-      let at = short.short_i64 time (encoded_i64_fits time (record { within = encoded.within; sized = encoded.sized })) in
+      let at = short.short_i64 time
+      (encoded_i64_fits time (record { within = encoded.within; sized = encoded.sized })) in
       record {
         within = at.within;
         sized = at.sized;

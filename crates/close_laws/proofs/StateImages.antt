@@ -16,7 +16,8 @@ use Rattle.close_laws.proofs.ShortHeaders.{header_short}
 header_again : (h : LedgerHeader) → IsEncoded ledger_header h → header_in (ledger_header.encoding h) ≡ Some h
 unfolding header_in
 header_again h encoded =
-    ap (λ (bytes : List ℕ). read_complete (ledger_header.read (start_of bytes))) (sym (append-nil (ledger_header.encoding h)))
+    ap (λ (bytes : List ℕ). read_complete (ledger_header.read (start_of bytes)))
+    (sym (append-nil (ledger_header.encoding h)))
     ∙ ap read_complete (ledger_header_laws.lawful.again 0 h [] encoded.within encoded.sized)
 
 fields_in_range : (h : LedgerHeader) → IsHeaderInRange h → AreFieldsInRange h

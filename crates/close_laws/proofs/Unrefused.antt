@@ -43,7 +43,8 @@ set_passes s closing none = (neither _ _ (neither _ _ none).1).1
 pub seq_below : (s : ClosingState) (closing : CloseRecord) → record_fault s closing ≡ None
     → s.header.ledger_seq ≤ 2147483647 → s.header.ledger_seq < 2147483647
 unfolding term_fault
-seq_below s closing none le = less_from_unequal s.header.ledger_seq 2147483647 le (if_some_none _ _ _ (terms_pass s closing none)).0
+seq_below s closing none le =
+    less_from_unequal s.header.ledger_seq 2147483647 le (if_some_none _ _ _ (terms_pass s closing none)).0
 
 -- ---- its upgrades
 

@@ -1,10 +1,13 @@
 -- Few pools use a line: each line of pool shares counts twice as a subentry of its account.
-use Rattle.close_laws.proofs.Prelude as prelude
-use prelude.{◌≡◌, refl, ap, ◌∙◌, ℕ, ◌≤◌, length, Bool, true, false, Option, Some, None, arith, ints, ℤ, pos, ◌+ℤ◌, ◌≤ℤ◌}
-use prelude.{get, AccountId, Asset, PoolParams, TrustLineAsset, LedgerHeader, LedgerEntry, LedgerEntryBody, LedgerKey}
-use prelude.{EntryMap, same_itself, total_at_most, line_multiplicity, owner_of, is_same_account, Subentries, Uses}
-use prelude.{counted, stated, stated_at, AreSubentriesFew, is_key, for_key, for_account, view, IsLegal, Pools}
-use prelude.{needed_line, uses_of, uses_by, uses, subentries_in, apart_keys, indicator_at_most_one}
+use Rattle.close_laws.proofs.Prelude.{◌≡◌, refl, ap, ◌∙◌, ℕ, ◌≤◌, length, Bool, true, false, Option, Some, None, arith}
+use Rattle.close_laws.proofs.Prelude.{ints, ℤ, pos, ◌+ℤ◌, ◌≤ℤ◌, get, AccountId, Asset, PoolParams, TrustLineAsset}
+use Rattle.close_laws.proofs.Prelude.{LedgerHeader, LedgerEntry, LedgerEntryBody, LedgerKey, EntryMap, same_itself}
+use Rattle.close_laws.proofs.Prelude.{line_multiplicity, owner_of, is_same_account, Subentries, Uses, counted, stated}
+use Rattle.close_laws.proofs.Prelude.{stated_at, AreSubentriesFew, view, IsLegal, Pools, needed_line, uses_of, uses_by}
+use Rattle.close_laws.proofs.Prelude.{uses, apart_keys, indicator_at_most_one}
+use Rattle.close_rules.proofs.entry_sums_proofs.Summing.{total_at_most}
+use Rattle.close_rules.specs.legal_rules.EntryKeys.{is_key, for_key, for_account}
+use Rattle.close_rules.specs.legal_rules.Reserves.{subentries_in}
 use Rattle.std.specs.Prelude.{if◌then◌else◌}
 use Rattle.close_rules.specs.ledger_types.declared.asset.Asset.TheVariants as asset
 use Rattle.close_rules.specs.ledger_types.declared.asset.TrustLineAsset.TheVariants as line

@@ -6,7 +6,8 @@ use Rattle.ledger_types.specs.declared.asset.Asset.TheVariants as asset
 use Rattle.ledger_types.specs.declared.header.LedgerHeader.{LedgerHeader}
 use Rattle.bucket_levels.specs.entry_map.EntryMap.{EntryMap}
 use Rattle.entry_changes.specs.entry_sums.Sums.{total, EachEntry}
-use Rattle.tx_apply.specs.legal_rules.Aggregates.{Subentries, Sponsoring, Sponsored, Selling, Buying, Shares, ShareLines}
+use Rattle.tx_apply.specs.legal_rules.Aggregates.{Subentries, Sponsoring, Sponsored, Selling, Buying, Shares}
+use Rattle.tx_apply.specs.legal_rules.Aggregates.{ShareLines}
 use Rattle.tx_apply.specs.legal_rules.Aggregates.{Uses}
 use Rattle.tx_apply.specs.legal_rules.Supply.{held}
 use Rattle.tx_apply.specs.legal_rules.OfferIds.{AreOffersApart}

@@ -6,4 +6,4 @@ pub mod Judging
 pub mod Forms
 pub mod Shapes
 pub mod Reading
-pub mod Prelude
+mod Prelude

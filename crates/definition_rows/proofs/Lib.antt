@@ -31,4 +31,4 @@ mod Signers
 mod Identities
 mod Hashes
 mod Fees
-pub mod Prelude
+mod Prelude

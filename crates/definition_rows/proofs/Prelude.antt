@@ -1,10 +1,7 @@
 -- Names that several proofs of this crate use.
-pub use Rattle.xdr_header.proofs.Prelude.{Bool, Err, IsBytes, Lawful, List, Ok, Position, Reading, Xdr, [], ap, arith}
-pub use Rattle.xdr_header.proofs.Prelude.{false, pos, refl, suc, sym, true, zero, ℕ, ◌+◌, ◌-◌, ◌<◌, ◌^◌, ◌∙◌, ◌∷◌, ◌≡◌}
-pub use Rattle.xdr_header.proofs.Prelude.{◌≤◌}
-unfoldable pub use Rattle.xdr_header.proofs.Prelude.{file, files, start_image, u64, var}
-pub use Rattle.std.proofs.Common.{None, Option, Result, Some, codes, inl, inr, min, neg_ℤ, negsuc, not, replicate, ℤ}
-pub use Rattle.std.proofs.Common.{◌&&◌, ◌*◌, ◌+ℤ◌, ◌<ℤ◌, ◌||◌, ◌↔◌, ◌≤ℤ◌, ◌⊎◌}
+pub use Rattle.std.proofs.Common.{Bool, Err, List, None, Ok, Option, Result, Some, [], ap, arith, codes, false, inl}
+pub use Rattle.std.proofs.Common.{inr, min, neg_ℤ, negsuc, not, pos, refl, replicate, suc, sym, true, zero, ℕ, ℤ, ◌&&◌}
+pub use Rattle.std.proofs.Common.{◌*◌, ◌+ℤ◌, ◌+◌, ◌-◌, ◌<ℤ◌, ◌<◌, ◌^◌, ◌||◌, ◌↔◌, ◌∙◌, ◌∷◌, ◌≡◌, ◌≤ℤ◌, ◌≤◌, ◌⊎◌}
 pub use Rattle.std.proofs.lemmas.Bool.{and_from, and_parts, eqb-true, false≢true, le-leb, leb-true, lt-ltb, ltb-true}
 pub use Rattle.std.specs.Bool.{Decides, then_some}
 pub use Rattle.std.specs.List.{list_all, slice_get}
@@ -36,9 +33,10 @@ unfoldable pub use Rattle.sha2.specs.Sha256.{compress, digest_bytes, first_words
 pub use Rattle.xdr_core.specs.Combinators.{◌⨾◌}
 unfoldable pub use Rattle.xdr_core.specs.Combinators.{constant, extension, list, many_at, option, refused, times}
 pub use Rattle.xdr_core.specs.Ending.{EndsAt}
-unfoldable pub use Rattle.xdr_core.specs.Leaves.{count, fixed, flag, i32, i64, mark, opaque_at, u32}
-pub use Rattle.xdr_core.specs.Position.{onward, start_of}
-pub use Rattle.xdr_core.specs.Xdr.{extension_of, list_of, optional, tag}
+pub use Rattle.xdr_core.specs.Format.{IsBytes, Lawful}
+unfoldable pub use Rattle.xdr_core.specs.Leaves.{count, fixed, flag, i32, i64, mark, opaque_at, u32, u64, var}
+pub use Rattle.xdr_core.specs.Position.{Position, Reading, onward, start_of}
+pub use Rattle.xdr_core.specs.Xdr.{Xdr, extension_of, list_of, optional, tag}
 pub use Rattle.xdr_core.specs.declared.fault.XdrFault.{XdrFault}
 pub use Rattle.xdr_core.specs.declared.fault.XdrKind.{XdrKind}
 pub use Rattle.xdr_core.specs.declared.fault.XdrKind.TheVariants.{BadEnum, BadFlag, BadMark, Padding, Short, TooDeep}
@@ -57,6 +55,7 @@ pub use Rattle.xdr_entries.specs.Predicates.{claim_predicate}
 unfoldable pub use Rattle.xdr_entries.specs.Predicates.{predicate_below}
 unfoldable pub use Rattle.xdr_header.specs.Header.{counts, ledger_close_value_signature, ledger_header}
 unfoldable pub use Rattle.xdr_header.specs.Header.{ledger_header_extension_v1, ledger_upgrade, limits, stellar_value}
+unfoldable pub use Rattle.xdr_header.specs.Image.{file, files, start_image}
 unfoldable pub use Rattle.xdr_header.specs.Records.{close_record}
 unfoldable pub use Rattle.xdr_results.specs.Answers.{account_merge_result, allow_trust_result}
 unfoldable pub use Rattle.xdr_results.specs.Answers.{begin_sponsoring_future_reserves_result, bump_sequence_result}

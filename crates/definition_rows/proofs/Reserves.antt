@@ -66,7 +66,8 @@ passes_decides : (delta to_take to_spend : ℤ) → Decides (passes delta to_tak
 passes_decides delta to_take to_spend =
     or_decides (int_le (pos 0) delta && int_lt to_take delta) (int_lt delta (pos 0) && int_lt to_spend (neg_ℤ delta))
     (and_decides (int_le (pos 0) delta) (int_lt to_take delta) (int_le_decides (pos 0) delta) (below to_take delta))
-    (and_decides (int_lt delta (pos 0)) (int_lt to_spend (neg_ℤ delta)) (below delta (pos 0)) (below to_spend (neg_ℤ delta)))
+    (and_decides (int_lt delta (pos 0)) (int_lt to_spend (neg_ℤ delta)) (below delta (pos 0))
+    (below to_spend (neg_ℤ delta)))
 
 -- what calls of add_balance and line_add answer, by their contracts
 change_answers : (delta to_take to_spend : ℤ) (done : Bool) → ((done ≡ false) ↔ Passes delta to_take to_spend)

@@ -19,7 +19,8 @@ use Rattle.entry_map.proofs.Positions.{order_total}
 
 -- ---- an offer's position determines its key
 
-key_in_body : (p : BookPosition) (b : LedgerEntryBody) → is_some (terms_at p (offer_in b)) ≡ true → key_at p ≡ key_of_body b
+key_in_body : (p : BookPosition) (b : LedgerEntryBody) → is_some (terms_at p (offer_in b)) ≡ true
+    → key_at p ≡ key_of_body b
 key_in_body p (body.Offer o) h = ap key_at (same_position p (position_of o) (distinguished (is_at p o) h))
   where
     distinguished : (b : Bool) → is_some (cond b (Some (terms_of o)) None) ≡ true → b ≡ true
@@ -269,7 +270,8 @@ index_empty = record {
 
 -- ---- what the code does at a put and at an erasure
 
-pub put_made : (m : EntryMap) (index left new : PositionMap) (e : LedgerEntry) (o : OfferEntry) (old : Option LedgerEntry)
+pub put_made : (m : EntryMap) (index left new : PositionMap) (e : LedgerEntry) (o : OfferEntry)
+    (old : Option LedgerEntry)
     → IsIndexOf m index → offer_in e.body ≡ Some o → IsNarrow o.price
     → old ≡ get m (key_of e) → left ≡ without (offer_of old) index
     → new ≡ insert left (position_of o) (terms_of o) → IsIndexOf (put m e) new

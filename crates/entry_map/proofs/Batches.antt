@@ -106,7 +106,8 @@ contains_later x y ys h = Contains-append_right (x ∷ []) ys y h
 contains_cases : {X : Type 0} (P : Type 0) (x y : X) (ys : List X) → Contains (x ∷ ys) y → (x ≡ y → P) →
     (Contains ys y → P) → P
 contains_cases P x y ys h f g = elim (Contains-append_cases (x ∷ []) ys y h) [
-  | inl one ↦ elim (Contains-push_cases [] x y one) [ inl none ↦ absurd (nil_contains_nothing y none) | inr same ↦ f same ]
+  | inl one ↦ elim (Contains-push_cases [] x y one)
+      [ inl none ↦ absurd (nil_contains_nothing y none) | inr same ↦ f same ]
   | inr later ↦ g later
 ]
 

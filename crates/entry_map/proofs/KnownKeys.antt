@@ -81,7 +81,8 @@ next_either p r k (Some x) (Some y) one other =
         there = or_right (p y) (r y) other.there;
         above = other.above;
         least_of = λ q above passes. or_elim (key_cmp y q ≢ Greater) (p q) (r q) passes
-            (λ h. not_greater _ (upto keys_total y x q (ap is_gt (is_lt_true_Less _ e)) (not_gt _ (one.least_of q above h))))
+            (λ h. not_greater _ (upto keys_total y x q (ap is_gt (is_lt_true_Less _ e))
+            (not_gt _ (one.least_of q above h))))
             (λ h. other.least_of q above h);
       }
       | false ↦ λ e. record {

@@ -18,4 +18,4 @@ pub mod Rebuilt
 pub mod Saved
 pub use Rattle.ledger_types.proofs as ledger_types_proofs
 pub use Rattle.shared_tree.proofs as shared_tree_proofs
-pub mod Prelude
+mod Prelude

@@ -40,7 +40,8 @@ module _ (k next q : BookPosition) (selling : q.selling ≡ k.selling) (buying :
   second_up : asset_cmp k.buying next.buying ≢ Greater
   unfolding order
   second_up = subst (λ o. o ≢ Greater) (assets_compared k.buying next.buying)
-      (less_first _ _ (sym (then_of_Equal _ _ (assets_compared k.selling next.selling ∙ tied _ _ same_selling)) ∙ ahead))
+      (less_first _ _ (sym (then_of_Equal _ _ (assets_compared k.selling next.selling ∙ tied _ _ same_selling))
+      ∙ ahead))
 
   second_down : asset_cmp next.buying k.buying ≢ Greater
   unfolding order
@@ -57,13 +58,15 @@ pub same_assets_tied : (a b : Asset) → a ≡ b → is_eq (asset_cmp a b) ≡ t
 same_assets_tied a b e = ap is_eq (tied a b e)
 
 -- no position of the pair is above, where the least one above is of another pair
-pub other_pair : (positions : PositionMap) (start next : BookPosition) (terms : OfferTerms) → IsLeastPosition positions start next terms
+pub other_pair : (positions : PositionMap) (start next : BookPosition) (terms : OfferTerms)
+    → IsLeastPosition positions start next terms
     → (is_eq (asset_cmp next.selling start.selling) ≡ true → is_eq (asset_cmp next.buying start.buying) ≡ true → ⊥)
     → IsLastOfPair positions start
 other_pair positions start next terms least other q selling buying lt =
     elim (has positions q) as (λ b. has positions q ≡ b → b ≡ false) [
       | true ↦ λ here. let upto = least.least q lt here in absurd (other
-          (same_assets_tied next.selling start.selling (sym (same_selling start next q selling buying least.above upto)))
+          (same_assets_tied next.selling start.selling
+          (sym (same_selling start next q selling buying least.above upto)))
           (same_assets_tied next.buying start.buying (sym (same_buying start next q selling buying least.above upto))))
       | false ↦ λ apart. refl
     ] refl

@@ -2,11 +2,11 @@
 use Rattle.entry_map.proofs.Prelude as prelude
 use prelude.{◌≡◌, ◌≢◌, refl, sym, ap, subst, ◌∙◌, Bool, true, false, cond, ◌||◌, List, [], ◌∷◌, ◌++◌, Option, Some}
 use prelude.{None, is_some, option_or, eq_by_cmp, empty, insert, remove, get, find, from_sorted, same_map, get-empty}
-use prelude.{get-from_sorted, get-insert, get-remove, first_above, changed, rising_changed, find_changed, first_is}
-use prelude.{IsFirst, IsFirstAbove, OfferEntry, BookPosition, OfferTerms, position_of, terms_of, PositionMap, has}
-use prelude.{is_at, is_taken, index_of, with_offers, without_offers, terms_at, IsLeastPosition, IsLastPosition}
+use prelude.{get-from_sorted, get-insert, get-remove, rising_changed, find_changed, first_is, IsFirst, IsFirstAbove}
+use prelude.{OfferEntry, BookPosition, OfferTerms, position_of, terms_of, PositionMap, has, is_at, is_taken, index_of}
+use prelude.{with_offers, without_offers, terms_at, IsLeastPosition, IsLastPosition}
 use Rattle.std.specs.Prelude.{MatchOption}
-use Rattle.shared_tree.specs.Rows.{IsRising}
+use Rattle.shared_tree.specs.Rows.{IsRising, first_above, changed}
 use Rattle.entry_map.proofs.KeyMaps.{or_none, or_or}
 use Rattle.entry_map.proofs.Positions.{order, derived, derived_is, order_total, order_exact}
 
@@ -64,7 +64,8 @@ get-without_offers m (o ∷ os) p = get-without_offers (remove m (position_of o)
     twice true false = refl
     twice false b = refl
 
-pub with_more : (m : PositionMap) (xs ys : List OfferEntry) → with_offers m (xs ++ ys) ≡ with_offers (with_offers m xs) ys
+pub with_more : (m : PositionMap) (xs ys : List OfferEntry)
+    → with_offers m (xs ++ ys) ≡ with_offers (with_offers m xs) ys
 unfolding with_offers
 with_more m [] ys = refl
 with_more m (o ∷ xs) ys = with_more (insert m (position_of o) (terms_of o)) xs ys
@@ -109,7 +110,8 @@ pub rising_after : (row next : Row) (p : BookPosition) (o : Option OfferTerms) �
 rising_after row next p o h is =
     subst (IsRising order) (sym (stated row next p o is)) (rising_changed order_total p o row h)
 
-pub put_after : (row next : Row) (m : PositionMap) (kept : BookPosition × OfferTerms) (p : BookPosition) (t : OfferTerms)
+pub put_after : (row next : Row) (m : PositionMap) (kept : BookPosition × OfferTerms) (p : BookPosition)
+    (t : OfferTerms)
     → IsRising order row → from_sorted row ≡ m → kept ≡ (p, t) → next ≡ changed derived kept.0 (Some kept.1) row
     → from_sorted next ≡ insert m p t
 put_after row next m kept p t h view is_kept is =
@@ -144,7 +146,8 @@ last_position row m k h view is =
     subst (λ n. IsLastPosition n k) view (λ q lt. has-row row q h
     ∙ ap is_some (subst (IsFirstAbove order_total row k) e (first_is order_total k row h) q lt))
 
-pub least_position : (row : Row) (m : PositionMap) (k : BookPosition) (x : BookPosition × OfferTerms) → IsRising order row
+pub least_position : (row : Row) (m : PositionMap) (k : BookPosition) (x : BookPosition × OfferTerms)
+    → IsRising order row
     → from_sorted row ≡ m → first_above derived k row ≡ Some x → IsLeastPosition m k x.0 x.1
 least_position row m k x h view is =
     let e = stated_above row k (Some x) is in
@@ -155,7 +158,8 @@ least_position row m k x h view is =
       least = λ q lt there. next.least q lt (some_not _ (sym (has-row row q h) ∙ there));
     })
 
-pub next_position : (row : Row) (m : PositionMap) (k : BookPosition) (o : Option (BookPosition × OfferTerms)) → IsRising order row
+pub next_position : (row : Row) (m : PositionMap) (k : BookPosition) (o : Option (BookPosition × OfferTerms))
+    → IsRising order row
     → from_sorted row ≡ m → first_above derived k row ≡ o
     → MatchOption o (IsLastPosition m k) (λ next. IsLeastPosition m k next.0 next.1)
 next_position row m k None h view is = last_position row m k h view is

@@ -1,12 +1,9 @@
 -- Names that several proofs of this crate use.
-use Rattle.shared_tree.proofs.Prelude as lower
-pub use lower.{Bool, Equal, Equal-is, Greater, IfOk-weaker, IsTotalOrder, Less, List, None, Option, Ordering, Some, T}
-pub use lower.{[], ap, append-nil, arith, changed, cond, drop, eq_by_cmp, false, first_above, is_eq, is_lt, is_sorted}
-pub use lower.{length, length-append, option_copied, option_or, ordering_reverse, refl, rules, subst, suc, sym, take}
-pub use lower.{tied_itself, true, unwrap_or, ◌&&◌, ◌++◌, ◌+◌, ◌<◌, ◌∙◌, ◌∷◌, ◌≡◌, ◌≢◌, ◌≤◌}
-pub use Rattle.std.proofs.Common.{All, Bor, Contains, Err, IfOk, IfSome, IsSome, MatchOption, Ok, OnErr, OnOk, Result}
-pub use Rattle.std.proofs.Common.{append_assoc, get_or, inl, inr, map, not, option_map, option_to_list, pos, zero, ℕ, ℤ}
-pub use Rattle.std.proofs.Common.{◌*◌, ◌-◌, ◌/◌, ◌||◌, ◌↔◌, ◌⊎◌}
+pub use Rattle.std.proofs.Common.{All, Bool, Bor, Contains, Err, IfOk, IfSome, IsSome, List, MatchOption, None, Ok}
+pub use Rattle.std.proofs.Common.{OnErr, OnOk, Option, Result, Some, T, [], ap, append-nil, append_assoc, arith, cond}
+pub use Rattle.std.proofs.Common.{drop, false, get_or, inl, inr, length, length-append, map, not, option_map}
+pub use Rattle.std.proofs.Common.{option_to_list, pos, refl, rules, subst, suc, sym, take, true, zero, ℕ, ℤ, ◌&&◌, ◌*◌}
+pub use Rattle.std.proofs.Common.{◌++◌, ◌+◌, ◌-◌, ◌/◌, ◌<◌, ◌||◌, ◌↔◌, ◌∙◌, ◌∷◌, ◌≡◌, ◌≢◌, ◌≤◌, ◌⊎◌}
 pub use Rattle.std.proofs.Math.Nat.{div-mul-le_self, le_of_mul-le-mul_right, mul-le-mul, mul-le-mul_right}
 pub use Rattle.std.proofs.lemmas.Bool.{and_parts, or_left, or_parts, or_right}
 pub use Rattle.std.proofs.lemmas.Grind.{common_steps}
@@ -17,20 +14,23 @@ pub use Rattle.std.proofs.lemmas.List.Elements.{Contains-append_left, Contains-a
 pub use Rattle.std.proofs.lemmas.List.Elements.{Contains-push_cases, filter_map-append, filter_passes}
 pub use Rattle.std.proofs.lemmas.List.Folds.{list_any-append, list_any_none}
 pub use Rattle.std.proofs.lemmas.Map.Keys.{IsDistinct-from_sorted, IsDistinct-push}
-pub use Rattle.std.proofs.lemmas.Result.{on_ok_weaker}
-pub use Rattle.std.specs.Cmp.{eq_by_cmp_equiv, nat_cmp_is, ranked, upto}
+pub use Rattle.std.proofs.lemmas.Result.{IfOk-weaker, on_ok_weaker}
+pub use Rattle.std.specs.Cmp.{Equal-is, IsTotalOrder, eq_by_cmp_equiv, nat_cmp_is, ranked, tied_itself, upto}
 pub use Rattle.std.specs.FinMap.{contains_key, contains_key-keys, empty, entries, entries_sorted, find, from_entries}
 pub use Rattle.std.specs.FinMap.{from_sorted, get, get-empty, get-entries, get-from_entries, get-from_sorted}
 pub use Rattle.std.specs.FinMap.{get-insert, get-remove, insert, int_cmp-IsAntisymmetric, keys, nat_cmp-IsAntisymmetric}
 pub use Rattle.std.specs.FinMap.{remove, same_map}
-pub use Rattle.std.specs.FinMap.Entries.{is_some-find}
+pub use Rattle.std.specs.FinMap.Entries.{is_some-find, is_sorted}
 pub use Rattle.std.specs.List.{AllByRecursion, cons_option, filter, list_any}
 unfoldable pub use Rattle.std.specs.List.{IsDistinct}
 pub use Rattle.std.specs.Map.{keys_of, lookup}
-pub use Rattle.std.specs.Option.{is_some}
-pub use Rattle.std.specs.Ordering.{MatchOrdering, bool_cmp, int_cmp, is_gt, nat_cmp, ordering_then}
+pub use Rattle.std.specs.Option.{is_some, option_copied, option_or, unwrap_or}
+pub use Rattle.std.specs.Ordering.{MatchOrdering, bool_cmp, eq_by_cmp, int_cmp, is_eq, is_gt, is_lt, nat_cmp}
+pub use Rattle.std.specs.Ordering.{ordering_reverse, ordering_then}
 pub use Rattle.std.specs.Prelude.{if◌then◌else◌, nat_eq, unsigned_abs}
 pub use Rattle.std.specs.Vec.Iter.{into_iter_items}
+pub use Rattle.std.specs.declared.cmp.Ordering.{Ordering}
+pub use Rattle.std.specs.declared.cmp.Ordering.TheVariants.{Equal, Greater, Less}
 pub use Rattle.entry_map.specs.Batch.{IsBatch, IsChanged, IsGone, IsNew, parts_of}
 pub use Rattle.entry_map.specs.Book.{AreApart, AreSound, IsPositionPriced, goes_before, head, inserted, is_after}
 pub use Rattle.entry_map.specs.Book.{is_of_pair, left_after, offer_in, offer_of, offers_in, offers_of, price_cmp}

@@ -10,7 +10,8 @@ use prelude.{is_lt_true_Less, same_assets, all_both, and_parts}
 use Rattle.entry_map.specs.Book.{ranked}
 use Rattle.entry_map.proofs.Positions.{order, order_total, same_position}
 use Rattle.entry_map.proofs.PositionMaps.{terms_in, some_terms}
-use Rattle.entry_map.proofs.Ranking.{IsRanked, IsDistinguished, IsPositionRanked, ranked_price, distinguished, comes_after, after_start}
+use Rattle.entry_map.proofs.Ranking.{IsRanked, IsDistinguished, IsPositionRanked, ranked_price, distinguished}
+use Rattle.entry_map.proofs.Ranking.{comes_after, after_start}
 use Rattle.entry_map.proofs.Ranking.{start_selling, start_buying}
 use Rattle.entry_map.proofs.Pairs.{same_assets_tied}
 
@@ -111,14 +112,16 @@ rises_by true o first others rises t is later =
       rises,
     )
 rises_by false o first others rises t is later = (
-  all_inserted (Below first) o others (less_turned (position_of o) (position_of first) is.untied (sym is.same ∙ t)) rises.0,
+  all_inserted (Below first) o others
+      (less_turned (position_of o) (position_of first) is.untied (sym is.same ∙ t)) rises.0,
   later,
 )
 
 inserted_rises : (o : OfferEntry) (os : List OfferEntry) → Rises os → All (IsDistinguished o) os → Rises (inserted o os)
 inserted_rises o [] rises all = (All-nil (Below o), tt)
 inserted_rises o (first ∷ others) rises all = rises_by (goes_before o first) o first others rises refl
-    (All-head (IsDistinguished o) first others all) (inserted_rises o others rises.1 (All-tail (IsDistinguished o) first others all))
+    (All-head (IsDistinguished o) first others all)
+    (inserted_rises o others rises.1 (All-tail (IsDistinguished o) first others all))
 
 abbrev AreDistinguished : List OfferEntry → Type 0
 AreDistinguished [] = Unit {0}
@@ -234,15 +237,18 @@ module _ (positions : PositionMap) (os : List OfferEntry) (each : (p : BookPosit
   ahead : (o : OfferEntry) → (is_taken os (position_of o) ≡ true) × (IsOne o × (comes_after after o ≡ true)) → IsAhead o
   ahead o h = (
     taken (position_of o) ∙ h.0,
-    is_lt_true_Less _ (after_start selling buying after o h.1.0.of_selling h.1.0.of_buying inserted_after h.1.0.price ∙ h.1.1),
+    is_lt_true_Less _ (after_start selling buying after o h.1.0.of_selling h.1.0.of_buying inserted_after h.1.0.price
+        ∙ h.1.1),
   )
 
   left_ahead : All IsAhead left
   left_ahead = All-weaker (λ o. (is_taken os (position_of o) ≡ true)
       × (IsOne o × (comes_after after o ≡ true))) IsAhead ahead left
-      (all_both {X = OfferEntry} (λ o. is_taken os (position_of o) ≡ true) (λ o. IsOne o × (comes_after after o ≡ true)) left
+      (all_both {X = OfferEntry} (λ o. is_taken os (position_of o) ≡ true)
+      (λ o. IsOne o × (comes_after after o ≡ true)) left
       (of_left (λ o. is_taken os (position_of o) ≡ true) (each_taken os))
-      (all_both {X = OfferEntry} IsOne (λ o. comes_after after o ≡ true) left left_of_book (filter_passes (comes_after after) (ranked of_pair))))
+      (all_both {X = OfferEntry} IsOne (λ o. comes_after after o ≡ true) left left_of_book
+      (filter_passes (comes_after after) (ranked of_pair))))
 
   -- none is left where no position of the pair comes next
   last_left : IsLastOfPair positions start → head left ≡ None
@@ -256,14 +262,17 @@ module _ (positions : PositionMap) (os : List OfferEntry) (each : (p : BookPosit
 
   module _ (next : BookPosition) (terms : OfferTerms) (is_next : IsNextOfPair positions start next terms) where
     of_selling : (o : OfferEntry) → next ≡ position_of o → o.selling ≡ selling
-    of_selling o same = sym (ap (λ (p : BookPosition). p.selling) same) ∙ is_next.selling ∙ start_selling selling buying after
+    of_selling o same = sym (ap (λ (p : BookPosition). p.selling) same) ∙ is_next.selling
+        ∙ start_selling selling buying after
 
     of_buying : (o : OfferEntry) → next ≡ position_of o → o.buying ≡ buying
-    of_buying o same = sym (ap (λ (p : BookPosition). p.buying) same) ∙ is_next.buying ∙ start_buying selling buying after
+    of_buying o same = sym (ap (λ (p : BookPosition). p.buying) same) ∙ is_next.buying
+        ∙ start_buying selling buying after
 
     taken_pair : (o : OfferEntry) → is_at next o ≡ true → pair o ≡ true
     taken_pair o h = let same = same_position next (position_of o) h in
-        λ i. same_assets_tied o.selling selling (of_selling o same) i && same_assets_tied o.buying buying (of_buying o same) i
+        λ i. same_assets_tied o.selling selling (of_selling o same) i
+        && same_assets_tied o.buying buying (of_buying o same) i
 
     taken_after : (o : OfferEntry) → IsOne o → is_at next o ≡ true → comes_after after o ≡ true
     taken_after o one h =
@@ -287,7 +296,8 @@ module _ (positions : PositionMap) (os : List OfferEntry) (each : (p : BookPosit
 
     past : (o x : OfferEntry) → Below o x → is_at next x ≡ true → order next (position_of o) ≡ Greater
     past o x below h = order_total.antisymm next (position_of o)
-        ∙ ap ordering_reverse (subst (λ p. order (position_of o) p ≡ Less) (sym (same_position next (position_of x) h)) below)
+        ∙ ap ordering_reverse
+        (subst (λ p. order (position_of o) p ≡ Less) (sym (same_position next (position_of x) h)) below)
 
     first_inserted : (os : List OfferEntry) → Rises os → All NotPast os → is_taken os next ≡ true
         → option_map position_of (head os) ≡ Some next
@@ -359,7 +369,8 @@ entire (Some o) next terms os is there own =
     let distinguished : terms_of o ≡ terms = cc in
     λ i. Some (offer_with (sym same i) (sym distinguished i))
 
-pub some_next : (positions : PositionMap) (os : List OfferEntry) → ((p : BookPosition) → get positions p ≡ terms_in os p)
+pub some_next : (positions : PositionMap) (os : List OfferEntry)
+    → ((p : BookPosition) → get positions p ≡ terms_in os p)
     → AreSound os → AreNarrow os → (selling buying : Asset) (after : Option (Price × ℤ)) → IsPositionRanked after
     → (next : BookPosition) (terms : OfferTerms) → IsNextOfPair positions (start_of selling buying after) next terms
     → Some (offer_with next terms) ≡ next_in selling buying after os

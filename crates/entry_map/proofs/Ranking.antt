@@ -64,7 +64,8 @@ abbrev pub IsPositionRanked : Option (Price × ℤ) → Type 0
 IsPositionRanked None = Unit {0}
 IsPositionRanked (Some (price, id)) = IsRanked price
 
-pub ranked_position : (after : Option (Price × ℤ)) → IsPositionPriced after → IsPositionNarrow after → IsPositionRanked after
+pub ranked_position : (after : Option (Price × ℤ)) → IsPositionPriced after → IsPositionNarrow after
+    → IsPositionRanked after
 ranked_position None h n = tt
 ranked_position (Some (price, id)) h n = ranked_price price h n
 
@@ -104,7 +105,8 @@ pub record IsDistinguished (a b : OfferEntry) : Type 0 where
   pub same : goes_before a b ≡ is_lt (order (position_of a) (position_of b))
   pub untied : order (position_of a) (position_of b) ≢ Equal
 
-pub distinguished : (a b : OfferEntry) → a.selling ≡ b.selling → a.buying ≡ b.buying → IsRanked a.price → IsRanked b.price
+pub distinguished : (a b : OfferEntry) → a.selling ≡ b.selling → a.buying ≡ b.buying → IsRanked a.price
+    → IsRanked b.price
     → a.offer_id ≢ b.offer_id → IsDistinguished a b
 distinguished a b s y p q apart =
     let untied : int_cmp a.offer_id b.offer_id ≢ Equal = λ e. apart (int_cmp-IsAntisymmetric a.offer_id b.offer_id e) in

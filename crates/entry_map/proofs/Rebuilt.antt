@@ -10,7 +10,8 @@ use Rattle.entry_map.proofs.PositionMaps.{same_positions}
 use Rattle.entry_map.proofs.Positions.{same_position}
 
 -- what a filter leaves of a position, where it treats all offers there alike
-module _ (p : BookPosition) (q : OfferEntry → Bool) (b : Bool) (alike : (o : OfferEntry) → is_at p o ≡ true → q o ≡ b) where
+module _ (p : BookPosition) (q : OfferEntry → Bool) (b : Bool)
+    (alike : (o : OfferEntry) → is_at p o ≡ true → q o ≡ b) where
   terms_by : (t : Bool) (o : OfferEntry) (kept : List OfferEntry) (rest : Option OfferTerms) → q o ≡ t
       → terms_in kept p ≡ cond b rest None
       → terms_in (cond t (o ∷ kept) kept) p ≡ cond b (option_or rest (terms_at p (Some o))) None

@@ -51,7 +51,8 @@ goes_before a b = is_after a.price a.offer_id b
 -- an offer at its position among ranked ones
 abbrev pub inserted : OfferEntry → List OfferEntry → List OfferEntry
 inserted offer [] = offer ∷ []
-inserted offer (first ∷ others) = if goes_before offer first then offer ∷ first ∷ others else first ∷ inserted offer others
+inserted offer (first ∷ others) =
+    if goes_before offer first then offer ∷ first ∷ others else first ∷ inserted offer others
 
 abbrev pub ranked : List OfferEntry → List OfferEntry
 ranked [] = []

@@ -119,7 +119,8 @@ pub record IsNextOfPair (positions : PositionMap) (start next : BookPosition) (t
   pub buying : next.buying ≡ start.buying
 
 abbrev pub IsLastOfPair : PositionMap → BookPosition → Type 0
-IsLastOfPair positions start = (q : BookPosition) → q.selling ≡ start.selling → q.buying ≡ start.buying → order start q ≡ Less
+IsLastOfPair positions start = (q : BookPosition) → q.selling ≡ start.selling → q.buying ≡ start.buying
+    → order start q ≡ Less
     → has positions q ≡ false
 
 -- the seller and the id of an offer

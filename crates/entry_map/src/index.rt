@@ -12,7 +12,8 @@ ghost use Rattle.entry_map.specs.EntryMap.{EntryMap, put};
 ghost use Rattle.entry_map.specs.Book.{IsPositionPriced, AreSound, AreOffersSound, next_in, next_offer, offer_in};
 ghost use Rattle.entry_map.specs.Book.{offer_of, offers_in};
 ghost use Rattle.entry_map.specs.Positions.{IsNarrow, position_of, terms_of};
-ghost use Rattle.entry_map.specs.Indexes.{IsIndexOf, IsNextOfPair, IsLastOfPair, IsLeastPosition, IsLastPosition, AreNarrow};
+ghost use Rattle.entry_map.specs.Indexes.{IsIndexOf, IsNextOfPair, IsLastOfPair, IsLeastPosition, IsLastPosition};
+ghost use Rattle.entry_map.specs.Indexes.{AreNarrow};
 ghost use Rattle.entry_map.specs.Indexes.{IsChangedTo, index_of, is_of_offer, name_of, with_offers, without};
 ghost use Rattle.entry_map.specs.Indexes.{without_offers};
 

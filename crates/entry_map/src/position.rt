@@ -1,7 +1,8 @@
 //! Where an offer is among all offers, and what else there is of it.
 
 ghost use Rattle.std.specs.Prelude.{◌≡◌};
-ghost use Rattle.entry_map.specs.Positions.{IsNarrow, IsPositionNarrow, offer_with, rank, position_of, start_of, terms_of};
+ghost use Rattle.entry_map.specs.Positions.{IsNarrow, IsPositionNarrow, offer_with, rank, position_of, start_of};
+ghost use Rattle.entry_map.specs.Positions.{terms_of};
 
 use ledger_types::{AccountId, Asset, OfferEntry, Price};
 

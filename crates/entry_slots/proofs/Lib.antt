@@ -1,3 +1,3 @@
 pub mod RecordedSponsor
 pub use Rattle.entry_map.proofs as entry_map_proofs
-pub mod Prelude
+mod Prelude

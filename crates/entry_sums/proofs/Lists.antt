@@ -1,8 +1,8 @@
 -- Sums over lists in the order of keys.
 use Rattle.entry_sums.proofs.Prelude.{◌≡◌, refl, sym, ap, subst, ◌∙◌, cond, ◌&&◌, T, List, [], ◌∷◌, Some, None, arith}
-use Rattle.entry_sums.proofs.Prelude.{ints, ℤ, pos, ◌+ℤ◌, ◌≤ℤ◌, Less, Equal, Greater, is_eq, is_lt, find, put}
-use Rattle.entry_sums.proofs.Prelude.{is_sorted, below_all, by_order, LedgerEntry, LedgerKey, key_cmp, keys_total}
-use Rattle.entry_sums.proofs.Prelude.{Weight, sum_over, part}
+use Rattle.entry_sums.proofs.Prelude.{ints, ℤ, pos, ◌+ℤ◌, ◌≤ℤ◌, is_eq, is_lt, find, put, is_sorted, below_all, by_order}
+use Rattle.entry_sums.proofs.Prelude.{LedgerEntry, LedgerKey, key_cmp, keys_total, Weight, sum_over, part}
+use Rattle.std.specs.declared.cmp.Ordering.TheVariants.{Less, Equal, Greater}
 use Rattle.entry_map.proofs.Aggregates.{found_first}
 use Rattle.entry_map.proofs.ledger_types_proofs.Booleans.{both_true, first_true, is_lt_Less, second_true}
 

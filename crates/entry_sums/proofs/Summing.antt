@@ -88,7 +88,8 @@ total_nothing : (m : EntryMap) → total nothing m ≡ pos 0
 total_nothing m = zero_from_own_double _ (total_plus nothing nothing nothing m (λ e. omega (arith, ints)))
 
 pub total_none : (f : Weight) (m : EntryMap) → EachEntry (λ k e. f e ≡ pos 0) m → total f m ≡ pos 0
-total_none f m none = both_ways _ _ (total_at_most f nothing m (λ k e there. nonpositive_from_zero (f e) (none k e there)))
+total_none f m none =
+    both_ways _ _ (total_at_most f nothing m (λ k e there. nonpositive_from_zero (f e) (none k e there)))
     (total_at_most nothing f m (λ k e there. nonnegative_from_zero (f e) (none k e there))) ∙ total_nothing m
 
 pub total_not_below : (f : Weight) (m : EntryMap) → EachEntry (λ k e. pos 0 ≤ℤ f e) m → pos 0 ≤ℤ total f m

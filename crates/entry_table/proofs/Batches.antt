@@ -2,9 +2,10 @@
 use Rattle.entry_table.proofs.Prelude.{◌≡◌, ◌≢◌, ◌↔◌, ◌⊎◌, ◌==◌, inl, inr, ℕ, Bool, true, false, cond, List, [], ◌∷◌}
 use Rattle.entry_table.proofs.Prelude.{Option, Some, None, map, refl, sym, ap, subst, ◌∙◌, IfSome, Contains, option_or}
 use Rattle.entry_table.proofs.Prelude.{eq_by_cmp_equiv, get, get-from_sorted, find, LedgerKey, LedgerEntry, key_cmp}
-use Rattle.entry_table.proofs.Prelude.{key_of, keys_total, Batch, EntryMap, IsKeyed, parts_of, IsNew, IsChanged, IsGone}
-use Rattle.entry_table.proofs.Prelude.{IsBatch, AreRising, stamped, IsNextAt, AreNextEntries, IsExactBatch, value_at}
-use Rattle.entry_table.proofs.Prelude.{is_among, with_key, map_of, later, IsRowAfter, IsTableRow, same_keys}
+use Rattle.entry_table.proofs.Prelude.{key_of, keys_total, Batch, EntryMap, IsKeyed, AreRising, stamped, IsNextAt}
+use Rattle.entry_table.proofs.Prelude.{AreNextEntries, IsExactBatch, value_at, is_among, with_key, map_of, later}
+use Rattle.entry_table.proofs.Prelude.{IsRowAfter, IsTableRow, same_keys}
+use Rattle.entry_map.specs.Batch.{parts_of, IsNew, IsChanged, IsGone, IsBatch}
 use Rattle.std.specs.Coded.{Coded}
 use Rattle.std.proofs.lemmas.Map.Views.{list_any-from_Contains, Contains-from_any}
 use Rattle.std.proofs.lemmas.Bool.Decides.{Decides-eqb}
@@ -73,7 +74,8 @@ module _ (seq : ℕ) (P : LedgerEntry → Type 0) (es : List LedgerEntry) (rises
 
   pub there : (e : LedgerEntry) → P e → value_at (key_of e) (stamped_row seq es) ≡ Some (stamped seq e)
   there e p =
-      let h = map_contains with_key (map (stamped seq) es) (stamped seq e) (map_contains (stamped seq) es e ((all e).1 p)) in
+      let h = map_contains with_key (map (stamped seq) es) (stamped seq e)
+      (map_contains (stamped seq) es e ((all e).1 p)) in
       subst (λ (y : LedgerKey × LedgerEntry). find key_cmp y.0 (stamped_row seq es) ≡ Some y.1) h.2
       (found_at (stamped_row seq es) h.0 (with_key (stamped seq e)) sorted h.1)
 

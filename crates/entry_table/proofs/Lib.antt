@@ -8,4 +8,4 @@ pub mod Above
 pub mod Batches
 pub mod Stamped
 pub use Rattle.shared_tree.proofs as shared_tree_proofs
-pub mod Prelude
+mod Prelude

@@ -1,25 +1,34 @@
 -- Names that several proofs of this crate use.
-use Rattle.entry_map.proofs.Prelude as lower
-pub use lower.{All, All-head, All-tail, AreRising, Bool, Contains, EntryMap, Equal, Equal-is, Greater, IfOk-weaker}
-pub use lower.{IfSome, IsBatch, IsChanged, IsFirstAbove, IsGone, IsIndexOf, IsKeyed, IsNarrow, IsNew, IsNextAfter, Less}
-pub use lower.{List, None, Option, Ordering, PositionMap, Some, T, [], ap, append-nil, append_assoc, arith, changed}
-pub use lower.{cond, drop, entries, eq_by_cmp, eq_by_cmp_equiv, false, first_above, first_is, from_entries, get}
-pub use lower.{get-from_entries, get-from_sorted, get_or, inl, inr, insert, is_eq, is_lt, is_sorted, key_at, key_cmp}
-pub use lower.{key_of, keys_compared, keys_exact, keys_total, length, map, none_above, offer_in, offer_of, option_map}
-pub use lower.{option_or, parts_of, put, refl, rules, same_keys, same_map, subst, suc, sym, take, take_all, take_more}
-pub use lower.{terms_at, tied_itself, true, unwrap_or, zero, ℕ, ◌++◌, ◌+◌, ◌<◌, ◌||◌, ◌↔◌, ◌∙◌, ◌∷◌, ◌≡◌, ◌≢◌, ◌≤◌, ◌⊎◌}
-pub use Rattle.std.proofs.Common.{slice_set, ◌==◌}
+pub use Rattle.std.proofs.Common.{All, Bool, Contains, IfSome, List, None, Option, Some, T, [], ap, append-nil}
+pub use Rattle.std.proofs.Common.{append_assoc, arith, cond, drop, false, get_or, inl, inr, length, map, option_map}
+pub use Rattle.std.proofs.Common.{refl, rules, slice_set, subst, suc, sym, take, true, zero, ℕ, ◌++◌, ◌+◌, ◌<◌, ◌==◌}
+pub use Rattle.std.proofs.Common.{◌||◌, ◌↔◌, ◌∙◌, ◌∷◌, ◌≡◌, ◌≢◌, ◌≤◌, ◌⊎◌}
+pub use Rattle.std.proofs.lemmas.List.Elements.{All-head, All-tail}
 pub use Rattle.std.proofs.lemmas.Option.{get_or_from_slice_get, slice_get-map, slice_get_within}
-pub use Rattle.std.specs.FinMap.{entries-from_sorted, values}
-pub use Rattle.std.specs.FinMap.Entries.{below_all, by_order, find}
+pub use Rattle.std.proofs.lemmas.Result.{IfOk-weaker}
+pub use Rattle.std.specs.Cmp.{Equal-is, eq_by_cmp_equiv, tied_itself}
+pub use Rattle.std.specs.FinMap.{entries, entries-from_sorted, from_entries, get, get-from_entries, get-from_sorted}
+pub use Rattle.std.specs.FinMap.{insert, same_map, values}
+pub use Rattle.std.specs.FinMap.Entries.{below_all, by_order, find, is_sorted}
 pub use Rattle.std.specs.List.{slice_get}
+pub use Rattle.std.specs.Option.{option_or, unwrap_or}
+pub use Rattle.std.specs.Ordering.{eq_by_cmp, is_eq, is_lt}
+pub use Rattle.std.specs.declared.cmp.Ordering.{Ordering}
+pub use Rattle.std.specs.declared.cmp.Ordering.TheVariants.{Equal, Greater, Less}
 pub use Rattle.entry_changes.specs.Next.{AreNextEntries, IsExactBatch, IsNextAt, stamped}
 pub use Rattle.entry_map.proofs.KeyMaps.{derived, derived_is, or_or}
+pub use Rattle.entry_map.specs.EntryMap.{EntryMap, IsKeyed, IsNextAfter, put}
+pub use Rattle.entry_map.specs.Indexes.{IsIndexOf, PositionMap, terms_at}
+pub use Rattle.entry_map.specs.KeyMaps.{AreRising}
 pub use Rattle.entry_map.specs.declared.batch.Batch.{Batch}
 pub use Rattle.entry_table.specs.Rows.{AreOwn, IsOverlaid, IsPassed, IsRising, IsRowAfter, IsTableRow, IsWithout}
 pub use Rattle.entry_table.specs.Rows.{is_among, later, map_of, putting, taking, value_at, with_key}
+pub use Rattle.ledger_types.proofs.KeyOrdering.{keys_compared, keys_exact, keys_total, same_keys}
+pub use Rattle.ledger_types.specs.KeyOrder.{key_cmp}
+pub use Rattle.ledger_types.specs.Keys.{key_of}
 pub use Rattle.ledger_types.specs.declared.entry.LedgerEntry.{LedgerEntry}
 pub use Rattle.ledger_types.specs.declared.key.LedgerKey.{LedgerKey}
-pub use Rattle.shared_tree.proofs.Changed.{below_less, below_tied, find_all, rising_all}
+pub use Rattle.shared_tree.proofs.Changed.{IsFirstAbove, below_less, below_tied, find_all, first_is, none_above}
+pub use Rattle.shared_tree.proofs.Changed.{rising_all}
 pub use Rattle.shared_tree.proofs.Parts.{greater, turned}
-pub use Rattle.shared_tree.specs.Rows.{all_changed, all_put}
+pub use Rattle.shared_tree.specs.Rows.{all_changed, all_put, changed, first_above}

@@ -1,8 +1,8 @@
 -- The entries of a map, read one after the other.
 use Rattle.entry_table.proofs.Prelude.{◌≡◌, sym, ap, ◌∙◌, ℕ, ◌+◌, ◌≤◌, List, [], ◌∷◌, ◌++◌, map, length, take, Some}
-use Rattle.entry_table.proofs.Prelude.{arith, slice_get, entries, values, take_all, take_more, slice_get_within}
-use Rattle.entry_table.proofs.Prelude.{get_or_from_slice_get, LedgerEntry, EntryMap}
-use Rattle.std.proofs.lemmas.List.{length-map, map_push}
+use Rattle.entry_table.proofs.Prelude.{arith, slice_get, entries, values, slice_get_within, get_or_from_slice_get}
+use Rattle.entry_table.proofs.Prelude.{LedgerEntry, EntryMap}
+use Rattle.std.proofs.lemmas.List.{length-map, map_push, take_all, take_more}
 
 pub one_read : {X Y : Type 0} (f : X → Y) (read : List X) (all : List Y) (i : ℕ) (x : X) → map f read ≡ take i all
     → slice_get all i ≡ Some (f x) → map f (read ++ x ∷ []) ≡ take (i + 1) all

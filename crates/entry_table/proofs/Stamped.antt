@@ -1,9 +1,10 @@
 -- The index of the offers of a table, and of the next one.
-use Rattle.entry_table.proofs.Prelude.{◌≡◌, inl, inr, ℕ, sym, ap, subst, ◌∙◌, Option, Some, None, IfSome, List, [], ◌∷◌}
-use Rattle.entry_table.proofs.Prelude.{◌++◌, Equal, tied_itself, get, insert, from_entries, get-from_entries}
-use Rattle.entry_table.proofs.Prelude.{none_above, key_cmp, key_of, keys_total, LedgerEntry, LedgerKey, EntryMap}
-use Rattle.entry_table.proofs.Prelude.{IsKeyed, put, offer_in, offer_of, IsNarrow, key_at, PositionMap, terms_at}
-use Rattle.entry_table.proofs.Prelude.{IsIndexOf, IsTableRow, IsNextAt, AreNextEntries}
+use Rattle.entry_table.proofs.Prelude as prelude
+use prelude.{◌≡◌, inl, inr, ℕ, sym, ap, subst, ◌∙◌, Option, Some, None, IfSome, List, [], ◌∷◌, ◌++◌, Equal, tied_itself}
+use prelude.{get, insert, from_entries, get-from_entries, none_above, key_cmp, key_of, keys_total, LedgerEntry}
+use prelude.{LedgerKey, EntryMap, IsKeyed, put, PositionMap, terms_at, IsIndexOf, IsTableRow, IsNextAt, AreNextEntries}
+use Rattle.entry_map.specs.Book.{offer_in, offer_of}
+use Rattle.entry_map.specs.Positions.{IsNarrow, key_at}
 use Rattle.entry_table.proofs.Walks.{first, second}
 
 -- stamping leaves offers as they were

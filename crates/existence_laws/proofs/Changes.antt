@@ -1,9 +1,9 @@
 -- The entries after a close, and the bucket of what it changed.
 use Rattle.existence_laws.proofs.Prelude.{◌≡◌, ◌≢◌, ◌⊎◌, inl, inr, ℕ, Option, Some, None, refl, sym, ap, subst, ◌∙◌}
-use Rattle.existence_laws.proofs.Prelude.{get, LedgerEntry, LedgerKey, key_of, EntryMap, EachEntry, AreNextEntries}
-use Rattle.existence_laws.proofs.Prelude.{Change, Init, Live, Dead, Contents, version_of, same_Some}
+use Rattle.existence_laws.proofs.Prelude.{get, LedgerEntry, LedgerKey, key_of, EntryMap, EachEntry, Change, Init, Live}
+use Rattle.existence_laws.proofs.Prelude.{Dead, Contents, version_of, same_Some}
 use Rattle.close_laws.specs.entry_map.Batch.{parts_of}
-use Rattle.close_laws.specs.entry_changes.Next.{stamped, IsNextAt}
+use Rattle.close_laws.specs.entry_changes.Next.{stamped, IsNextAt, AreNextEntries}
 use Rattle.replay.proofs.entry_table_proofs.Batches.{same_parts}
 use Rattle.close_laws.specs.bucket_levels.Fresh.{BecameOf, IsFresh}
 use Rattle.existence_laws.proofs.Maps.{map_over}

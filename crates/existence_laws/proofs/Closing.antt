@@ -1,9 +1,11 @@
 -- Bytes do something to a state.
-use Rattle.existence_laws.proofs.Prelude as prelude
-use prelude.{◌≡◌, ℕ, ◌+◌, ◌≤◌, List, length, Option, Some, None, Result, Ok, Err, inl, inr, refl, cases_lt, XdrFault}
-use prelude.{IsBytes, CloseRecord, list_hash, file_total, finished, CloseFault, ClosingState, IsClosingState}
-use prelude.{max_file_total, record_in, record_fault, PreparedClose, applied_in, upgraded_header, IsClosed, IsTaken}
-use prelude.{ClosesWith, IsClose, IsClosable, NextIsLegal, TakenIsClosable, max_record_len, EachClose}
+use Rattle.existence_laws.proofs.Prelude.{◌≡◌, ℕ, ◌+◌, ◌≤◌, List, length, Option, Some, None, Result, Ok, Err, inl, inr}
+use Rattle.existence_laws.proofs.Prelude.{refl, cases_lt, XdrFault, IsBytes, CloseRecord, list_hash, file_total}
+use Rattle.existence_laws.proofs.Prelude.{CloseFault, ClosingState, IsClosingState, max_file_total, record_in}
+use Rattle.existence_laws.proofs.Prelude.{record_fault, PreparedClose, applied_in, upgraded_header, IsClosed, IsTaken}
+use Rattle.existence_laws.proofs.Prelude.{ClosesWith, IsClose, TakenIsClosable, max_record_len, EachClose}
+use Rattle.close_laws.specs.header_chain.SkipList.{finished}
+use Rattle.close_laws.specs.Legal.{IsClosable, NextIsLegal}
 use Rattle.close_laws.specs.close_rules.declared.close_fault.CloseFault.TheVariants as fault
 use Rattle.existence_laws.proofs.Steps.{some_step}
 use Rattle.existence_laws.proofs.Changes.{some_next, some_fresh}

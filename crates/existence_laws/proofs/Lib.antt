@@ -14,4 +14,4 @@ pub mod Judging
 pub mod Running
 pub mod Starting
 pub mod Contents
-pub mod Prelude
+mod Prelude

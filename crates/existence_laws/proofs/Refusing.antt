@@ -1,9 +1,12 @@
 -- What a record is refused for, of what it is, is reported as that.
 use Rattle.existence_laws.proofs.Prelude.{ℕ, true, false, List, [], ◌∷◌, map, Option, Some, None, IfSome, Err}
-use Rattle.existence_laws.proofs.Prelude.{option_map, subst, slice_get, AllByRecursion, option_or, CloseRecord, Tests}
-use Rattle.existence_laws.proofs.Prelude.{first_fault, upgrade_in, first_index, is_bad_at, is_out_of_profile}
-use Rattle.existence_laws.proofs.Prelude.{missing_index, CloseFault, ClosingState, term_tests, term_fault}
-use Rattle.existence_laws.proofs.Prelude.{upgrade_fault, set_fault, record_fault, IsRefused, IsClose}
+use Rattle.existence_laws.proofs.Prelude.{option_map, subst, slice_get, AllByRecursion, CloseRecord, CloseFault}
+use Rattle.existence_laws.proofs.Prelude.{ClosingState, term_tests, term_fault, upgrade_fault, set_fault, record_fault}
+use Rattle.existence_laws.proofs.Prelude.{IsRefused, IsClose}
+use Rattle.std.specs.Option.{option_or}
+use Rattle.close_laws.specs.entry_slots.Tests.{Tests, first_fault}
+use Rattle.close_laws.specs.header_chain.Upgrades.{upgrade_in, first_index, is_bad_at, is_out_of_profile}
+use Rattle.close_laws.specs.tx_apply.Set.{missing_index}
 use Rattle.std.proofs.Common.{if◌then◌else◌}
 use Rattle.close_laws.specs.close_rules.declared.close_fault.CloseFault.TheVariants as fault
 
@@ -27,7 +30,8 @@ mapped : (f : ℕ → CloseFault) → ((n : ℕ) → IsOfRecord (f n)) → (o : 
 mapped f own None = tt
 mapped f own (Some n) = own n
 
-first_fault_of_any : (tests : Tests CloseFault) → AllByRecursion (λ test. IsOfRecord test.1) tests → IfAny (first_fault tests)
+first_fault_of_any : (tests : Tests CloseFault) → AllByRecursion (λ test. IsOfRecord test.1) tests
+    → IfAny (first_fault tests)
 first_fault_of_any [] own = tt
 first_fault_of_any (test ∷ tests) own =
     elim (test.0) as (λ b. IfAny (if b then Some test.1 else first_fault tests)) [
@@ -55,7 +59,8 @@ of_set s closing = mapped fault.FeeSourceMissing (λ n. tt) (missing_index s.ent
 of_record : (s : ClosingState) (closing : CloseRecord) → IfAny (record_fault s closing)
 unfolding record_fault
 of_record s closing =
-    either_of_any (term_fault s closing) (option_or (upgrade_fault s closing) (set_fault s closing)) (of_terms s closing)
+    either_of_any (term_fault s closing) (option_or (upgrade_fault s closing) (set_fault s closing))
+    (of_terms s closing)
     (either_of_any (upgrade_fault s closing) (set_fault s closing) (of_upgrades s closing) (of_set s closing))
 
 -- ---- how they are reported

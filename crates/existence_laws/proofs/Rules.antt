@@ -139,7 +139,8 @@ module _ (h : LedgerHeader) (m : EntryMap) (keyed : IsKeyed m) where
   pools exist =
       decided_as (λ h. record { shares = h.0; share_lines = h.1.0; uses = h.1.1.0; filled = h.1.1.1 })
       (λ r. (r.shares, (r.share_lines, (r.uses, r.filled))))
-      (both (aggregated exist aggregate.Shares) (both (aggregated exist aggregate.ShareLines) (both (aggregated exist aggregate.Uses)
+      (both (aggregated exist aggregate.Shares)
+      (both (aggregated exist aggregate.ShareLines) (both (aggregated exist aggregate.Uses)
       (each_entry (λ k e. IsFilledOrEmpty e.body) m (λ k e there. filled e.body)))))
 
   lumens : Decided (AreLumensCounted h m)

@@ -1,9 +1,10 @@
 -- The bytes after a state yield something.
 use Rattle.existence_laws.proofs.Prelude.{◌≡◌, ℕ, zero, suc, ◌+◌, ◌≤◌, List, [], ◌∷◌, ◌++◌, length, Result, Ok, Err}
-use Rattle.existence_laws.proofs.Prelude.{refl, sym, ap, subst, arith, length-append, XdrFault, IsBytes, mark, Position}
-use Rattle.existence_laws.proofs.Prelude.{Reading, CloseFault, ClosingState, IsClosingState, PreparedClose, IsClose}
+use Rattle.existence_laws.proofs.Prelude.{refl, sym, ap, subst, arith, XdrFault, IsBytes, mark, Position, Reading}
+use Rattle.existence_laws.proofs.Prelude.{CloseFault, ClosingState, IsClosingState, PreparedClose, IsClose}
 use Rattle.existence_laws.proofs.Prelude.{TakenIsClosable, NextIsClosing, installed_state, Outcome, silent, after}
 use Rattle.existence_laws.proofs.Prelude.{max_record_len, framed, lines_of, IsStopped, IsRun, EachClose, EachRun}
+use Rattle.std.proofs.lemmas.List.{length-append}
 use Rattle.replay.proofs.xdr_core_proofs.FormatLaws.{mark_laws}
 use Rattle.replay.specs.run_outcome.declared.status.Status.TheVariants as status
 use Rattle.replay.specs.run_outcome.Lines.{end_line, refused_line}

@@ -1,10 +1,12 @@
 -- An input has an outcome.
-use Rattle.existence_laws.proofs.Prelude as prelude
-use prelude.{◌≡◌, ℕ, zero, suc, ◌-◌, List, [], ◌∷◌, length, All, Some, Result, Ok, Err, refl, sym, subst, All-nil}
-use prelude.{All-cons, Hash, LedgerHeader, XdrFault, IsBytes, mark, Position, Reading, start_of, StartImage}
-use prelude.{ledger_header, start_image_laws, network_id_of, ledger_hash_of, ImageFault, ClosingState, IsClosingState}
-use prelude.{IsEncoded, header_in, if_complete, read_complete, IsJudged, IsComplete, is_kept, Outcome, silent}
-use prelude.{IsStarted, IsOutcomeOf, EachRun, EachImage, EachOutcome, same_Some}
+use Rattle.existence_laws.proofs.Prelude.{◌≡◌, ℕ, zero, suc, ◌-◌, List, [], ◌∷◌, length, All, Some, Result, Ok, Err}
+use Rattle.existence_laws.proofs.Prelude.{refl, sym, subst, All-nil, All-cons, Hash, LedgerHeader, XdrFault, IsBytes}
+use Rattle.existence_laws.proofs.Prelude.{mark, Position, Reading, start_of, StartImage, start_image_laws}
+use Rattle.existence_laws.proofs.Prelude.{network_id_of, ImageFault, ClosingState, IsClosingState, IsEncoded, header_in}
+use Rattle.existence_laws.proofs.Prelude.{if_complete, read_complete, IsJudged, IsComplete, is_kept, Outcome, silent}
+use Rattle.existence_laws.proofs.Prelude.{IsStarted, IsOutcomeOf, EachRun, EachImage, EachOutcome, same_Some}
+use Rattle.close_laws.specs.xdr_header.Header.{ledger_header}
+use Rattle.close_laws.specs.value_hashes.Hashes.{ledger_hash_of}
 use Rattle.close_laws.specs.xdr_header.Image.{file, files, start_image}
 use Rattle.close_laws.proofs.xdr_header_proofs.HeaderLaws.{ledger_header_laws}
 use Rattle.close_laws.specs.close_rules.declared.image_fault.ImageFault.TheVariants as fault

@@ -1,11 +1,10 @@
 -- Levels take a fresh bucket.
 use Rattle.existence_laws.proofs.Prelude.{ℕ, zero, suc, Bool, true, false, List, map, refl, sym, subst, zero-add}
 use Rattle.existence_laws.proofs.Prelude.{range_with_len, Contents, level_count, spills, Pair, empty_pair, pair_at}
-use Rattle.existence_laws.proofs.Prelude.{IsStep}
 use Rattle.std.proofs.lemmas.List.FromFn.{length-map-range_with_len, get_or-map-range_with_len}
 use Rattle.replay.specs.bucket_merge.Walk.{merge_of}
 use Rattle.replay.proofs.bucket_merge_proofs.Merging.{pass_is_merge}
-use Rattle.close_laws.specs.bucket_levels.Step.{base_at, snap_after, IsMergedIf, IsCurrAfter, IsPairAfter}
+use Rattle.close_laws.specs.bucket_levels.Step.{base_at, snap_after, IsMergedIf, IsCurrAfter, IsPairAfter, IsStep}
 
 abbrev merged_if : Bool → (level : ℕ) → (older newer was : Contents) → Contents
 merged_if true level older newer was = merge_of level older newer

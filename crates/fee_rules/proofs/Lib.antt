@@ -7,4 +7,4 @@ pub mod Longer
 pub mod Encoded
 pub mod Ordered
 pub mod Texts
-pub mod Prelude
+mod Prelude

@@ -3,4 +3,4 @@ pub mod Revalued
 pub mod Stated
 pub mod Encoded
 pub mod Nothing
-pub mod Prelude
+mod Prelude

@@ -1,9 +1,13 @@
 -- Lists that have exactly the values of which something holds, as rows under their keys.
 use Rattle.fresh_bucket.proofs.Prelude.{◌≡◌, ◌↔◌, Bool, true, false, cond, List, [], ◌∷◌, Some, None, map, refl, sym}
-use Rattle.fresh_bucket.proofs.Prelude.{ap, subst, All, Contains, Ordering, Less, is_lt, is_eq, eq_by_cmp, tied_itself}
-use Rattle.fresh_bucket.proofs.Prelude.{AllByRecursion, find, is_sorted, below_all, All-head, All-tail, LedgerKey}
-use Rattle.fresh_bucket.proofs.Prelude.{key_cmp, keys_total, AreRising, value_at, both, first, second, is_less}
-use Rattle.fresh_bucket.proofs.Prelude.{none_found, Sorted, Above, contained_in_map, map_contains}
+use Rattle.fresh_bucket.proofs.Prelude.{ap, subst, All, Contains, is_lt, is_eq, eq_by_cmp, AllByRecursion, find}
+use Rattle.fresh_bucket.proofs.Prelude.{is_sorted, below_all, All-head, All-tail, LedgerKey, key_cmp, AreRising}
+use Rattle.fresh_bucket.proofs.Prelude.{value_at, both, first, second, is_less, none_found, Sorted, Above}
+use Rattle.fresh_bucket.proofs.Prelude.{contained_in_map, map_contains}
+use Rattle.std.specs.declared.cmp.Ordering.{Ordering}
+use Rattle.std.specs.declared.cmp.Ordering.TheVariants.{Less}
+use Rattle.std.specs.Cmp.{tied_itself}
+use Rattle.ledger_types.proofs.KeyOrdering.{keys_total}
 use Rattle.entry_table.proofs.Positions.{found_at, at_of}
 
 abbrev pub listed : {X V : Type 0} → (X → LedgerKey) → (X → V) → List X → List (LedgerKey × V)

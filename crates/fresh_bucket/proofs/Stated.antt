@@ -2,9 +2,9 @@
 use Rattle.fresh_bucket.proofs.Prelude.{◌≡◌, inl, inr, ℕ, true, false, List, [], ◌∷◌, Option, Some, None, IfSome, map}
 use Rattle.fresh_bucket.proofs.Prelude.{option_map, refl, sym, ap, subst, ◌∙◌, option_or, get, get-from_sorted}
 use Rattle.fresh_bucket.proofs.Prelude.{LedgerKey, LedgerEntry, BucketEntry, key_cmp, key_of, Batch, EntryMap, IsKeyed}
-use Rattle.fresh_bucket.proofs.Prelude.{AreRising, IsNew, IsChanged, IsGone, IsBatch, IsExactBatch, value_at}
-use Rattle.fresh_bucket.proofs.Prelude.{IsOverlaid, Sorted, Change, Init, Live, Dead, change_at, BecameOf, IsFresh}
-use Rattle.fresh_bucket.proofs.Prelude.{IsItemRow, stated, bucket_of, made, changed, gone}
+use Rattle.fresh_bucket.proofs.Prelude.{AreRising, IsExactBatch, value_at, IsOverlaid, Sorted, Change, Init, Live, Dead}
+use Rattle.fresh_bucket.proofs.Prelude.{change_at, BecameOf, IsFresh, IsItemRow, stated, bucket_of, made, changed, gone}
+use Rattle.entry_map.specs.Batch.{IsNew, IsChanged, IsGone, IsBatch}
 use Rattle.ledger_types.specs.declared.bucket.BucketEntry.TheVariants as bucket
 use Rattle.entry_table.proofs.Batches.{same_parts}
 use Rattle.fresh_bucket.proofs.Listed.{there, source, nowhere}

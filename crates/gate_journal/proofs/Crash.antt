@@ -1,9 +1,10 @@
 -- What a crash leaves of a journal in each of the two writes of an append.
 use Rattle.gate_journal.proofs.Prelude.{◌≡◌, ℕ, ◌+◌, ◌≤◌, min, List, [], ◌∷◌, ◌++◌, length, get_or, take, drop, refl}
 use Rattle.gate_journal.proofs.Prelude.{sym, ◌∙◌, ap, subst, inl, inr, arith, append_assoc, length-append}
-use Rattle.gate_journal.proofs.Prelude.{take-append-drop, take_at, drop_at, drop_more, All-push, cases_eq, big_bytes}
-use Rattle.gate_journal.proofs.Prelude.{Torn, Wrote, max_record, block, blocks, BeginWith, IsShut, HasRecords, framed}
-use Rattle.gate_journal.proofs.Prelude.{Appended, HasEither}
+use Rattle.gate_journal.proofs.Prelude.{take-append-drop, take_at, drop_at, drop_more, All-push, big_bytes, Torn, Wrote}
+use Rattle.gate_journal.proofs.Prelude.{max_record, block, blocks, BeginWith, IsShut, HasRecords, framed, Appended}
+use Rattle.gate_journal.proofs.Prelude.{HasEither}
+use Rattle.std.proofs.lemmas.Bool.{cases_eq}
 use Rattle.gate_journal.proofs.Records.{blocks_push}
 
 -- ---- one gate, and what follows it
@@ -108,7 +109,8 @@ either_gate records bytes following c gate fits short is = elim (cases_eq gate 1
   | inr shut ↦ inl (gate ∷ (framed bytes ++ following), record { cut = is; short = short.1.short }, shut)
 ]
 
-pub torn_gate : (records : List (List ℕ)) (bytes following : List ℕ) (end : ℕ) (mid c : List ℕ) → length bytes ≤ max_record
+pub torn_gate : (records : List (List ℕ)) (bytes following : List ℕ) (end : ℕ) (mid c : List ℕ)
+    → length bytes ≤ max_record
     → end ≡ length (blocks records)
     → Staged records bytes following mid → Torn end 1 mid c → HasEither records bytes c
 torn_gate records bytes following end mid c fits offset stage torn =

@@ -6,4 +6,4 @@ pub mod Records
 pub mod Crash
 pub mod Moments
 pub mod Settled
-pub mod Prelude
+mod Prelude

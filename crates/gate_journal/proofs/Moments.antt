@@ -68,7 +68,12 @@ pub reach_staged : (records : List (List ℕ)) (bytes following mid : List ℕ) 
     → Staged records bytes following mid
     → end ≤ length mid
 reach_staged records bytes following mid end offset stage =
-    omega (arith, offset, ap length stage.entire, length-append (blocks records) (stage.gate ∷ (framed bytes ++ following)))
+    omega (
+      arith,
+      offset,
+      ap length stage.entire,
+      length-append (blocks records) (stage.gate ∷ (framed bytes ++ following)),
+    )
 
 -- what the first write leaves
 pub staged_by : (old mid : Disk) (file end : ℕ) (records : List (List ℕ)) (bytes piece : List ℕ) → piece ≡ framed bytes

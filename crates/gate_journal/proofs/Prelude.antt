@@ -1,10 +1,8 @@
 -- Names that several proofs of this crate use.
-use Rattle.outside.proofs.Prelude as lower
-pub use lower.{Bool, Disk, Err, Image, InFile, List, Ok, OnOk, Result, Runs, Same, Stays, Torn, Wrote, [], ap}
-pub use lower.{append-nil, arith, cases_eq, drop, false, get_or, inl, inr, length, length-append, min, refl, subst, sym}
-pub use lower.{take, take_all, ℕ, ◌++◌, ◌+◌, ◌-◌, ◌<◌, ◌∙◌, ◌∷◌, ◌≡◌, ◌≤◌, ◌⊎◌}
-pub use Rattle.std.proofs.Common.{Some, append_assoc, length-drop, take-append-drop}
-pub use Rattle.std.proofs.lemmas.List.{drop-drop, drop_at, drop_more, take_at}
+pub use Rattle.std.proofs.Common.{Bool, Err, List, Ok, OnOk, Result, Some, [], ap, append_assoc, arith, drop, false}
+pub use Rattle.std.proofs.Common.{get_or, inl, inr, length, length-append, length-drop, min, refl, subst, sym, take}
+pub use Rattle.std.proofs.Common.{take-append-drop, ℕ, ◌++◌, ◌+◌, ◌-◌, ◌<◌, ◌∙◌, ◌∷◌, ◌≡◌, ◌≤◌, ◌⊎◌}
+pub use Rattle.std.proofs.lemmas.List.{append-nil, drop-drop, drop_at, drop_more, take_all, take_at}
 pub use Rattle.std.proofs.lemmas.List.Elements.{All-head, All-nil, All-push, All-tail}
 pub use Rattle.std.specs.Prelude.{All}
 pub use Rattle.byteorder.specs.Endian.{big_bytes, big_number}
@@ -14,4 +12,4 @@ pub use Rattle.gate_journal.specs.Reading.{IsOpen, ReportsBroken, ReportsRecord,
 pub use Rattle.gate_journal.specs.Records.{Appended, BeginWith, HasRecords, IsBroken, IsShut, block, blocks, framed}
 pub use Rattle.gate_journal.specs.Records.{max_record}
 pub use Rattle.outside.proofs.Running.{onward}
-pub use Rattle.outside.specs.Disk.{IsSafe}
+pub use Rattle.outside.specs.Disk.{Disk, Image, InFile, IsSafe, Runs, Same, Stays, Torn, Wrote}

@@ -1,3 +1,5 @@
+//! The memory that one append takes, held before it.
+
 ghost use Rattle.std.specs.Prelude.{◌≡◌, ◌≤◌, IfOk, length};
 ghost use Rattle.gate_journal.specs.Records.{framed, max_record};
 

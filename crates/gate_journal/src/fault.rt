@@ -1,3 +1,5 @@
+//! Why a call of a store or of a journal failed.
+
 /// Why a call of a store, or of one of its journals, failed.
 #[derive(Clone, Copy, Debug, PartialEq, Eq)]
 pub enum StoreFault {

@@ -1,3 +1,5 @@
+//! A journal: framed records in a file, each behind a gate byte that is opened last.
+
 ghost use Rattle.std.specs.Prelude.{
   ◌≡◌,
   ◌≢◌,

@@ -5,7 +5,8 @@ ghost use Rattle.byteorder.specs.Endian.{big_number, big_bytes};
 ghost use Rattle.outside.specs.Streams.{HasCause};
 ghost use Rattle.outside.specs.Disk.{Stays};
 ghost use Rattle.gate_journal.specs.Records.{max_record, blocks};
-ghost use Rattle.gate_journal.specs.Reading.{ReportsNothing, ReportsGate, ReportsLength, ReportsRecord, ReportsRecords, IsOpen};
+ghost use Rattle.gate_journal.specs.Reading.{ReportsNothing, ReportsGate, ReportsLength, ReportsRecord, ReportsRecords};
+ghost use Rattle.gate_journal.specs.Reading.{IsOpen};
 ghost use Rattle.gate_journal.specs.Reading.{HasReadCause};
 
 use crate::fault::StoreFault;
@@ -52,7 +53,8 @@ pub fn read_bytes<V: Volume>(
     requires fits { at + count < 2 ^ 64 }
     requires within { V.reports → at + count ≤ length ((V.disk vol.old).reads file) }
     ensures count { IfOk result (λ bytes. length bytes.items ≡ count) }
-    ensures bytes { V.reports → IfOk result (λ bytes. bytes.items ≡ take count (drop at ((V.disk vol.old).reads file))) }
+    ensures bytes { V.reports
+        → IfOk result (λ bytes. bytes.items ≡ take count (drop at ((V.disk vol.old).reads file))) }
     ensures stays { Stays (V.disk vol.old) (V.disk vol.new) }
     ensures cause { HasReadCause (V.faults vol.old) (V.faults vol.new) result }
     ensures unbroken { IfErr result (λ wrong. ReportsNothing wrong) }

@@ -33,7 +33,8 @@ balance_id_of source seq op =
 -- (OperationID)
 abbrev pub revoke_id_of : AccountId → ℤ → ℕ → Hash → Asset → Hash
 revoke_id_of source seq op pool held =
-    hash_of (i32.encoding ENVELOPE_TYPE_POOL_REVOKE_OP_ID ++ account_id.encoding source ++ i64.encoding seq ++ u32.encoding op
+    hash_of (i32.encoding ENVELOPE_TYPE_POOL_REVOKE_OP_ID ++ account_id.encoding source ++ i64.encoding seq
+    ++ u32.encoding op
     ++ hash.encoding pool ++ asset.encoding held)
 
 -- the id of the pool of two assets, whose fee is 30

@@ -1,4 +1,4 @@
 pub mod Indices
 pub mod Asked
 pub use Rattle.xdr_header.proofs as xdr_header_proofs
-pub mod Prelude
+mod Prelude

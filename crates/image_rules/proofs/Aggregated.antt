@@ -3,9 +3,10 @@ use Rattle.image_rules.proofs.Prelude as prelude
 use prelude.{◌≡◌, ◌≢◌, refl, sym, ap, subst, ◌∙◌, ℕ, Option, Some, None, Bool, IfSome, All-weaker, ℤ, pos, ◌+ℤ◌, ◌↔◌}
 use prelude.{IsTrue, if◌then◌else◌, tied_itself, is_eq, slice_get, get, values, AccountId, Hash, TrustLineAsset}
 use prelude.{AccountEntry, TrustLineEntry, LiquidityPoolEntry, LedgerEntry, LedgerEntryBody, LedgerKey, key_of}
-use prelude.{key_of_body, keys_total, EntryMap, IsKeyed, total, part, EachEntry, total_none, total_only, total_plus}
-use prelude.{total_same, for_account, view, pools_in, IsAggregated, counted, stated, stated_at, AreOwned, Aggregate}
-use prelude.{CountMap, IsCountOf, kind_of, itself, own_count, counted_itself, counted_else, AreCounts, Agrees, AgreesIn}
+use prelude.{key_of_body, keys_total, EntryMap, IsKeyed, total, part, EachEntry, for_account, view, pools_in}
+use prelude.{IsAggregated, counted, stated, stated_at, AreOwned, Aggregate, CountMap, IsCountOf, kind_of, itself}
+use prelude.{own_count, counted_itself, counted_else, AreCounts, Agrees, AgreesIn}
+use Rattle.close_rules.proofs.entry_sums_proofs.Summing.{total_none, total_only, total_plus, total_same}
 use Rattle.ledger_types.specs.declared.entry.LedgerEntryBody.TheVariants as body
 use Rattle.ledger_types.specs.declared.key.LedgerKey.TheVariants as key
 use Rattle.image_rules.specs.declared.aggregates.Aggregate.TheVariants as aggregate

@@ -58,7 +58,8 @@ brought_once m ids new i e before at brings id =
 pub apart_of_all : (m : EntryMap) (ids : BTreeSet ℤ) (n : ℕ) → length (entries m) ≤ n
     → ((id : ℤ) → sum_before (offer_with id) m n ≡ id_among ids id) → AreOffersApart m
 apart_of_all m ids n le all id =
-    subst (λ s. s ≤ℤ pos 1) (sym (all id) ∙ sum_of_all (offer_with id) m n le) (indicator_at_most_one (contains int_cmp ids id))
+    subst (λ s. s ≤ℤ pos 1) (sym (all id) ∙ sum_of_all (offer_with id) m n le)
+    (indicator_at_most_one (contains int_cmp ids id))
 
 -- ---- sets
 

@@ -8,4 +8,4 @@ mod Rising
 mod Apart
 mod Judged
 pub mod Distinct
-pub mod Prelude
+mod Prelude

@@ -1,9 +1,10 @@
 -- The entries of a map by their indices.
 use Rattle.image_rules.proofs.Prelude as prelude
 use prelude.{◌≡◌, inl, inr, refl, sym, ap, subst, ◌∙◌, ℕ, zero, suc, ◌+◌, ◌<◌, ◌≤◌, true, false, cond, T, [], ◌∷◌, map}
-use prelude.{length, take, Some, None, add-one, arith, cases_eq, ints, take_all, ℤ, pos, ◌+ℤ◌, slice_get, is_eq}
-use prelude.{eq_by_cmp, Equal, tied_itself, get, entries, values, entries_sorted, get-entries, LedgerEntry, LedgerKey}
-use prelude.{key_of, key_cmp, keys_total, EntryMap, Weight, sum_over, total, EachEntry, Pairs, found_later}
+use prelude.{length, take, Some, None, add-one, arith, ints, take_all, ℤ, pos, ◌+ℤ◌, slice_get, is_eq, eq_by_cmp, Equal}
+use prelude.{tied_itself, get, entries, values, entries_sorted, get-entries, LedgerEntry, LedgerKey, key_of, key_cmp}
+use prelude.{keys_total, EntryMap, Weight, sum_over, total, EachEntry, Pairs, found_later}
+use Rattle.std.proofs.lemmas.Bool.{cases_eq}
 use Rattle.std.specs.FinMap.Entries.{find, is_sorted, below_all}
 use Rattle.ledger_types.proofs.Booleans.{first_true, is_lt_Less, second_true}
 

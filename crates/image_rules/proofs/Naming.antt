@@ -2,15 +2,20 @@
 use Rattle.image_rules.proofs.Prelude as prelude
 use prelude.{◌≡◌, ◌≢◌, refl, sym, ap, subst, ◌∙◌, ℕ, ◌+◌, Bool, true, false, cond, List, [], ◌∷◌, ◌++◌, ◌<◌, map}
 use prelude.{length, take, get_or, All, Option, Some, None, arith, ints, All-nil, All-cons, All-head, All-tail}
-use prelude.{All-append, All-map, length-filter, length-map, ℤ, pos, ◌+ℤ◌, ◌↔◌, IsTrue, if◌then◌else◌, count_by}
-use prelude.{flat_map, AccountId, Hash, Asset, TrustLineAsset, Signer, AccountEntry, TrustLineEntry, OfferEntry}
-use prelude.{LedgerEntry, LedgerEntryBody, LedgerKey, key_of, key_of_body, sponsor_of, second_in, sponsorship_in}
-use prelude.{owner_of, multiplicity, is_same_account, is_there, is_key, for_key, for_account, bound_of, is_for}
-use prelude.{for_each, signer_sponsors_in, subentries_in, sponsored_in_entry, account_keys, keys_in, share_keys}
-use prelude.{pool_keys, holding_keys, needed_keys, holder, sells, buys, Pools, pool_named, needed_line, shares_in}
-use prelude.{share_lines, uses_of, uses_by, uses, View, counted, Aggregate, kind_of, itself, other_owner, own_count}
-use prelude.{counted_itself, counted_else, payers_pay, owner_is_paid, ArePayersOthers, apart_keys, add_zero, zero_add}
-use prelude.{zeros_add_to_zero, all_back, all_front}
+use prelude.{All-append, All-map, length-map, ℤ, pos, ◌+ℤ◌, ◌↔◌, IsTrue, if◌then◌else◌, count_by, flat_map, AccountId}
+use prelude.{Hash, Asset, TrustLineAsset, Signer, AccountEntry, TrustLineEntry, OfferEntry, LedgerEntry}
+use prelude.{LedgerEntryBody, LedgerKey, key_of, key_of_body, is_there, is_key, for_key, for_account, is_for, for_each}
+use prelude.{signer_sponsors_in, subentries_in, sponsored_in_entry, account_keys, keys_in, share_keys, pool_keys}
+use prelude.{holding_keys, needed_keys, holder, sells, buys, Pools, pool_named, needed_line, shares_in, share_lines}
+use prelude.{uses_of, uses_by, uses, View, counted, Aggregate, kind_of, itself, other_owner, own_count, counted_itself}
+use prelude.{counted_else, payers_pay, owner_is_paid, ArePayersOthers, add_zero, zero_add, zeros_add_to_zero}
+use Rattle.std.proofs.lemmas.List.Sums.{length-filter}
+use Rattle.entry_slots.specs.EntrySponsor.{sponsor_of}
+use Rattle.sponsor_rules.specs.Charge.{owner_of, multiplicity}
+use Rattle.sponsor_rules.specs.Payers.{is_same_account}
+use Rattle.close_rules.specs.legal_rules.OfferLiabilities.{bound_of}
+use Rattle.entry_map.proofs.Lookups.{apart_keys}
+use Rattle.ledger_types.proofs.Lists.{all_back, all_front}
 use Rattle.std.proofs.lemmas.List.Filters.{length-filter_more}
 use Rattle.ledger_types.specs.declared.asset.Asset.TheVariants as asset
 use Rattle.ledger_types.specs.declared.asset.PoolParams.{PoolParams}
@@ -18,7 +23,7 @@ use Rattle.ledger_types.specs.declared.asset.TrustLineAsset.TheVariants as line
 use Rattle.ledger_types.specs.declared.account.AccountEntryExtensionV2.{AccountEntryExtensionV2}
 use Rattle.ledger_types.specs.declared.entry.LedgerEntryBody.TheVariants as body
 use Rattle.ledger_types.specs.declared.key.LedgerKey.TheVariants as key
-use Rattle.entry_slots.specs.AccountExtensions.{sponsorship_of}
+use Rattle.entry_slots.specs.AccountExtensions.{sponsorship_of, second_in, sponsorship_in}
 use Rattle.image_rules.specs.declared.aggregates.Aggregate.TheVariants as aggregate
 use Rattle.close_rules.proofs.legal_rules_proofs.Evaluated.{filter_of_others, for_account_of_others, for_key_of_others}
 use Rattle.close_rules.proofs.legal_rules_proofs.Evaluated.{uses_of_others}
@@ -173,8 +178,10 @@ unused k pools other others = refl
 
 pub uncounted : (which : Aggregate) (v : View) (k : LedgerKey) (e : LedgerEntry) → AllNamed (IsOther k) v.pools e
     → counted v (kind_of which) k e ≡ pos 0
-uncounted aggregate.Subentries v k e others = for_account_of_others k (owner_of e.body) (subentries_in e.body) others.owner
-uncounted aggregate.Sponsored v k e others = for_account_of_others k (owner_of e.body) (sponsored_in_entry e) others.owner
+uncounted aggregate.Subentries v k e others =
+    for_account_of_others k (owner_of e.body) (subentries_in e.body) others.owner
+uncounted aggregate.Sponsored v k e others =
+    for_account_of_others k (owner_of e.body) (sponsored_in_entry e) others.owner
 uncounted aggregate.Sponsoring v k e others =
     zeros_add_to_zero (for_account k (sponsor_of e) (multiplicity e.body)) (for_each k (signer_sponsors_in e.body))
     (for_account_of_others k (sponsor_of e) (multiplicity e.body) others.sponsor)
@@ -305,10 +312,11 @@ sponsoring_sum k e sponsor n is same =
 
 add_for_account_zero : (k : LedgerKey) (o : Option AccountId) (a : ℤ) → a ≡ (a +ℤ for_account k o 0)
 add_for_account_zero k None a = sym (add_zero a)
-add_for_account_zero k (Some id) a = elim (is_key (key.Account id) k) as (λ b. a ≡ (a +ℤ (if b then pos 0 else pos 0))) [
-  | true ↦ sym (add_zero a)
-  | false ↦ sym (add_zero a)
-]
+add_for_account_zero k (Some id) a =
+    elim (is_key (key.Account id) k) as (λ b. a ≡ (a +ℤ (if b then pos 0 else pos 0))) [
+      | true ↦ sym (add_zero a)
+      | false ↦ sym (add_zero a)
+    ]
 
 owned_parts : (k : LedgerKey) (b : LedgerEntryBody) (n : ℕ) → for_account k (owner_of b) n
     ≡ (for_account k (other_owner b) n +ℤ for_account k (itself b) n)

@@ -51,7 +51,8 @@ too_long gate rest one long = (
       absurd (omega arith),
 )
 
-otherwise : (gate : ℕ) (rest : List ℕ) → gate ≡ 1 → (gate ∷ rest ≡ block (reported_bytes rest) ++ reported_after rest → ⊥)
+otherwise : (gate : ℕ) (rest : List ℕ) → gate ≡ 1
+    → (gate ∷ rest ≡ block (reported_bytes rest) ++ reported_after rest → ⊥)
     → IsBroken (gate ∷ rest)
 otherwise gate rest one none = (
   one,

@@ -31,7 +31,8 @@ more_after : (bytes : List ℕ) (image : StartImage) (end : Position) (first : �
     → start_image.read (start_of bytes) ≡ Ok (image, end) → end.rest ≡ first ∷ rest
     → (other : StartImage) → IsImage bytes other → ⊥
 more_after bytes image end first rest reads more other (offset, again, none) =
-    let same = ap (λ (l : StartImage × Position). l.1.rest) (reading_one bytes (image, end) (other, offset) reads again) in
+    let same = ap (λ (l : StartImage × Position). l.1.rest)
+    (reading_one bytes (image, end) (other, offset) reads again) in
     omega (arith, ap length (sym more ∙ same ∙ none))
 
 unread : (bytes : List ℕ) (wrong : XdrFault) → start_image.read (start_of bytes) ≡ Err wrong
@@ -168,7 +169,8 @@ each_form number file = elim (open_or_shut file) [
 
 by_form : (c : Image) → FormOrOffset 0 (c 0) → FormOrOffset 1 (c 1) → Opens c
 by_form c (inl first) (inl second) =
-    by_open c (each_below_two (λ n. IsOpen (c n) → IsFormed n (c n)) first second) (open_or_shut (c 0)) (open_or_shut (c 1))
+    by_open c (each_below_two (λ n. IsOpen (c n) → IsFormed n (c n)) first second) (open_or_shut (c 0))
+    (open_or_shut (c 1))
 by_form c (inl first) (inr (opened, (offset, wrong))) = (
   Err (fault.BadStore 1 offset),
   inl (record {

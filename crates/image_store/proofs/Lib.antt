@@ -11,4 +11,4 @@ pub mod Rolled
 pub mod Created
 pub mod Unmounted
 pub use Rattle.gate_journal.proofs as gate_journal_proofs
-pub mod Prelude
+mod Prelude

@@ -15,7 +15,8 @@ module _ (old new : Disk) (number : ℕ) (head : Head) (its : IsChosenHead old.r
       → journal.IsMountFault before now wrong → Mounts old new (Err wrong)
   no_image (fault.BadStore bad offset) same reported cause = (
     same,
-    inr (inl (subst (λ n. BreaksImage old.reads n offset) (sym reported.0) (breaks_image offset reported.1 reported.2))),
+    inr (inl (subst (λ n. BreaksImage old.reads n offset) (sym reported.0)
+        (breaks_image offset reported.1 reported.2))),
   )
   no_image fault.NoMemory same reported cause = same
   no_image fault.DiskFault same reported cause = tt

@@ -1,3 +1,5 @@
+//! What mounting a volume gives.
+
 use crate::store::Store;
 use item_list::ItemList;
 use ledger_types::Hash;

@@ -65,7 +65,8 @@ pub(crate) fn after_gate(
     image: &StartImage,
 ) -> Result<Vec<u8>, AllocError>
     requires { start_image.within image.now }
-    ensures piece { IfOk result (λ piece. piece.items ≡ after_gate epoch network.now.0 (start_image.encoding image.now)) }
+    ensures piece { IfOk result
+        (λ piece. piece.items ≡ after_gate epoch network.now.0 (start_image.encoding image.now)) }
     ensures network { length network.now.0 ≡ 32 }
     ensures sized { OnOk result (start_image.sized image.now) }
     ensures fits { OnOk result (length (start_image.encoding image.now) < 256 ^ 8) }

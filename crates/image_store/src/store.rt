@@ -1,3 +1,5 @@
+//! The calls of a store: images and journals of two epochs on a volume.
+
 ghost use Rattle.std.specs.Prelude.{
   ◌≡◌,
   ◌≢◌,

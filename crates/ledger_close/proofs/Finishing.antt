@@ -2,10 +2,12 @@
 use Rattle.ledger_close.proofs.Prelude as prelude
 use prelude.{◌≡◌, ℕ, ◌+◌, ◌<◌, ◌≤◌, ℤ, Bool, true, false, List, map, Option, Some, None, Result, Ok, Err, refl, sym, ap}
 use prelude.{◌∙◌, subst, if◌then◌else◌, option_or, Hash, LedgerHeader, IsBytes, CloseRecord, ledger_header}
-use prelude.{transaction_result_set, ledger_hash_of, results_hash_of, EntryMap, Pair, LevelsAfter, list_hash}
-use prelude.{file_total, upgrade_in, all_upgraded, finished, CloseFault, ClosingState, record_in, term_fault}
-use prelude.{upgrade_fault, PreparedClose, IsClosed, applied_in, result_set, filled_header, upgraded_header, IsClosable}
-use prelude.{Worked, filled, Leaves, IsLeveled, IsClosedBy, Answers, terms_of, state_of, less_from_unequal}
+use prelude.{ledger_hash_of, results_hash_of, EntryMap, Pair, LevelsAfter, list_hash, file_total, upgrade_in}
+use prelude.{all_upgraded, finished, CloseFault, ClosingState, record_in, term_fault, upgrade_fault, PreparedClose}
+use prelude.{IsClosed, applied_in, result_set, filled_header, upgraded_header, IsClosable, Worked, filled, Leaves}
+use prelude.{IsLeveled, IsClosedBy, Answers, terms_of, state_of}
+use Rattle.value_hashes.specs.xdr_results.Results.{transaction_result_set}
+use Rattle.ledger_types.proofs.Arithmetic.{less_from_unequal}
 use Rattle.ledger_types.specs.declared.header.StellarValue.{StellarValue}
 use Rattle.op_types.specs.declared.transaction_result.TransactionResultSet.{TransactionResultSet}
 use Rattle.op_types.specs.declared.transaction_result.TransactionResultPair.{TransactionResultPair}
@@ -104,7 +106,8 @@ header_encoded law s closing step header can is =
 
 -- ---- numbers
 
-if_some_none_false : (b : Bool) (f : CloseFault) (rest : Option CloseFault) → (if b then Some f else rest) ≡ None → b ≡ false
+if_some_none_false : (b : Bool) (f : CloseFault) (rest : Option CloseFault) → (if b then Some f else rest) ≡ None
+    → b ≡ false
 if_some_none_false true f rest e = absurd (cc)
 if_some_none_false false f rest e = refl
 

@@ -1,7 +1,8 @@
 -- What a close says of the state after it.
 use Rattle.ledger_close.proofs.Prelude.{◌≡◌, ℕ, ◌+◌, ◌≤◌, List, length, Ok, ap, ◌∙◌, subst, Contents, IsStep, list_hash}
 use Rattle.ledger_close.proofs.Prelude.{CloseRecord, ClosingState, IsClosingState, PreparedClose, IsClosed, IsClose}
-use Rattle.ledger_close.proofs.Prelude.{TakenIsClosable, NextIsClosing, next_counts}
+use Rattle.ledger_close.proofs.Prelude.{next_counts}
+use Rattle.close_laws.specs.Closes.{TakenIsClosable, NextIsClosing}
 
 -- the number of the next ledger
 pub next_number : (s : ClosingState) (closing : CloseRecord) (closed : PreparedClose) → IsClosed s closing closed

@@ -3,12 +3,15 @@ use Rattle.ledger_close.proofs.Prelude as prelude
 use prelude.{◌≡◌, ◌≢◌, ℕ, ◌≤◌, inl, inr, List, [], ◌∷◌, map, Option, Some, None, pos, Ok, Err, refl, sym, ap, ◌∙◌}
 use prelude.{subst, arith, All, ◌*◌, length, AllByRecursion, get, entries, get-entries, length-append, All-nil}
 use prelude.{All-cons, All-head, All-tail, recursion_from_All, Hash, LedgerHeader, LedgerEntry, key_of, IsBytes, Lawful}
-use prelude.{i32, Position, start_of, StartImage, ledger_header, ledger_entry, ledger_hash_of, EntryMap}
-use prelude.{IsEntryEncodable, AreEncodable, IsLegal, Change, Init, Live, Dead, Contents, change_at, HasFile, items_of}
-use prelude.{item_of, Pair, LevelsAt, list_hash, file_total, ImageFault, ImageRule, IsClosingState, IsEncoded}
-use prelude.{max_file_total, IsFirstBroken, entry_rules, header_in, read_complete, if_complete, AreFilesOf, HasHeader}
-use prelude.{HasLevels, HasEntries, IsJudged, state_of, IsKept, JudgesImage, IsFileFault, IsHeaderJudged, DoFilesFit}
-use prelude.{Lists, AreJudged}
+use prelude.{Position, start_of, StartImage, ledger_header, ledger_hash_of, EntryMap, Change, Init, Live, Dead}
+use prelude.{Contents, change_at, HasFile, items_of, item_of, Pair, LevelsAt, list_hash, file_total, ImageFault}
+use prelude.{ImageRule, IsClosingState, IsEncoded, max_file_total, IsFirstBroken, entry_rules, header_in, read_complete}
+use prelude.{if_complete, AreFilesOf, HasHeader, HasLevels, HasEntries, IsJudged, state_of, IsKept, JudgesImage}
+use prelude.{IsFileFault, IsHeaderJudged, DoFilesFit, Lists, AreJudged}
+use Rattle.xdr_core.specs.Leaves.{i32}
+use Rattle.bucket_core.specs.xdr_entries.Entries.{ledger_entry}
+use Rattle.entry_table.specs.entry_changes.Encodable.{IsEntryEncodable, AreEncodable}
+use Rattle.close_rules.specs.legal_rules.Legal.{IsLegal}
 use Rattle.ledger_types.specs.declared.key.LedgerKey.{LedgerKey}
 use Rattle.ledger_types.specs.declared.bucket.BucketEntry.TheVariants as item
 use Rattle.bucket_core.specs.xdr_entries.Keys.{bucket_entry}

@@ -8,4 +8,4 @@ pub mod Counting
 pub use Rattle.close_laws.proofs as close_laws_proofs
 pub use Rattle.entry_table.proofs as entry_table_proofs
 pub use Rattle.image_rules.proofs as image_rules_proofs
-pub mod Prelude
+mod Prelude

@@ -2,10 +2,12 @@
 use Rattle.ledger_close.proofs.Prelude as prelude
 use prelude.{◌≡◌, ℕ, ◌<◌, Bool, true, false, List, [], ◌∷◌, map, length, Option, Some, None, Result, Ok, Err, refl, ap}
 use prelude.{◌∙◌, subst, arith, All, All-head, All-tail, All-from_recursion, option_map, slice_get, if◌then◌else◌}
-use prelude.{option_or, LedgerHeader, CloseRecord, close_record, stellar_value, list, upgraded_if, all_upgraded}
-use prelude.{upgrade_in, first_index, is_bad_at, is_out_of_profile, Tests, first_fault, missing_index, CloseFault}
-use prelude.{ClosingState, IsEncoded, term_tests, term_fault, upgrade_fault, set_fault, record_fault, filled, FaultIs}
-use prelude.{terms_of, IsUpgradedIn, IsUpgradedBy, IsFinished, IsClosedBy, PreparedClose}
+use prelude.{option_or, LedgerHeader, CloseRecord, close_record, stellar_value, upgraded_if, all_upgraded, upgrade_in}
+use prelude.{first_index, is_bad_at, is_out_of_profile, missing_index, CloseFault, ClosingState, IsEncoded, term_tests}
+use prelude.{term_fault, upgrade_fault, set_fault, record_fault, filled, FaultIs, terms_of, IsUpgradedIn, IsUpgradedBy}
+use prelude.{IsFinished, IsClosedBy, PreparedClose}
+use Rattle.xdr_core.specs.Combinators.{list}
+use Rattle.close_rules.specs.entry_slots.Tests.{Tests, first_fault}
 use Rattle.ledger_types.specs.declared.header.LedgerUpgrade.TheVariants as upgrade
 use Rattle.ledger_types.specs.declared.header.LedgerUpgrade.{LedgerUpgrade}
 use Rattle.xdr_core.specs.declared.fault.XdrKind.{XdrKind}
@@ -66,7 +68,8 @@ mapped_of_record : (make : ℕ → CloseFault) (a : Option ℕ) (f : CloseFault)
 mapped_of_record make (Some n) f known is = subst IsOfRecord (cc) (known n)
 mapped_of_record make None f known is = absurd (cc)
 
-either_of_record : (a b : Option CloseFault) (f : CloseFault) → (a ≡ Some f → IsOfRecord f) → (b ≡ Some f → IsOfRecord f)
+either_of_record : (a b : Option CloseFault) (f : CloseFault) → (a ≡ Some f → IsOfRecord f)
+    → (b ≡ Some f → IsOfRecord f)
     → option_or a b ≡ Some f → IsOfRecord f
 either_of_record (Some x) b f p q is = p is
 either_of_record None b f p q is = q is

@@ -1,8 +1,10 @@
 -- What the set of a record leaves, by what applying it answered.
 use Rattle.ledger_close.proofs.Prelude.{◌≡◌, Option, Some, None, Ok, Err, refl, sym, ap, ◌∙◌, subst, IfSome, get}
-use Rattle.ledger_close.proofs.Prelude.{LedgerEntry, key_of, CloseRecord, EntryMap, IsKeyed, EachEntry, IsAnswer}
-use Rattle.ledger_close.proofs.Prelude.{set_done, fee_pool_after, missing_index, IsConserved, ClosingState, set_fault}
-use Rattle.ledger_close.proofs.Prelude.{applied_in, setting_in, FaultIs, fault_of_set, IsDone}
+use Rattle.ledger_close.proofs.Prelude.{LedgerEntry, key_of, CloseRecord, EntryMap, IsKeyed, IsAnswer, set_done}
+use Rattle.ledger_close.proofs.Prelude.{fee_pool_after, missing_index, ClosingState, set_fault, applied_in, setting_in}
+use Rattle.ledger_close.proofs.Prelude.{FaultIs, fault_of_set, IsDone}
+use Rattle.close_rules.specs.entry_sums.Sums.{EachEntry}
+use Rattle.close_laws.specs.tx_apply.Laws.{IsConserved}
 use Rattle.entry_map.specs.declared.batch.Batch.{Batch}
 use Rattle.entry_map.specs.Batch.{IsBatch}
 use Rattle.entry_map.specs.Indexes.{PositionMap, IsIndexOf}

@@ -117,7 +117,8 @@ module _ (v : View) (id_pool next : ℕ) (owed : Owed) (sum : ℤ) (ctx : Ctx) (
       joined w e p s b y is also splits = omega (arith, ints)
 
   -- the entry with its sponsor is put
-  inserted : (o : Option AccountId) → t ≡ o → AreChanged v id_pool sum Charged None t owner a (with_subentry n t a) m now
+  inserted : (o : Option AccountId) → t ≡ o
+      → AreChanged v id_pool sum Charged None t owner a (with_subentry n t a) m now
       → IsLegalNow (put now (sponsored_entry o entry))
   inserted None is changed = legal_as v (IsEntryLegal next) _ (plus owed (beside_reserves (weighed v entry))) _ _ _
       (put_legal v (IsEntryLegal next) Charged sum now

@@ -53,7 +53,8 @@ module _ (m : EntryMap) (authorized : EachEntry (λ q x. AreLinesAuthorized m x.
       (second_passes Passes (holder o.seller_id o.selling) (holder o.seller_id o.buying) named all is) same)
   not_bought other all = refl
 
-module _ (m : EntryMap) (authorized : EachEntry (λ q x. AreLinesAuthorized m x.body) m) (selling : IsAggregated Selling m)
+module _ (m : EntryMap) (authorized : EachEntry (λ q x. AreLinesAuthorized m x.body) m)
+    (selling : IsAggregated Selling m)
     (buying : IsAggregated Buying m) where
   by_body : (k : LedgerKey) (e : LedgerEntry) (b : LedgerEntryBody) → get m k ≡ Some e → e.body ≡ b → IsBoundRightly b
   by_body k e (body.TrustLine t) there is = λ none.
@@ -100,7 +101,8 @@ module _ (id_pool : ℕ) (m : EntryMap) (entries : EachEntry (λ k e. IsEntryInR
   bought_passes k q x at some = by_entry (get m k) refl
     where
       by_line : (e : LedgerEntry) (b : LedgerEntryBody) → get m k ≡ Some e → e.body ≡ b → IsAuthorized (line_in b)
-      by_line e (body.TrustLine t) there is = λ none. at_least_one_states_some (buys k x.body) (total (counted (view m) Buying k) m)
+      by_line e (body.TrustLine t) there is =
+          λ none. at_least_one_states_some (buys k x.body) (total (counted (view m) Buying k) m)
           (stated_at Buying (get m k)) some (part_at_most (counted (view m) Buying k) m q x
           (λ r y has. counted_low id_pool (view m) Buying k y (entries r y has)) at) (buying k)
           (ap (stated_at Buying) there ∙ ap (stated Buying) is

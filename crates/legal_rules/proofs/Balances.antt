@@ -15,7 +15,8 @@ use Rattle.legal_rules.proofs.Needed.{paid_counts}
 use Rattle.legal_rules.proofs.PaidFor.{payer_has}
 use Rattle.legal_rules.proofs.Payers.{HasRoom, beside_none, exchanged}
 use Rattle.legal_rules.proofs.Putting.{IsNoPool, put_legal, erase_legal}
-use Rattle.legal_rules.proofs.Sponsors.{unsponsored, paid_aggregates, payer_aggregates, unowned_aggregates, sponsor_weighs}
+use Rattle.legal_rules.proofs.Sponsors.{unsponsored, paid_aggregates, payer_aggregates, unowned_aggregates}
+use Rattle.legal_rules.proofs.Sponsors.{sponsor_weighs}
 use Rattle.legal_rules.proofs.Steps.{legal_as}
 use Rattle.legal_rules.proofs.Numbers.{nothing_less}
 use Rattle.legal_rules.proofs.Numbers.{sum_kept}
@@ -129,4 +130,5 @@ balance_removed v id_pool owed sum m k e n legal settled there is =
     legal_as v (IsEntryLegal id_pool) _ owed _ _ (erase now k)
     (erase_legal v (IsEntryLegal id_pool) _ sum now changed.legal k e still
     (λ id same. b.no_pool id (legal.keyed k e there ∙ same)))
-    (λ kind q. removed (owed kind q) (payer_aggregates n s kind q) (weight v kind q e) (balance_weighs v e n is kind q)) refl
+    (λ kind q. removed (owed kind q) (payer_aggregates n s kind q) (weight v kind q e) (balance_weighs v e n is kind q))
+    refl

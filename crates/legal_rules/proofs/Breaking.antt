@@ -1,13 +1,14 @@
 -- Changes of the entire state break rules.
 use Rattle.legal_rules.proofs.Prelude as prelude
 use prelude.{◌≡◌, refl, sym, ap, subst, ◌∙◌, true, false, List, [], ◌∷◌, Some, None, ℕ, ◌≤◌, inl, inr, arith, ints}
-use prelude.{tied_itself, All-head, ℤ, pos, ◌+ℤ◌, ◌≤ℤ◌, ◌<ℤ◌, is_eq, int_cmp, get, LedgerEntry, LedgerHeader, LedgerKey}
-use prelude.{key_of, same_itself, line_of, Kind, Subentries, Sponsoring, Sponsored, Selling, Buying, Shares, ShareLines}
-use prelude.{Uses, counted, stated_at, liabilities, wheat_stays, IsLegal, IsAuthorized, held, offer_with, own_data}
+use prelude.{All-head, ℤ, pos, ◌+ℤ◌, ◌≤ℤ◌, ◌<ℤ◌, is_eq, int_cmp, get, LedgerEntry, LedgerHeader, LedgerKey, key_of}
+use prelude.{same_itself, line_of, Kind, Subentries, Sponsoring, Sponsored, Selling, Buying, Shares, ShareLines, Uses}
+use prelude.{counted, stated_at, liabilities, wheat_stays, IsLegal, IsAuthorized, held, offer_with, own_data}
 use prelude.{own_promise, two_sales, full_list, full_header, full_entries, RulesBind, entry_by, owner, sponsor}
 use prelude.{stranger, dollars, note, promise, pool, sale, owner_account, state_of, overfull_owner, owner_signed_by}
 use prelude.{lost_signer, lost_promise, lost_pool, lost_dollars, lost_sale, sponsor_account, account_ext, line_ext}
 use prelude.{pool_id, put_there, one_not_at_most_zero}
+use Rattle.std.specs.Cmp.{tied_itself}
 use Rattle.std.proofs.lemmas.Cmp.{int_cmp_total}
 use Rattle.hash_ids.specs.ledger_types.declared.entry.LedgerEntryBody.TheVariants as body
 use Rattle.hash_ids.specs.ledger_types.declared.key.LedgerKey.TheVariants as key

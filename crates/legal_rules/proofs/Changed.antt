@@ -104,7 +104,11 @@ module _ (t u : TrustLineEntry) (h : KeepsLineAggregates t u) where
   more_line v kind k e = sym (add_zero _)
 
   pub line_move : IsLineMove (in_shares t.asset (u.balance -ℤ t.balance)) t u
-  line_move = record { id = h.id; asset = h.asset; aggregates = λ v kind k e. same_line v kind k e ∙ more_line v kind k e }
+  line_move = record {
+    id = h.id;
+    asset = h.asset;
+    aggregates = λ v kind k e. same_line v kind k e ∙ more_line v kind k e;
+  }
 
 pub line_changed : LineChanged
 line_changed v id_pool owed sum m id asset f t legal exists keeps range bound =
@@ -291,7 +295,8 @@ pub pool_changed_by : (v : View) (id_pool : ℕ) (owed : Owed) (sum : ℤ) (m : 
     → pool_at m id ≡ Some p → KeepsParams p (f p) → IsPoolInRange (f p) → IsFilledOrEmpty (body.LiquidityPool (f p))
     → IsLegalOwing v id_pool
     (plus owed (plus (in_aggregate Shares (key.LiquidityPool id) (p.total_pool_shares -ℤ (f p).total_pool_shares))
-    (in_aggregate ShareLines (key.LiquidityPool id) (p.pool_shares_trust_line_count -ℤ (f p).pool_shares_trust_line_count))))
+    (in_aggregate ShareLines (key.LiquidityPool id)
+    (p.pool_shares_trust_line_count -ℤ (f p).pool_shares_trust_line_count))))
     (sum +ℤ (held_in v.asset (body.LiquidityPool (f p)) -ℤ held_in v.asset (body.LiquidityPool p))) (with_pool m id f)
 pool_changed_by v id_pool owed sum m id f p legal exists keeps range filled =
     let found = pool_entry m id p exists in
@@ -318,7 +323,8 @@ pool_changed_by v id_pool owed sum m id f p legal exists keeps range filled =
       filled = filled;
     })))
     (λ kind k. ap (λ q. owed kind k +ℤ plus (in_aggregate Shares q (p.total_pool_shares -ℤ (f p).total_pool_shares))
-    (in_aggregate ShareLines q (p.pool_shares_trust_line_count -ℤ (f p).pool_shares_trust_line_count)) kind k) same) refl
+    (in_aggregate ShareLines q (p.pool_shares_trust_line_count -ℤ (f p).pool_shares_trust_line_count)) kind k) same)
+    refl
 
 by_reserves : (s t : Bool) (a b c d : ℤ)
     → (((if s then c else pos 0) +ℤ (if t then d else pos 0)) -ℤ ((if s then a else pos 0) +ℤ (if t then b else pos 0)))
@@ -332,7 +338,8 @@ pub pool_changed : PoolChanged
 pool_changed v id_pool owed sum m id f p legal exists keeps range filled =
     subst (λ n. IsLegalOwing v id_pool
     (plus owed (plus (in_aggregate Shares (key.LiquidityPool id) (p.total_pool_shares -ℤ (f p).total_pool_shares))
-    (in_aggregate ShareLines (key.LiquidityPool id) (p.pool_shares_trust_line_count -ℤ (f p).pool_shares_trust_line_count))))
+    (in_aggregate ShareLines (key.LiquidityPool id)
+    (p.pool_shares_trust_line_count -ℤ (f p).pool_shares_trust_line_count))))
     (sum +ℤ n) (with_pool m id f)) (ap (λ (params : PoolParams).
     (of_asset v.asset params.asset_a (f p).reserve_a +ℤ of_asset v.asset params.asset_b (f p).reserve_b)
     -ℤ held_in v.asset (body.LiquidityPool p)) keeps.params

@@ -41,7 +41,8 @@ new_count_moves n a count.Sponsored v other k e = sym (add_zero _)
 
 -- ---- numbers in one aggregate
 
-pub zero_in_aggregate : (kind : Kind) (q : LedgerKey) (other : Kind) (k : LedgerKey) → in_aggregate kind q (pos 0) other k ≡ pos 0
+pub zero_in_aggregate : (kind : Kind) (q : LedgerKey) (other : Kind) (k : LedgerKey)
+    → in_aggregate kind q (pos 0) other k ≡ pos 0
 zero_in_aggregate Subentries q Subentries k = if_zeros (is_key q k)
 zero_in_aggregate Sponsoring q Sponsoring k = if_zeros (is_key q k)
 zero_in_aggregate Sponsored q Sponsored k = if_zeros (is_key q k)
@@ -54,7 +55,8 @@ zero_in_aggregate kind q other k = refl
 
 nothing_in_aggregate : (kind : Kind) (q : LedgerKey) (n : ℤ) → n ≡ pos 0 → (other : Kind) (k : LedgerKey)
     → in_aggregate kind q n other k ≡ pos 0
-nothing_in_aggregate kind q n none other k = ap (λ x. in_aggregate kind q x other k) none ∙ zero_in_aggregate kind q other k
+nothing_in_aggregate kind q n none other k =
+    ap (λ x. in_aggregate kind q x other k) none ∙ zero_in_aggregate kind q other k
 
 back : (t : Bool) (n : ℤ) → (if t then neg_ℤ n else pos 0) ≡ neg_ℤ (if t then n else pos 0)
 back true n = refl
@@ -104,7 +106,8 @@ count_keeps id_pool which n a may = elim (nat_eq n (count_in which a)) as
 
 -- its aggregate owes what the count fell by
 count_step : (id_pool : ℕ) (which : Count) (n : ℕ) (a : AccountEntry) → MayBe which n a
-    → IsStep (IsEntryLegal id_pool) (in_aggregate (aggregate_of which) (key.Account a.account_id) (pos (count_in which a)
+    → IsStep (IsEntryLegal id_pool)
+    (in_aggregate (aggregate_of which) (key.Account a.account_id) (pos (count_in which a)
     -ℤ pos n)) a (with_count which n a)
 count_step id_pool which n a may = record {
   move = count_moves which n a;
@@ -114,7 +117,8 @@ count_step id_pool which n a may = record {
 
 module _ (id_pool : ℕ) (which : Count) (n : ℕ) (a : AccountEntry) (id : AccountId) (same : a.account_id ≡ id) where
   pub more_step : MayBe which (count_in which a + n) a
-      → IsStep (IsEntryLegal id_pool) (in_aggregate (aggregate_of which) (key.Account id) (neg_ℤ (pos n))) a (with_more which n a)
+      → IsStep (IsEntryLegal id_pool) (in_aggregate (aggregate_of which) (key.Account id) (neg_ℤ (pos n))) a
+      (with_more which n a)
   more_step may = step_as (IsEntryLegal id_pool) _ _ a (with_more which n a)
       (count_step id_pool which (count_in which a + n) a may)
       (λ kind k i. in_aggregate (aggregate_of which) (key.Account (same i)) (risen (count_in which a) n i) kind k)
@@ -123,7 +127,8 @@ module _ (id_pool : ℕ) (which : Count) (n : ℕ) (a : AccountEntry) (id : Acco
       risen c n = omega (arith, ints)
 
   pub less_step : n ≤ count_in which a → MayBe which (count_in which a - n) a
-      → IsStep (IsEntryLegal id_pool) (in_aggregate (aggregate_of which) (key.Account id) (pos n)) a (with_less which n a)
+      → IsStep (IsEntryLegal id_pool) (in_aggregate (aggregate_of which) (key.Account id) (pos n)) a
+      (with_less which n a)
   less_step le may = step_as (IsEntryLegal id_pool) _ _ a (with_less which n a)
       (count_step id_pool which (count_in which a - n) a may)
       (λ kind k i. in_aggregate (aggregate_of which) (key.Account (same i)) (fallen (count_in which a) n le i) kind k)

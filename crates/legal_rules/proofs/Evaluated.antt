@@ -37,7 +37,8 @@ sum_after_exchange new was old is put = omega (arith, ints)
 pub total_in : (f : Weight) (es : List LedgerEntry) → total f (state_of es) ≡ value f es
 total_in f [] = total_none f empty (λ k e there. absurd (let none : get {K = LedgerKey} {X = LedgerEntry} {R = key_cmp}
     empty k ≡ None = get-empty key_cmp k in cc))
-total_in f (e ∷ es) = sum_after_exchange (total f (state_of (e ∷ es))) (part f (get (state_of es) (key_of e))) (total f (state_of es))
+total_in f (e ∷ es) =
+    sum_after_exchange (total f (state_of (e ∷ es))) (part f (get (state_of es) (key_of e))) (total f (state_of es))
     (f e) (total_put f (state_of es) e)
     ∙ ap (λ o. (total f (state_of es) +ℤ f e) -ℤ part f o) (get_in es (key_of e))
     ∙ ap (λ n. (n +ℤ f e) -ℤ part f (exists_in es (key_of e))) (total_in f es)
@@ -80,7 +81,8 @@ same_none t n apart = ap (λ b. cond b n (pos 0)) apart
 abbrev pub IsOther : LedgerKey → LedgerKey → Type 0
 IsOther k q = q ≢ k
 
-pub for_key_of_others : (k : LedgerKey) (o : Option LedgerKey) (n : ℤ) → All (IsOther k) (keys_in o) → for_key k o n ≡ pos 0
+pub for_key_of_others : (k : LedgerKey) (o : Option LedgerKey) (n : ℤ) → All (IsOther k) (keys_in o)
+    → for_key k o n ≡ pos 0
 for_key_of_others k None n all = refl
 for_key_of_others k (Some q) n all = same_none (is_key q k) n (apart_keys q k (All-head (IsOther k) q [] all))
 

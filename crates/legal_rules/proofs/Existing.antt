@@ -23,7 +23,8 @@ pub record ExistsWith (which : Count) (c : ℕ) (m : EntryMap) (id : AccountId) 
   pub exists : account_at m id ≡ Some account
   pub enough : c ≤ count_in which account
 
-states_count : (which : Count) (a : AccountEntry) → stated (aggregate_of which) (body.Account a) ≡ pos (count_in which a)
+states_count : (which : Count) (a : AccountEntry)
+    → stated (aggregate_of which) (body.Account a) ≡ pos (count_in which a)
 states_count count.SubEntries a = refl
 states_count count.Sponsoring a = refl
 states_count count.Sponsored a = refl

@@ -52,8 +52,10 @@ module _ (v : View) (e : LedgerEntry) (p : IsPlainAccount e) where
 
   plain_weighs : (kind : Kind) (k : LedgerKey) → weight v kind k plain ≡ pos 0
   plain_weighs Subentries k = same_less (is_key (key.Account a.account_id) k) (length a.signers)
-  plain_weighs Sponsored k = none_less (is_key (key.Account a.account_id) k) _ (count_of_no_sponsors is_there a.signers refl)
-  plain_weighs Sponsoring k = zero_natural_states_none (is_key (key.Account a.account_id) k) _ (count_of_no_sponsors (is_for k) a.signers refl)
+  plain_weighs Sponsored k =
+      none_less (is_key (key.Account a.account_id) k) _ (count_of_no_sponsors is_there a.signers refl)
+  plain_weighs Sponsoring k =
+      zero_natural_states_none (is_key (key.Account a.account_id) k) _ (count_of_no_sponsors (is_for k) a.signers refl)
   plain_weighs kind k = nothing_less (is_key (key.Account a.account_id) k)
 
   is_plain : e ≡ plain
@@ -135,7 +137,8 @@ lone_accounts h seq a legal =
     let m = put empty e in
     let k = key.Account a.account_id in
     let there : get m k ≡ Some e = put_there empty e in
-    let aggregate : (kind : Kind) → IsAggregated kind m → stated_at kind (Some e) ≡ counted (view m) kind k e = λ kind aggregated.
+    let aggregate : (kind : Kind) → IsAggregated kind m
+    → stated_at kind (Some e) ≡ counted (view m) kind k e = λ kind aggregated.
     sym (ap (stated_at kind) there) ∙ aggregated k ∙ one_total (counted (view m) kind k) e in
     record {
       header = legal.header;

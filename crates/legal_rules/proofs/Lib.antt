@@ -53,4 +53,4 @@ pub mod Freed
 pub use Rattle.entry_sums.proofs.entry_map_proofs
 pub use Rattle.entry_sums.proofs as entry_sums_proofs
 pub use Rattle.sponsor_laws.proofs as sponsor_laws_proofs
-pub mod Prelude
+mod Prelude

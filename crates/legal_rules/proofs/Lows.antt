@@ -26,7 +26,8 @@ for_each_low k ids = natural_nonnegative _
 
 uses_of_low : (k : LedgerKey) (id : AccountId) (o : Option PoolParams) → pos 0 ≤ℤ uses_of k id o
 uses_of_low k id None = natural_nonnegative 0
-uses_of_low k id (Some params) = add_nonnegative _ _ (for_key_low k (needed_line id params.asset_a) (pos 1) (natural_nonnegative 1))
+uses_of_low k id (Some params) =
+    add_nonnegative _ _ (for_key_low k (needed_line id params.asset_a) (pos 1) (natural_nonnegative 1))
     (for_key_low k (needed_line id params.asset_b) (pos 1) (natural_nonnegative 1))
 
 uses_by_low : (pools : Pools) (k : LedgerKey) (id : AccountId) (a : TrustLineAsset) → pos 0 ≤ℤ uses_by pools k id a
@@ -58,7 +59,8 @@ pub counted_low : (id_pool : ℕ) (v : View) (kind : Kind) (k : LedgerKey) (e : 
     → pos 0 ≤ℤ counted v kind k e
 counted_low id_pool v Subentries k e range = for_account_low k (owner_of e.body) _
 counted_low id_pool v Sponsored k e range = for_account_low k (owner_of e.body) _
-counted_low id_pool v Sponsoring k e range = add_nonnegative _ _ (for_account_low k (sponsor_of e) (multiplicity e.body))
+counted_low id_pool v Sponsoring k e range =
+    add_nonnegative _ _ (for_account_low k (sponsor_of e) (multiplicity e.body))
     (for_each_low k (signer_sponsors_in e.body))
 counted_low id_pool v Selling k e range = sells_low k e.body
 counted_low id_pool v Buying k e range = buys_low k e.body

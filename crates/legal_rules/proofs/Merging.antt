@@ -70,7 +70,8 @@ module _ (id : AccountId) (v : View) where
       → for_account own (owner_of b) (subentries_in b) ≡ pos 0 → (n : ℕ) → for_account own (owner_of b) n ≡ pos 0
   sponsored_for_none e (body.Account a) apart none n = no_choice _ (pos n)
       (apart_keys (key.Account a.account_id) own apart)
-  sponsored_for_none e (body.TrustLine t) apart none n = no_choice _ (pos n) (not_counted _ _ (counts_once t.asset) none)
+  sponsored_for_none e (body.TrustLine t) apart none n =
+      no_choice _ (pos n) (not_counted _ _ (counts_once t.asset) none)
   sponsored_for_none e (body.Offer offer) apart none n = no_choice _ (pos n) (not_counted _ 1 (omega arith) none)
   sponsored_for_none e (body.Data entry) apart none n = no_choice _ (pos n) (not_counted _ 1 (omega arith) none)
   sponsored_for_none e other apart none n = refl
@@ -111,7 +112,8 @@ abbrev beside_sponsoring : Owed → Owed
 beside_sponsoring owed Sponsoring q = pos 0
 beside_sponsoring owed kind q = owed kind q
 
-no_payer : (o : Option AccountId) (kind : Kind) (q : LedgerKey) → pos 0 ≡ (beside_sponsoring (payer_aggregates 2 o) kind q)
+no_payer : (o : Option AccountId) (kind : Kind) (q : LedgerKey)
+    → pos 0 ≡ (beside_sponsoring (payer_aggregates 2 o) kind q)
 no_payer None Sponsoring q = refl
 no_payer None kind q = refl
 no_payer (Some sponsor) Sponsoring q = refl

@@ -19,7 +19,8 @@ use Rattle.legal_rules.proofs.Removing.{owns, no_account}
 use Rattle.legal_rules.proofs.PaidFor.{payer_has, owner_has}
 use Rattle.legal_rules.proofs.Payers.{HasRoom, IsBeside, AreChanged, exchanged, owner_changed}
 use Rattle.legal_rules.proofs.Payers.{other_payer_step}
-use Rattle.legal_rules.proofs.Sponsors.{paid_aggregates, owner_aggregates, payer_aggregates, split_aggregates, unowned_aggregates}
+use Rattle.legal_rules.proofs.Sponsors.{paid_aggregates, owner_aggregates, payer_aggregates, split_aggregates}
+use Rattle.legal_rules.proofs.Sponsors.{unowned_aggregates}
 use Rattle.legal_rules.proofs.Sponsors.{recorded_weighs}
 use Rattle.legal_rules.proofs.Steps.{IsAccountEntry, with_body, replace_legal}
 use Rattle.legal_rules.proofs.Steps.{legal_as}
@@ -104,8 +105,10 @@ module _ (v : View) (id_pool : ℕ) (owed : Owed) (sum : ℤ) (m : EntryMap) (le
       (paid_by_other e'.body owner t own' (λ is. apart owner is refl)))
       (λ kind q. ap (λ x. Exchanged kind q +ℤ x) (λ i. paid_aggregates (times' i) (own' i) t kind q
       +ℤ neg_ℤ (paid_aggregates (times' i) (own' i) (paid' i) kind q))
-      ∙ settles (owed kind q) (payer_aggregates n s kind q) (payer_aggregates n t kind q) (owner_aggregates n owner s kind q)
-      (owner_aggregates n owner t kind q) _ _ (split_aggregates n owner t kind q) (split_aggregates n owner s kind q)) refl
+      ∙ settles (owed kind q) (payer_aggregates n s kind q) (payer_aggregates n t kind q)
+      (owner_aggregates n owner s kind q)
+      (owner_aggregates n owner t kind q) _ _ (split_aggregates n owner t kind q) (split_aggregates n owner s kind q))
+      refl
 
   -- what moves to nobody and had nobody stays; else it passed the tests
   by_tests : (ctx : Ctx) (o : Option AccountId) (new : EntryMap) → ((x : AccountId) → t ≡ Some x → HasAccount m x)
@@ -240,7 +243,8 @@ module _ (v : View) (id_pool : ℕ) (owed : Owed) (sum : ℤ) (m : EntryMap) (le
       (legal_as v (IsEntryLegal id_pool) _ owed sum sum after
       (recorded_legal v id_pool _ sum now k e (Some x) changed.legal still
       (subst (λ b. IsPaidRightly b (Some x)) (sym c.1) (λ none. absurd (cc))))
-      (λ kind q. ap (λ y. ((owed kind q +ℤ payer_aggregates n s kind q) +ℤ neg_ℤ (payer_aggregates n (Some x) kind q)) +ℤ y)
+      (λ kind q. ap (λ y. ((owed kind q +ℤ payer_aggregates n s kind q) +ℤ neg_ℤ (payer_aggregates n (Some x) kind q))
+      +ℤ y)
       (λ i. paid_aggregates (times i) (owned i) (Some x) kind q +ℤ neg_ℤ (paid_aggregates (times i) (owned i) s kind q))
       ∙ settles_paid (owed kind q) (payer_aggregates n s kind q) (payer_aggregates n (Some x) kind q) _ _
       (unowned_aggregates n s kind q) (unowned_aggregates n (Some x) kind q)) refl)

@@ -130,7 +130,8 @@ module _ (id_pool : ℕ) (m : EntryMap) (keyed : EachEntry (λ k e. key_of e ≡
   -- what an entry counts for exists
   counted_there : (kind : Kind) (k q : LedgerKey) (e : LedgerEntry) → get m q ≡ Some e
       → pos 1 ≤ℤ counted (view m) kind k e → Exists k
-  counted_there kind k q e there some missing = at_least_one_states_some (counted (view m) kind k e) (total (counted (view m) kind k) m)
+  counted_there kind k q e there some missing =
+      at_least_one_states_some (counted (view m) kind k e) (total (counted (view m) kind k) m)
       (stated_at kind (get m k)) some
       (part_at_most (counted (view m) kind k) m q e
       (λ r x at. counted_low id_pool (view m) kind k x (entries r x at)) there)

@@ -12,7 +12,8 @@ use Rattle.legal_rules.proofs.Adding.{room_of}
 use Rattle.legal_rules.proofs.Counting.{more_step, neg_in_aggregate}
 use Rattle.legal_rules.proofs.Payers.{HasRoom, exchanged}
 use Rattle.legal_rules.proofs.Putting.{put_legal}
-use Rattle.legal_rules.proofs.Sponsors.{unsponsored, paid_aggregates, owner_aggregates, payer_aggregates, split_aggregates, sponsor_weighs}
+use Rattle.legal_rules.proofs.Sponsors.{unsponsored, paid_aggregates, owner_aggregates, payer_aggregates}
+use Rattle.legal_rules.proofs.Sponsors.{split_aggregates, sponsor_weighs}
 use Rattle.legal_rules.proofs.Sponsors.{recorded}
 use Rattle.legal_rules.proofs.Steps.{with_body, legal_as}
 use Rattle.legal_rules.proofs.Subentries.{legal_recorded}
@@ -86,7 +87,8 @@ module _ (v : View) (id_pool : ℕ) (owed : Owed) (sum : ℤ) (ctx : Ctx) (x : L
       +ℤ paid_aggregates 2 (Some b.account_id) (recorded (Some s) e1 i) kind k))
       (step.move.aggregates v kind k (unsponsored x)) (bare_weighs v x a bare kind k)
       (neg_in_aggregate Sponsored (key.Account a.account_id) (pos 2) kind k)
-      ((λ i. paid_aggregates 2 (Some (step.move.id i)) (Some s) kind k) ∙ split_aggregates 2 a.account_id (Some s) kind k) in
+      ((λ i. paid_aggregates 2 (Some (step.move.id i)) (Some s) kind k)
+      ∙ split_aggregates 2 a.account_id (Some s) kind k) in
       legal_as v (IsEntryLegal id_pool) _ owed _ _ (put now e2)
       (put_legal v (IsEntryLegal id_pool) _ sum now changed.legal e2
       (changed.absent (key.Account b.account_id) (ap (λ i. get m (key.Account i)) step.move.id ∙ free))

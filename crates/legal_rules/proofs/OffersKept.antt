@@ -244,7 +244,8 @@ module _ (v : View) (e : LedgerEntry) (old new : OfferEntry) (same : new.seller_
   offer_moves : (kind : Kind) (k : LedgerKey) → weight v kind k (with_offer_body e new)
       ≡ (weight v kind k (with_offer_body e old) +ℤ plus (less (trade_aggregates old)) (trade_aggregates new) kind k)
   offer_moves Subentries k = moved_so (at_new k) (at_old k) (for_account k (Some new.seller_id) 1)
-      (for_account k (Some old.seller_id) 1) (pos 0) (pos 0) (same_plus_zeros _ _ (λ i. for_account k (Some (same i)) 1))
+      (for_account k (Some old.seller_id) 1) (pos 0) (pos 0)
+      (same_plus_zeros _ _ (λ i. for_account k (Some (same i)) 1))
   offer_moves Sponsored k = moved_so (at_new k) (at_old k)
       (for_account k (Some new.seller_id) (sponsored_in_entry (with_offer_body e new)))
       (for_account k (Some old.seller_id) (sponsored_in_entry (with_offer_body e old))) (pos 0) (pos 0)
@@ -276,7 +277,8 @@ offer_changed v id_pool owed sum old new m legal exists seller id range =
     subst (IsLegalOwing v id_pool (plus owed (plus (less (trade_aggregates old)) (trade_aggregates new))) sum)
     (sym (with_offer_is m old.seller_id old.offer_id (λ o. new) old found.0 found.1))
     (legal_as v (IsEntryLegal id_pool) _ _ _ sum _
-    (replace_legal v (IsEntryLegal id_pool) owed (plus (less (trade_aggregates old)) (trade_aggregates new)) sum m k e0 e1
+    (replace_legal v (IsEntryLegal id_pool) owed
+    (plus (less (trade_aggregates old)) (trade_aggregates new)) sum m k e0 e1
     there0 legal
     (record {
       own = λ i. key.Offer (seller i) (id i);

@@ -5,7 +5,8 @@ use Rattle.sponsor_laws.specs.entry_slots.Tests.{Tests, first_fault, unless_faul
 -- a change that was let through
 pub unless_first_ok : {F M : Type 0} (tests : Tests F) (m new : M) → unless_first tests m ≡ Ok new
     → (first_fault tests ≡ None) × (m ≡ new)
-unless_first_ok {F} {M} tests m new is = elim (first_fault tests) as (λ o. first_fault tests ≡ o → unless_fault o m ≡ Ok new
+unless_first_ok {F} {M} tests m new is =
+    elim (first_fault tests) as (λ o. first_fault tests ≡ o → unless_fault o m ≡ Ok new
     → (first_fault tests ≡ None) × (m ≡ new)) [
       | None ↦ λ none done. (none, cc)
       | Some fault ↦ λ some done. absurd (cc)

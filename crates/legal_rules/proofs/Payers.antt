@@ -32,7 +32,8 @@ module _ (id_pool n : ℕ) (id : AccountId) where
       (λ kind k. neg_in_aggregate Sponsored (key.Account id) (pos n) kind k)
 
   less_paid_step : (s : Option AccountId) (a : AccountEntry) → a.account_id ≡ id
-      → ((x : AccountId) → s ≡ Some x → n ≤ num_sponsored a) → IsOwnStep (owner_aggregates n id s) a (with_less_paid n s a)
+      → ((x : AccountId) → s ≡ Some x → n ≤ num_sponsored a)
+      → IsOwnStep (owner_aggregates n id s) a (with_less_paid n s a)
   less_paid_step None a same enough = no_step (IsEntryLegal id_pool) a
   less_paid_step (Some x) a same enough = less_step id_pool count.Sponsored n a id same (enough x refl) tt
 
@@ -41,7 +42,8 @@ module _ (id_pool n : ℕ) (id : AccountId) where
       → IsOwnStep (plus (owner_aggregates n id s) (less (owner_aggregates n id t))) a (with_other_payer n s t a)
   other_payer_step s t a same enough =
       let first = less_paid_step s a same enough in
-      steps (IsEntryLegal id_pool) (owner_aggregates n id s) (less (owner_aggregates n id t)) a (with_less_paid n s a) _ first
+      steps (IsEntryLegal id_pool) (owner_aggregates n id s) (less (owner_aggregates n id t)) a
+      (with_less_paid n s a) _ first
       (more_paid_step t (with_less_paid n s a) (first.move.id ∙ same))
 
   pub subentry_step : (t : Option AccountId) (a : AccountEntry) → a.account_id ≡ id
@@ -50,13 +52,15 @@ module _ (id_pool n : ℕ) (id : AccountId) where
       (with_subentry n t a)
   subentry_step t a same may =
       let first = more_step id_pool count.SubEntries n a id same may in
-      steps (IsEntryLegal id_pool) (in_aggregate Subentries (key.Account id) (neg_ℤ (pos n))) (less (owner_aggregates n id t)) a
+      steps (IsEntryLegal id_pool) (in_aggregate Subentries (key.Account id) (neg_ℤ (pos n)))
+      (less (owner_aggregates n id t)) a
       (with_more count.SubEntries n a) _ first
       (more_paid_step t (with_more count.SubEntries n a) (first.move.id ∙ same))
 
   pub no_subentry_step : (s : Option AccountId) (a : AccountEntry) → a.account_id ≡ id → n ≤ a.num_sub_entries
       → MayBe count.SubEntries (a.num_sub_entries - n) a → ((x : AccountId) → s ≡ Some x → n ≤ num_sponsored a)
-      → IsOwnStep (plus (in_aggregate Subentries (key.Account id) (pos n)) (owner_aggregates n id s)) a (without_subentry n s a)
+      → IsOwnStep (plus (in_aggregate Subentries (key.Account id) (pos n)) (owner_aggregates n id s)) a
+      (without_subentry n s a)
   no_subentry_step s a same le may enough =
       let first = less_step id_pool count.SubEntries n a id same le may in
       steps (IsEntryLegal id_pool) (in_aggregate Subentries (key.Account id) (pos n)) (owner_aggregates n id s) a
@@ -185,7 +189,8 @@ module _ (v : View) (id_pool : ℕ) (sum : ℤ) where
     pub exchanged : (s t : Option AccountId) (owed : Owed) (m : EntryMap) → IsLegalOwing v id_pool owed sum m
         → ((x : AccountId) → s ≡ Some x → ExistsWith count.Sponsoring n m x)
         → ((x : AccountId) → t ≡ Some x → HasRoom n m x)
-        → ArePaying (plus (plus owed (payer_aggregates n s)) (less (payer_aggregates n t))) s t m (map_after_exchange n s t m)
+        → ArePaying (plus (plus owed (payer_aggregates n s)) (less (payer_aggregates n t))) s t m
+        (map_after_exchange n s t m)
     exchanged s t owed m legal enough room =
         let first = released s owed m legal enough in
         let second = charged t (plus owed (payer_aggregates n s)) (map_after_releasing n s m) first.legal

@@ -184,7 +184,8 @@ module _ (v : View) (id_pool : ℕ) (sum : ℤ) (m : EntryMap) (id : Hash) (e : 
     params = λ i. refl;
     keyed = erase_each (λ k x. key_of x ≡ k) m k0 legal.keyed;
     entries = erase_each (λ k x. IsEntryLegal id_pool x) m k0 legal.entries;
-    offers = λ n. at_most_one_without_zero (total (offer_with n) (erase m k0)) (part (offer_with n) (get m k0)) (total (offer_with n) m)
+    offers = λ n. at_most_one_without_zero (total (offer_with n) (erase m k0)) (part (offer_with n) (get m k0))
+        (total (offer_with n) m)
         (total_erase (offer_with n) m k0) (ap (part (offer_with n)) there) (legal.offers n);
     aggregates = λ kind k. same_without_zero _ _ _ (total_erase (weight later_on kind k) m k0)
         (ap (part (weight later_on kind k)) there ∙ pool_weighs later_on e pool was.range.paid shares lines kind k)

@@ -1,43 +1,31 @@
 -- Names that several proofs of this crate use.
-use Rattle.sponsor_laws.proofs.Prelude as lower
-pub use lower.{Bool, EntryMap, Equal, Greater, HasAccount, Less, List, None, Ok, Option, Ordering, PayerExists, Some}
-pub use lower.{Tests, [], account_in, account_of, ap, arith, charge_of, cond, count_by, count_by-le-length, count_if}
-pub use lower.{count_in, counts_edited, eq_by_cmp, eqb-true, erase, erase_get, false, first_fault, found_at}
-pub use lower.{found_signer, get, get_or, get_or-le-sum_by, if◌then◌else◌, index_for, inl, inr, insert, is_eq, is_full}
-pub use lower.{is_lt, is_over, is_same_account, is_short, is_there, key_cmp, key_of, key_of_body, length, length-insert}
-pub use lower.{length-remove, length-set, line_multiplicity, ltb-false, map, map_after_adding_account}
-pub use lower.{map_after_adding_balance, map_after_adding_by, map_after_adding_subentry, map_after_charging}
-pub use lower.{map_after_counting, map_after_discounting, map_after_exchange, map_after_moving_balance}
-pub use lower.{map_after_moving_between, map_after_moving_by, map_after_moving_entry, map_after_moving_found}
-pub use lower.{map_after_moving_owned, map_after_moving_signer_between, map_after_releasing, map_after_removing_entry}
-pub use lower.{map_with_other_payer, map_with_recorded, map_with_signer, map_without_charge, map_without_signer}
-pub use lower.{move_tests_at, multiplicity, nat_eq, nil_from_length, own_tests, owner_of, payer_by, payer_of}
-pub use lower.{payer_other_than, payer_tests_at, prefix_len-le-length, put, put_get, put_there, refl, remove}
-pub use lower.{same_account, same_itself, same_keys, same_sponsored, same_sponsoring, second_in, signer_sponsor}
-pub use lower.{signer_sponsors, slice_set, sponsor_of, sponsored_entry, sponsored_in, sponsorship_in, subentry_tests_at}
-pub use lower.{subst, suc, sum_by-insert, sum_by-remove, sum_by-set, sym, tied_itself, true, unless_first}
-pub use lower.{with_account_in, with_account_of, with_less, with_more, with_moved_signer, with_new_count}
-pub use lower.{with_other_payer, with_signer, with_signer_sponsor, with_sponsor, with_sponsors, with_subentry}
-pub use lower.{without_counted_signer, without_signer, without_subentry, zero, ℕ, ◌&&◌, ◌++◌, ◌+◌, ◌-◌, ◌<◌, ◌||◌, ◌∙◌}
-pub use lower.{◌∷◌, ◌≡◌, ◌≢◌, ◌≤◌, ◌⊎◌}
-unfoldable pub use lower.{account_at, index_of, map_with_sponsor, open_sponsor, with_account, with_count}
-pub use Rattle.std.proofs.Common.{All, ◌*◌}
+pub use Rattle.std.proofs.Common.{All, Bool, List, None, Ok, Option, Some, [], ap, arith, cond, false, get_or, inl, inr}
+pub use Rattle.std.proofs.Common.{length, map, nat_eq, refl, slice_set, subst, suc, sym, true, zero, ℕ, ◌&&◌, ◌*◌, ◌++◌}
+pub use Rattle.std.proofs.Common.{◌+◌, ◌-◌, ◌<◌, ◌||◌, ◌∙◌, ◌∷◌, ◌≡◌, ◌≢◌, ◌≤◌, ◌⊎◌}
 pub use Rattle.std.proofs.lemmas.Bool.{and_parts, cases_eq, cases_lt}
 pub use Rattle.std.proofs.lemmas.Int.{ints}
-pub use Rattle.std.proofs.lemmas.List.Edits.{get_or-insert_above, get_or-insert_at, get_or-insert_below}
+pub use Rattle.std.proofs.lemmas.List.{length-set, nil_from_length}
+pub use Rattle.std.proofs.lemmas.List.Edits.{get_or-insert_above, get_or-insert_at, get_or-insert_below, length-insert}
+pub use Rattle.std.proofs.lemmas.List.Edits.{length-remove}
 pub use Rattle.std.proofs.lemmas.List.Elements.{All-append, All-cons, All-head, All-nil, All-set, All-tail}
-pub use Rattle.std.proofs.lemmas.List.Sums.{length-filter, prefix_len_passes, prefix_len_stops}
-pub use Rattle.std.specs.FinMap.{empty, get-empty}
-pub use Rattle.std.specs.List.{AllPairs, filter, find, flat_map, list_all}
+pub use Rattle.std.proofs.lemmas.List.Sums.{count_by-le-length, get_or-le-sum_by, length-filter, prefix_len-le-length}
+pub use Rattle.std.proofs.lemmas.List.Sums.{prefix_len_passes, prefix_len_stops, sum_by-insert, sum_by-remove}
+pub use Rattle.std.proofs.lemmas.List.Sums.{sum_by-set}
+pub use Rattle.std.specs.FinMap.{empty, get, get-empty}
+pub use Rattle.std.specs.List.{AllPairs, count_by, filter, find, flat_map, insert, list_all, remove}
 pub use Rattle.std.specs.Option.{option_map}
-pub use Rattle.std.specs.Ordering.{int_cmp, int_eq, ordering_reverse}
-pub use Rattle.std.specs.Prelude.{is_some, neg_ℤ, negsuc, pos, replicate, ℤ, ◌%◌, ◌*ℤ◌, ◌+ℤ◌, ◌-ℤ◌, ◌<ℤ◌, ◌≤ℤ◌}
+pub use Rattle.std.specs.Ordering.{eq_by_cmp, int_cmp, int_eq, is_eq, is_lt, ordering_reverse}
+pub use Rattle.std.specs.Prelude.{if◌then◌else◌, is_some, neg_ℤ, negsuc, pos, replicate, ℤ, ◌%◌, ◌*ℤ◌, ◌+ℤ◌, ◌-ℤ◌, ◌<ℤ◌}
+pub use Rattle.std.specs.Prelude.{◌≤ℤ◌}
 pub use Rattle.entry_sums.proofs.Lookups.{erase_each, put_each}
 pub use Rattle.entry_sums.proofs.Summing.{part_at_most, total_at_most, total_erase, total_none, total_not_below}
 pub use Rattle.entry_sums.proofs.Summing.{total_only, total_plus, total_put, total_same}
-pub use Rattle.entry_sums.proofs.entry_map_proofs.Lookups.{apart_keys, erase_elsewhere, put_elsewhere}
+pub use Rattle.entry_sums.proofs.entry_map_proofs.KeyMaps.{same_itself}
+pub use Rattle.entry_sums.proofs.entry_map_proofs.Lookups.{apart_keys, erase_elsewhere, erase_get, put_elsewhere}
+pub use Rattle.entry_sums.proofs.entry_map_proofs.Lookups.{put_get, put_there}
 pub use Rattle.entry_sums.specs.Sums.{EachEntry, Weight, part}
 unfoldable pub use Rattle.entry_sums.specs.Sums.{total}
+pub use Rattle.entry_sums.specs.entry_map.EntryMap.{EntryMap, erase, put}
 pub use Rattle.hash_ids.proofs.ledger_types_proofs.Arithmetic.{add_assoc_to, add_change_if, add_natural_nonnegative}
 pub use Rattle.hash_ids.proofs.ledger_types_proofs.Arithmetic.{add_neg_self, add_neg_zero, add_nonnegative, add_nothing}
 pub use Rattle.hash_ids.proofs.ledger_types_proofs.Arithmetic.{add_positive_first, add_positive_second, add_sub_self}
@@ -49,9 +37,10 @@ pub use Rattle.hash_ids.proofs.ledger_types_proofs.Arithmetic.{nonnegative_from_
 pub use Rattle.hash_ids.proofs.ledger_types_proofs.Arithmetic.{sub_if_zero, sub_if_zeros, sub_nonnegative, zero_add}
 pub use Rattle.hash_ids.proofs.ledger_types_proofs.Arithmetic.{zero_at_most_one, zero_sub_if_zero, zero_sub_zero}
 pub use Rattle.hash_ids.proofs.ledger_types_proofs.Arithmetic.{zeros_add_to_zero}
-pub use Rattle.hash_ids.proofs.ledger_types_proofs.KeyOrdering.{signer_keys_exact, signer_keys_total}
+pub use Rattle.hash_ids.proofs.ledger_types_proofs.KeyOrdering.{same_keys, signer_keys_exact, signer_keys_total}
 pub use Rattle.hash_ids.proofs.ledger_types_proofs.Lists.{all_back, all_front, all_insert, all_remove}
-pub use Rattle.hash_ids.specs.ledger_types.KeyOrder.{asset_cmp, signer_key_cmp}
+pub use Rattle.hash_ids.specs.ledger_types.KeyOrder.{asset_cmp, key_cmp, signer_key_cmp}
+pub use Rattle.hash_ids.specs.ledger_types.Keys.{key_of, key_of_body}
 pub use Rattle.hash_ids.specs.ledger_types.declared.account.AccountEntry.{AccountEntry}
 pub use Rattle.hash_ids.specs.ledger_types.declared.asset.Asset.{Asset}
 pub use Rattle.hash_ids.specs.ledger_types.declared.asset.PoolParams.{PoolParams}
@@ -122,13 +111,21 @@ pub use Rattle.sponsor_laws.proofs.Bounds.{HavePassed, done_by, have_passed, pay
 pub use Rattle.sponsor_laws.proofs.Moving.{other_is}
 pub use Rattle.sponsor_laws.proofs.Parts.{counts_once}
 pub use Rattle.sponsor_laws.proofs.SignerLists.{sponsor_at_index, sponsors_inserted, sponsors_removed, sponsors_set}
-pub use Rattle.sponsor_laws.proofs.sponsor_rules_proofs.Ids.{apart_accounts}
-pub use Rattle.sponsor_laws.proofs.sponsor_rules_proofs.Keeping.{at_most, core_kept, core_kept_twice, with_count_core}
+pub use Rattle.sponsor_laws.proofs.sponsor_rules_proofs.Ids.{apart_accounts, same_account}
+pub use Rattle.sponsor_laws.proofs.sponsor_rules_proofs.Keeping.{at_most, core_kept, core_kept_twice, counts_edited}
+pub use Rattle.sponsor_laws.proofs.sponsor_rules_proofs.Keeping.{same_sponsored, same_sponsoring, with_count_core}
 pub use Rattle.sponsor_laws.proofs.sponsor_rules_proofs.Keeping.{with_count_is, with_count_keeps, with_new_count_named}
 pub use Rattle.sponsor_laws.proofs.sponsor_rules_proofs.Keeping.{with_sponsors_core}
+pub use Rattle.sponsor_laws.specs.Laws.{PayerExists}
+pub use Rattle.sponsor_laws.specs.Sums.{is_there, signer_sponsors}
 pub use Rattle.sponsor_laws.specs.entry_slots.AccountExtensions.{account_liabilities, is_nothing, liabilities_in}
 pub use Rattle.sponsor_laws.specs.entry_slots.AccountExtensions.{no_liabilities, num_sponsored, num_sponsoring}
-pub use Rattle.sponsor_laws.specs.entry_slots.AccountExtensions.{sponsoring_in, with_liabilities_in}
+pub use Rattle.sponsor_laws.specs.entry_slots.AccountExtensions.{second_in, signer_sponsor, sponsored_in, sponsoring_in}
+pub use Rattle.sponsor_laws.specs.entry_slots.AccountExtensions.{sponsorship_in, with_liabilities_in}
+pub use Rattle.sponsor_laws.specs.entry_slots.Accounts.{HasAccount, account_in, account_of, with_account_in}
+pub use Rattle.sponsor_laws.specs.entry_slots.Accounts.{with_account_of}
+unfoldable pub use Rattle.sponsor_laws.specs.entry_slots.Accounts.{account_at, with_account}
+pub use Rattle.sponsor_laws.specs.entry_slots.EntrySponsor.{sponsor_of, with_sponsor}
 pub use Rattle.sponsor_laws.specs.entry_slots.LineExtensions.{line_liabilities, line_liabilities_in, line_second_in}
 pub use Rattle.sponsor_laws.specs.entry_slots.LineExtensions.{use_count, use_count_in, with_line_liabilities_in}
 pub use Rattle.sponsor_laws.specs.entry_slots.LineExtensions.{with_use_count, with_use_count_in, with_use_count_of}
@@ -138,15 +135,37 @@ pub use Rattle.sponsor_laws.specs.entry_slots.Offers.{offer_in, offer_of, with_o
 unfoldable pub use Rattle.sponsor_laws.specs.entry_slots.Offers.{offer_at, with_offer}
 pub use Rattle.sponsor_laws.specs.entry_slots.Pools.{pool_in, pool_of, with_pool_in, with_pool_of}
 unfoldable pub use Rattle.sponsor_laws.specs.entry_slots.Pools.{pool_at, with_pool}
+pub use Rattle.sponsor_laws.specs.entry_slots.Tests.{Tests, first_fault, unless_first}
 pub use Rattle.sponsor_laws.specs.reserve_rules.Reserve.{IsInRange, IsLineInRange, available, greatest_i64, min_balance}
 pub use Rattle.sponsor_laws.specs.reserve_rules.Reserve.{room}
-pub use Rattle.sponsor_laws.specs.sponsor_rules.Adding.{map_after_adding, map_after_counting_subentry}
-pub use Rattle.sponsor_laws.specs.sponsor_rules.Adding.{sponsored_account_entry}
-pub use Rattle.sponsor_laws.specs.sponsor_rules.Charge.{multiplicity_in, owner_in}
+pub use Rattle.sponsor_laws.specs.sponsor_rules.Adding.{map_after_adding, map_after_adding_account}
+pub use Rattle.sponsor_laws.specs.sponsor_rules.Adding.{map_after_adding_balance, map_after_adding_by}
+pub use Rattle.sponsor_laws.specs.sponsor_rules.Adding.{map_after_adding_subentry, map_after_counting}
+pub use Rattle.sponsor_laws.specs.sponsor_rules.Adding.{map_after_counting_subentry, own_tests, sponsored_account_entry}
+pub use Rattle.sponsor_laws.specs.sponsor_rules.Adding.{sponsored_entry}
+pub use Rattle.sponsor_laws.specs.sponsor_rules.Charge.{charge_of, line_multiplicity, multiplicity, multiplicity_in}
+pub use Rattle.sponsor_laws.specs.sponsor_rules.Charge.{owner_in, owner_of}
+pub use Rattle.sponsor_laws.specs.sponsor_rules.Counting.{count_if, count_in, with_less, with_more, with_new_count}
+unfoldable pub use Rattle.sponsor_laws.specs.sponsor_rules.Counting.{with_count}
 pub use Rattle.sponsor_laws.specs.sponsor_rules.Keeping.{KeepsCore}
-pub use Rattle.sponsor_laws.specs.sponsor_rules.Moving.{map_after_moving}
-pub use Rattle.sponsor_laws.specs.sponsor_rules.Paying.{with_less_paid, with_more_paid}
-pub use Rattle.sponsor_laws.specs.sponsor_rules.Removing.{map_after_removing}
+pub use Rattle.sponsor_laws.specs.sponsor_rules.Moving.{map_after_moving, map_after_moving_balance}
+pub use Rattle.sponsor_laws.specs.sponsor_rules.Moving.{map_after_moving_between, map_after_moving_by}
+pub use Rattle.sponsor_laws.specs.sponsor_rules.Moving.{map_after_moving_entry, map_after_moving_owned}
+pub use Rattle.sponsor_laws.specs.sponsor_rules.Moving.{map_with_other_payer, map_with_recorded}
+unfoldable pub use Rattle.sponsor_laws.specs.sponsor_rules.Moving.{map_with_sponsor}
+pub use Rattle.sponsor_laws.specs.sponsor_rules.Payers.{is_full, is_over, is_same_account, is_short, move_tests_at}
+pub use Rattle.sponsor_laws.specs.sponsor_rules.Payers.{payer_by, payer_of, payer_other_than, payer_tests_at}
+pub use Rattle.sponsor_laws.specs.sponsor_rules.Payers.{subentry_tests_at}
+unfoldable pub use Rattle.sponsor_laws.specs.sponsor_rules.Payers.{open_sponsor}
+pub use Rattle.sponsor_laws.specs.sponsor_rules.Paying.{map_after_charging, map_after_exchange, map_after_releasing}
+pub use Rattle.sponsor_laws.specs.sponsor_rules.Paying.{with_less_paid, with_more_paid, with_other_payer, with_subentry}
+pub use Rattle.sponsor_laws.specs.sponsor_rules.Paying.{without_subentry}
+pub use Rattle.sponsor_laws.specs.sponsor_rules.Removing.{map_after_discounting, map_after_removing}
+pub use Rattle.sponsor_laws.specs.sponsor_rules.Removing.{map_after_removing_entry, map_without_charge}
+pub use Rattle.sponsor_laws.specs.sponsor_rules.SignerIndex.{found_at, found_signer, index_for, with_signer}
+pub use Rattle.sponsor_laws.specs.sponsor_rules.SignerIndex.{with_signer_sponsor, with_sponsors, without_signer}
+unfoldable pub use Rattle.sponsor_laws.specs.sponsor_rules.SignerIndex.{index_of}
 pub use Rattle.sponsor_laws.specs.sponsor_rules.declared.context.Ctx.{Ctx}
 pub use Rattle.sponsor_laws.specs.sponsor_rules.declared.count.Count.{Count}
 unfoldable pub use Rattle.valid_values.specs.Texts.{is_valid_text}
+pub use borrow.Author.Tests.{eqb-true, ltb-false}

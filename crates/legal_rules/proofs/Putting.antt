@@ -59,7 +59,8 @@ module _ (v : View) (P : LedgerEntry → Type 0) (owed : Owed) (sum : ℤ) (m : 
         entries = erase_each (λ q x. P x) m k legal.entries;
         offers = λ id. still_one (total (offer_with id) m) (offer_with id e) _ (summed (offer_with id))
             (offer_with_in_nonnegative id e.body) (legal.offers id);
-        aggregates = λ kind q. summed (weight v kind q) ∙ ap (λ n. n +ℤ neg_ℤ (weight v kind q e)) (legal.aggregates kind q);
+        aggregates = λ kind q. summed (weight v kind q)
+            ∙ ap (λ n. n +ℤ neg_ℤ (weight v kind q e)) (legal.aggregates kind q);
         supply = summed (held v.asset) ∙ ap (λ n. n +ℤ neg_ℤ (held v.asset e)) legal.supply;
       }
 

@@ -55,7 +55,8 @@ module _ (v : View) (id_pool : ℕ) (owed : Owed) (sum : ℤ) (m : EntryMap) (le
   discounted =
       let bounded = account_legal v id_pool owed sum m owner a legal owns.exists in
       let same = same_id_at m owner a legal.keyed owns.exists in
-      owner_changed v id_pool sum (plus (plus owed (payer_aggregates n s)) (less (payer_aggregates n None))) _ s None owner a
+      owner_changed v id_pool sum
+      (plus (plus owed (payer_aggregates n s)) (less (payer_aggregates n None))) _ s None owner a
       (without_subentry n s) m (map_after_releasing n s m)
       (exchanged v id_pool sum n s None owed m legal
       (payer_has v id_pool owed sum m legal settled k e there n sub.times sub.some) (λ x is. absurd (cc)))

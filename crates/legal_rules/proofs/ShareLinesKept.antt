@@ -68,7 +68,8 @@ uses_legal v id_pool owed sum n m (Some (key.TrustLine id x)) legal can =
     (same_use m id x n can.0 can.1)
     (legal_as v (IsEntryLegal id_pool) _ _ sum sum _
     (uses_counted v id_pool owed sum m id x (use_count can.0 +ℤ n) can.0 legal can.1 can.2)
-    (λ kind k. ap (λ y. owed kind k +ℤ in_aggregate Uses (key.TrustLine id x) y kind k) (fallen (use_count can.0) n)) refl)
+    (λ kind k. ap (λ y. owed kind k +ℤ in_aggregate Uses (key.TrustLine id x) y kind k) (fallen (use_count can.0) n))
+    refl)
 uses_legal v id_pool owed sum n m (Some other) legal can = absurd can
 
 -- ---- lines that can be used

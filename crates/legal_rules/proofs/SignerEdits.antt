@@ -85,7 +85,8 @@ module _ (gone entering : Option AccountId) (d : ℤ) (b c : AccountEntry) (h : 
   moves v Subentries k e =
       (λ i. (if own k i then pos (length c.signers) else pos 0) -ℤ (if own k i then pos (h.subentries i) else pos 0))
       ∙ more_signers (is_key (key.Account b.account_id) k) (pos (length c.signers)) (pos (length b.signers))
-      b.num_sub_entries d _ _ h.signers (pays_none entering (Some b.account_id) k) (pays_none gone (Some b.account_id) k)
+      b.num_sub_entries d _ _ h.signers (pays_none entering (Some b.account_id) k)
+      (pays_none gone (Some b.account_id) k)
   moves v Sponsored k e =
       (λ i. (if own k i then pos ((if is_there (sponsor_of e) then 2 else 0) + count_by is_there (signer_sponsors c))
       else pos 0) -ℤ (if own k i then pos (h.sponsored i) else pos 0))

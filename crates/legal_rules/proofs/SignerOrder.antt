@@ -3,9 +3,11 @@ use Rattle.legal_rules.proofs.Prelude as prelude
 use prelude.{◌≡◌, ◌≢◌, ◌⊎◌, inl, inr, refl, sym, ap, subst, ◌∙◌, ℕ, ◌-◌, ◌<◌, ◌≤◌, true, false, List, length, get_or}
 use prelude.{All, Option, Some, slice_set, arith, cases_lt, cases_eq, length-set, length-insert, length-remove}
 use prelude.{get_or-insert_below, get_or-insert_at, get_or-insert_above, All-set, prefix_len-le-length}
-use prelude.{prefix_len_passes, prefix_len_stops, insert, remove, AllPairs, is_lt, ordering_reverse, Ordering, Less}
-use prelude.{Equal, Greater, AccountId, Signer, signer_key_cmp, signer_keys_total, signer_keys_exact, index_for}
-use prelude.{AreSignersInRange, IsNewSigner, all_insert, all_remove}
+use prelude.{prefix_len_passes, prefix_len_stops, insert, remove, AllPairs, is_lt, ordering_reverse, AccountId, Signer}
+use prelude.{signer_key_cmp, signer_keys_total, signer_keys_exact, index_for, AreSignersInRange, IsNewSigner}
+use prelude.{all_insert, all_remove}
+use Rattle.std.specs.declared.cmp.Ordering.{Ordering}
+use Rattle.std.specs.declared.cmp.Ordering.TheVariants.{Less, Equal, Greater}
 use Rattle.std.proofs.lemmas.List.Quantifiers.{all_pairs_remove}
 use Rattle.hash_ids.specs.ledger_types.declared.signer.SignerKey.TheVariants as signer
 use Rattle.hash_ids.proofs.ledger_types_proofs.Booleans.{is_lt_true_Less}

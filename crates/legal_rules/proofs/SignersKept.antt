@@ -7,17 +7,18 @@ use prelude.{with_account, HasAccount, num_sponsored, signer_sponsor, sponsor_of
 use prelude.{with_less, map_after_charging, map_after_releasing, map_after_exchange, with_more_paid, with_less_paid}
 use prelude.{with_subentry, without_subentry, with_other_payer, open_sponsor, payer_other_than, is_full, is_over}
 use prelude.{subentry_tests_at, payer_tests_at, move_tests_at, index_of, index_for, found_at, found_signer, with_signer}
-use prelude.{without_signer, with_signer_sponsor, map_with_signer, without_counted_signer, with_moved_signer}
-use prelude.{map_without_signer, map_after_moving_signer_between, map_after_moving_found, with_count_is, is_there}
-use prelude.{signer_sponsors, PayerExists, KeepsParts, keeps_all, keeps_twice, with_count-keeps, done_by, have_passed}
-use prelude.{payer_passed, other_is, sponsors_inserted, sponsors_removed, sponsors_set, sponsor_at_index, is_for}
-use prelude.{Subentries, View, AreReservesSettled, IsNewSigner, SignerAdded, SignerRemoved, SignerMoved}
-use prelude.{AddingSignersKeep, RemovingSignersKeep, MovingSignersKeep, AreSignersInRange, IsSponsorReady, view}
-use prelude.{pools_in, Owed, nothing_owed, in_aggregate, plus, less, IsEntryLegal, IsLegalOwing}
+use prelude.{without_signer, with_signer_sponsor, with_count_is, is_there, signer_sponsors, PayerExists, KeepsParts}
+use prelude.{keeps_all, keeps_twice, with_count-keeps, done_by, have_passed, payer_passed, other_is, sponsors_inserted}
+use prelude.{sponsors_removed, sponsors_set, sponsor_at_index, is_for, Subentries, View, AreReservesSettled}
+use prelude.{IsNewSigner, SignerAdded, SignerRemoved, SignerMoved, AddingSignersKeep, RemovingSignersKeep}
+use prelude.{MovingSignersKeep, AreSignersInRange, IsSponsorReady, view, pools_in, Owed, nothing_owed, in_aggregate}
+use prelude.{plus, less, IsEntryLegal, IsLegalOwing}
 use Rattle.hash_ids.specs.ledger_types.declared.signer.SignerKey.{SignerKey}
 use Rattle.hash_ids.specs.ledger_types.declared.key.LedgerKey.TheVariants as key
 use Rattle.sponsor_laws.specs.sponsor_rules.declared.count.Count.TheVariants as count
-use Rattle.sponsor_laws.specs.sponsor_rules.Signers.{with_counted_signer}
+use Rattle.sponsor_laws.specs.sponsor_rules.Signers.{with_counted_signer, map_with_signer, without_counted_signer}
+use Rattle.sponsor_laws.specs.sponsor_rules.Signers.{with_moved_signer, map_without_signer}
+use Rattle.sponsor_laws.specs.sponsor_rules.Signers.{map_after_moving_signer_between, map_after_moving_found}
 use Rattle.sponsor_laws.proofs.SignedAccounts.{index_within_signers}
 use Rattle.legal_rules.proofs.AccountRanges.{may_fall}
 use Rattle.legal_rules.proofs.Adding.{subentries_may, payers_room, beside_sponsor, room_of}
@@ -273,7 +274,8 @@ module _ (v : View) (id_pool : ℕ) (owed : Owed) (sum : ℤ) (m : EntryMap) (le
       (λ kind k. settles_moved (owed kind k) (payer_aggregates 1 s kind k) (payer_aggregates 1 t kind k)
       (owner_aggregates 1 id s kind k) (owner_aggregates 1 id t kind k) (paid_aggregates 1 (Some id) s kind k)
       (paid_aggregates 1 (Some id) t kind k) (in_aggregate Subentries (key.Account id) (pos 0) kind k)
-      (zero_in_aggregate Subentries (key.Account id) kind k) (split_aggregates 1 id t kind k) (split_aggregates 1 id s kind k)) refl
+      (zero_in_aggregate Subentries (key.Account id) kind k) (split_aggregates 1 id t kind k)
+      (split_aggregates 1 id s kind k)) refl
     where
       ids : {i j : AccountId} → key.Account i ≡ key.Account j → j ≡ i
       ids same = cc

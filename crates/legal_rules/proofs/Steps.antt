@@ -172,7 +172,8 @@ pub step_as : (P : LedgerEntry → Type 0) (more other : Owed) (a b : AccountEnt
 step_as P more other a b step same = record {
   move = record {
     id = step.move.id;
-    aggregates = λ v kind k e. step.move.aggregates v kind k e ∙ ap (λ n. weight v kind k (with_body e a) +ℤ n) (same kind k);
+    aggregates = λ v kind k e. step.move.aggregates v kind k e
+        ∙ ap (λ n. weight v kind k (with_body e a) +ℤ n) (same kind k);
   };
   balance = step.balance;
   keeps = step.keeps;

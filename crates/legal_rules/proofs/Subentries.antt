@@ -119,9 +119,11 @@ module _ (v : View) (e : LedgerEntry) (owner : AccountId) (n : ℕ) (s : IsSuben
 
   -- in all aggregates
   pub subentry_weighs : (kind : Kind) (k : LedgerKey) → weight v kind k e
-      ≡ ((in_aggregate Subentries (key.Account owner) (pos n) kind k +ℤ paid_aggregates n (Some owner) (sponsor_of e) kind k)
+      ≡ ((in_aggregate Subentries (key.Account owner) (pos n) kind k +ℤ paid_aggregates n (Some owner)
+      (sponsor_of e) kind k)
       +ℤ beside_reserves (weighed v e) kind k)
-  subentry_weighs kind k = grouped _ (weight v kind k (unsponsored e)) (paid_aggregates n (Some owner) (sponsor_of e) kind k)
+  subentry_weighs kind k =
+      grouped _ (weight v kind k (unsponsored e)) (paid_aggregates n (Some owner) (sponsor_of e) kind k)
       (in_aggregate Subentries (key.Account owner) (pos n) kind k) (beside_reserves (weighed v e) kind k)
       (sponsor_weighs v e kind k ∙ (λ i. weight v kind k (unsponsored e)
       +ℤ paid_aggregates (s.times i) (s.owns i) (sponsor_of e) kind k)) (alone kind k)

@@ -92,6 +92,7 @@ PoolChanged =
     → pool_at m id ≡ Some p → KeepsParams p (f p) → IsPoolInRange (f p) → IsFilledOrEmpty (body.LiquidityPool (f p))
     → IsLegalOwing v id_pool
     (plus owed (plus (in_aggregate Shares (key.LiquidityPool id) (p.total_pool_shares -ℤ (f p).total_pool_shares))
-    (in_aggregate ShareLines (key.LiquidityPool id) (p.pool_shares_trust_line_count -ℤ (f p).pool_shares_trust_line_count))))
+    (in_aggregate ShareLines (key.LiquidityPool id)
+    (p.pool_shares_trust_line_count -ℤ (f p).pool_shares_trust_line_count))))
     (sum +ℤ (of_asset v.asset p.params.asset_a ((f p).reserve_a -ℤ p.reserve_a)
     +ℤ of_asset v.asset p.params.asset_b ((f p).reserve_b -ℤ p.reserve_b))) (with_pool m id f)

@@ -14,7 +14,8 @@ use Rattle.hash_ids.specs.ledger_types.Keys.{key_of}
 use Rattle.entry_sums.specs.entry_map.EntryMap.{EntryMap}
 use Rattle.sponsor_laws.specs.entry_slots.Lines.{line_of}
 use Rattle.entry_sums.specs.Sums.{total, EachEntry}
-use Rattle.legal_rules.specs.Aggregates.{Kind, Subentries, Sponsoring, Sponsored, Selling, Buying, Shares, ShareLines, Uses}
+use Rattle.legal_rules.specs.Aggregates.{Kind, Subentries, Sponsoring, Sponsored, Selling, Buying, Shares, ShareLines}
+use Rattle.legal_rules.specs.Aggregates.{Uses}
 use Rattle.legal_rules.specs.Aggregates.{View, counted, stated_at}
 use Rattle.legal_rules.specs.Trades.{holder}
 use Rattle.legal_rules.specs.PoolShares.{Pools}

@@ -11,7 +11,8 @@ use Rattle.entry_sums.specs.entry_map.EntryMap.{EntryMap}
 use Rattle.sponsor_laws.specs.entry_slots.LineExtensions.{line_liabilities}
 use Rattle.entry_sums.specs.Sums.{Weight, total, EachEntry}
 use Rattle.legal_rules.specs.EntryKeys.{is_key, for_key}
-use Rattle.legal_rules.specs.Aggregates.{Kind, Subentries, Sponsoring, Sponsored, Selling, Buying, Shares, ShareLines, Uses}
+use Rattle.legal_rules.specs.Aggregates.{Kind, Subentries, Sponsoring, Sponsored, Selling, Buying, Shares, ShareLines}
+use Rattle.legal_rules.specs.Aggregates.{Uses}
 use Rattle.legal_rules.specs.Aggregates.{View, counted, stated}
 use Rattle.legal_rules.specs.Supply.{held}
 use Rattle.legal_rules.specs.OfferIds.{AreOffersApart}

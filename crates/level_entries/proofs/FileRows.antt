@@ -3,10 +3,13 @@ use Rattle.level_entries.proofs.Prelude as prelude
 use prelude.{◌≡◌, ℕ, ◌<◌, ◌≤◌, zero-add, drop, true, false, cond, List, [], ◌∷◌, ◌++◌, Option, Some, None, Ok, map}
 use prelude.{option_map, refl, sym, ap, subst, ◌∙◌, append_assoc, append-nil, arith, length, IsSomeAnd, AllByRecursion}
 use prelude.{flat_map, is_lt, eq_by_cmp, entries, entries_sorted, get-entries, find, is_sorted, below_all}
-use prelude.{length-append, recursion_from_All, Position, start_of, bucket_entry, LedgerKey, BucketEntry, key_cmp}
-use prelude.{value_at, both, first, second, Sorted, Above, BucketItem, item_type, Shows, record_of, IsEncodable}
-use prelude.{item_at, TakesItem, after_record, record_is_read, Change, Filled, Init, Live, Dead, Contents, IsUnderKey}
-use prelude.{item_of, items_of, file_of, HasFile, key_in, stated, rows_of, under_if, IsFileRow, drop_at}
+use prelude.{length-append, recursion_from_All, Position, start_of, LedgerKey, BucketEntry, key_cmp, value_at, both}
+use prelude.{first, second, Sorted, Above, BucketItem, item_type, Shows, record_of, IsEncodable, item_at, TakesItem}
+use prelude.{Change, Filled, Init, Live, Dead, Contents, IsUnderKey, key_in, stated, rows_of, under_if, IsFileRow}
+use prelude.{drop_at}
+use Rattle.xdr_entries.specs.Keys.{bucket_entry}
+use Rattle.bucket_items.proofs.RecordLaws.{after_record, record_is_read}
+use Rattle.bucket_core.specs.File.{item_of, items_of, file_of, HasFile}
 use Rattle.xdr_core.specs.Leaves.{mark}
 use Rattle.bucket_core.proofs.Keyed.{each_found}
 
@@ -102,7 +105,8 @@ shown_of (x ∷ xs) file text new row item s is left t =
       };
     }
 
-pub shows : (file : Contents) (text : List ℕ) (p new : Position) (row : List (LedgerKey × BucketEntry)) (item : BucketItem)
+pub shows : (file : Contents) (text : List ℕ) (p new : Position) (row : List (LedgerKey × BucketEntry))
+    (item : BucketItem)
     → GoesOn file text row → p ≡ start_of text
     → ((e : BucketEntry) (q : Position) → item_at p ≡ Ok (e, q) → TakesItem (Some item) new e q)
     → (p.rest ≡ [] → (Some item ≡ None) × (new ≡ p)) → Shown file text new row item

@@ -3,9 +3,10 @@ use Rattle.level_entries.proofs.Prelude as prelude
 use prelude.{◌≡◌, ℕ, ◌+◌, ◌<◌, Bool, true, false, cond, List, [], ◌∷◌, ◌++◌, Option, Some, None, map, option_map, refl}
 use prelude.{sym, ap, subst, ◌∙◌, All, length, take, get_or, option_and_then, Ordering, Less, AllByRecursion, is_eq}
 use prelude.{eq_by_cmp, tied_itself, get, from_entries, get-from_entries, find, take_more, map-append, All-nil}
-use prelude.{All-cons, LedgerKey, BucketEntry, key_cmp, key_of, keys_total, value_at, with_key, first, second, less}
-use prelude.{none_found, Sorted, Above, Change, Contents, IsUnderKey, Pair, pair_at, changes_of, files_of, entry_after}
-use prelude.{entry_by, Represent, AreWellMarked, stated, entry_in, prepended_to, entries_in, newest, IsNewestRow}
+use prelude.{All-cons, LedgerKey, BucketEntry, key_cmp, keys_total, value_at, with_key, first, second, less, none_found}
+use prelude.{Sorted, Above, Change, Contents, IsUnderKey, Pair, pair_at, changes_of, files_of, entry_after, entry_by}
+use prelude.{Represent, AreWellMarked, stated, entry_in, prepended_to, entries_in, newest, IsNewestRow}
+use Rattle.ledger_types.specs.Keys.{key_of}
 use Rattle.ledger_types.specs.declared.entry.LedgerEntry.{LedgerEntry}
 use Rattle.ledger_types.specs.declared.bucket.BucketEntry.TheVariants as bucket
 use Rattle.bucket_levels.specs.entry_map.EntryMap.{EntryMap}
@@ -39,7 +40,8 @@ own_entry k (bucket.Init f) e h is = let same : f ≡ e = cc in ap key_of (sym s
 -- ---- in order
 
 keys_above : (k : LedgerKey) (row : List (LedgerKey × BucketEntry)) → Above k row
-    → AllByRecursion (λ x. IsUnderKey x.0 (stated x.1)) row → All (λ q. key_cmp k q ≡ Less) (map key_of (entries_in row))
+    → AllByRecursion (λ x. IsUnderKey x.0 (stated x.1)) row
+    → All (λ q. key_cmp k q ≡ Less) (map key_of (entries_in row))
 keys_above k [] h own = All-nil (λ q. key_cmp k q ≡ Less)
 keys_above k (x ∷ xs) h own =
     let rest = keys_above k xs (second _ _ h) own.1 in

@@ -3,4 +3,4 @@ pub mod FileRows
 pub mod JudgedRows
 pub mod Newest
 pub mod LeftEntries
-pub mod Prelude
+mod Prelude

@@ -1,9 +1,10 @@
 -- What each key has once a newer file is put over some files.
 use Rattle.level_entries.proofs.Prelude.{◌≡◌, List, [], ◌∷◌, Option, Some, None, false, map, option_map, refl, sym, ap}
-use Rattle.level_entries.proofs.Prelude.{subst, ◌∙◌, ℕ, is_some, option_or, LedgerKey, BucketEntry, IsRising, value_at}
-use Rattle.level_entries.proofs.Prelude.{IsOverlaid, Change, Contents, change_at, version_of, IsUnderKey, LevelPair}
-use Rattle.level_entries.proofs.Prelude.{pair_of, files_of, changes_of, prepended, AreMarkedWell, MayFollow, stated}
-use Rattle.level_entries.proofs.Prelude.{newest, alone, IsFileRow, IsNewestRow, IsRowOf, MayAllFollow, IsPutOver}
+use Rattle.level_entries.proofs.Prelude.{subst, ◌∙◌, ℕ, is_some, LedgerKey, BucketEntry, IsRising, value_at, IsOverlaid}
+use Rattle.level_entries.proofs.Prelude.{Change, Contents, change_at, version_of, IsUnderKey, LevelPair, pair_of}
+use Rattle.level_entries.proofs.Prelude.{files_of, changes_of, prepended, AreMarkedWell, MayFollow, stated, newest}
+use Rattle.level_entries.proofs.Prelude.{alone, IsFileRow, IsNewestRow, IsRowOf, MayAllFollow, IsPutOver}
+use Rattle.std.specs.Option.{option_or}
 use Rattle.level_entries.proofs.JudgedRows.{nothing_to_judge, nothing_under}
 use Rattle.bucket_levels.proofs.Marks.{on_same_newest}
 
@@ -82,7 +83,8 @@ module _ (file : Contents) (files : List Contents) where
           ∙ sym (ap newest (prefix k) ∙ newest_prefix (change_at file k) (changes_of files k));
       own = λ k item h. own_either (value_at k newer) (value_at k row) k item (sym (o.each k) ∙ h) (f.own k item)
           (n.own k item);
-      marks = λ k. subst AreMarkedWell (sym (prefix k)) (marked_prefix (change_at file k) (changes_of files k) (n.marks k)
+      marks = λ k. subst AreMarkedWell (sym (prefix k))
+          (marked_prefix (change_at file k) (changes_of files k) (n.marks k)
           (λ c is.
           let t = stated_back (value_at k newer) c (f.says k ∙ is) in
           subst (λ (x : Change). MayFollow x (changes_of files k)) t.2

@@ -1,24 +1,25 @@
 -- Names that several proofs of this crate use.
-use Rattle.bucket_core.proofs.Prelude as lower
-pub use lower.{All, All-nil, AllByRecursion, Bool, Change, Contents, Dead, HasFile, IfOk-weaker, Init, IsEncodable}
-pub use lower.{IsKeyText, IsSomeAnd, IsUnderKey, List, Live, None, Ok, Option, Ordering, Position, Reading, Shows, Some}
-pub use lower.{TakesItem, [], after_record, ap, arith, below_all, change_at, cond, entries, entries_sorted, eq_by_cmp}
-pub use lower.{false, file_of, find, flat_map, get, get-entries, get_or, is_eq, is_lt, is_sorted, item_at, item_of}
-pub use lower.{items_of, key_cmp, key_in, key_of, keys_total, length, map, option_or, record_is_read, record_of}
-pub use lower.{recursion_from_All, refl, start_of, subst, sym, true, ℕ, ◌++◌, ◌+◌, ◌<◌, ◌∙◌, ◌∷◌, ◌≡◌, ◌≤◌}
-unfoldable pub use lower.{bucket_entry}
-pub use Rattle.std.proofs.Common.{append-nil, append_assoc, drop, inl, inr, is_some, option_map, take, unwrap_or}
-pub use Rattle.std.proofs.Common.{zero-add, ◌-◌, ◌↔◌, ◌⊎◌}
+pub use Rattle.std.proofs.Common.{All, Bool, List, None, Ok, Option, Some, [], ap, append-nil, append_assoc, arith}
+pub use Rattle.std.proofs.Common.{cond, drop, false, get_or, inl, inr, is_some, length, map, option_map, refl, subst}
+pub use Rattle.std.proofs.Common.{sym, take, true, unwrap_or, zero-add, ℕ, ◌++◌, ◌+◌, ◌-◌, ◌<◌, ◌↔◌, ◌∙◌, ◌∷◌, ◌≡◌, ◌≤◌}
+pub use Rattle.std.proofs.Common.{◌⊎◌}
 pub use Rattle.std.proofs.lemmas.List.{drop_at, drop_more, get_or-map, length-append, length-drop, map-append}
 pub use Rattle.std.proofs.lemmas.List.{take_more}
-pub use Rattle.std.proofs.lemmas.List.Elements.{All-cons}
+pub use Rattle.std.proofs.lemmas.List.Elements.{All-cons, All-nil, recursion_from_All}
+pub use Rattle.std.proofs.lemmas.Result.{IfOk-weaker}
 pub use Rattle.std.specs.Cmp.{tied_itself}
-pub use Rattle.std.specs.FinMap.{from_entries, get-from_entries}
-pub use Rattle.std.specs.Prelude.{option_and_then}
+pub use Rattle.std.specs.FinMap.{entries, entries_sorted, from_entries, get, get-entries, get-from_entries}
+pub use Rattle.std.specs.FinMap.Entries.{below_all, find, is_sorted}
+pub use Rattle.std.specs.List.{AllByRecursion, flat_map}
+pub use Rattle.std.specs.Ordering.{eq_by_cmp, is_eq, is_lt}
+pub use Rattle.std.specs.Prelude.{IsSomeAnd, option_and_then}
+pub use Rattle.std.specs.declared.cmp.Ordering.{Ordering}
 pub use Rattle.std.specs.declared.cmp.Ordering.TheVariants.{Equal, Greater, Less}
-pub use Rattle.bucket_core.specs.Bucket.{Filled, version_of}
-pub use Rattle.bucket_items.specs.Item.{item_type}
-pub use Rattle.bucket_items.specs.KeyText.{OrdersKeys}
+pub use Rattle.bucket_core.specs.Bucket.{Change, Contents, Dead, Filled, Init, IsUnderKey, Live, change_at, version_of}
+pub use Rattle.bucket_core.specs.Faults.{key_in}
+pub use Rattle.bucket_items.specs.Item.{Shows, item_type}
+pub use Rattle.bucket_items.specs.KeyText.{IsKeyText, OrdersKeys}
+pub use Rattle.bucket_items.specs.MarkedItem.{IsEncodable, TakesItem, item_at, record_of}
 pub use Rattle.bucket_items.specs.declared.item.BucketItem.{BucketItem}
 pub use Rattle.bucket_levels.specs.Levels.{pair_of}
 pub use Rattle.bucket_levels.specs.Meaning.{AreWellMarked, MayFollow, Represent, entry_after, entry_by, files_of}
@@ -31,10 +32,12 @@ pub use Rattle.entry_table.proofs.Turns.{nothing_left, overlaid}
 pub use Rattle.entry_table.proofs.Walks.{Above, Sorted, both, first, is_less, less, none_found, second}
 pub use Rattle.entry_table.specs.Rows.{IsOverlaid, IsRising, IsTableRow, putting, value_at, with_key}
 pub use Rattle.entry_table.specs.shared_tree.Rows.{all_changed}
-pub use Rattle.ledger_types.proofs.KeyOrdering.{keys_exact}
+pub use Rattle.ledger_types.proofs.KeyOrdering.{keys_exact, keys_total}
+pub use Rattle.ledger_types.specs.KeyOrder.{key_cmp}
 pub use Rattle.ledger_types.specs.declared.bucket.BucketEntry.{BucketEntry}
 pub use Rattle.ledger_types.specs.declared.key.LedgerKey.{LedgerKey}
 pub use Rattle.level_entries.specs.Rows.{IsFileRow, IsLeftToJudge, IsNewestRow, IsPutOver, IsRowOf, MayAllFollow, alone}
 pub use Rattle.level_entries.specs.Rows.{entries_in, entry_in, newest, prepended_to, rows_of, stated, under_if}
 pub use Rattle.level_entries.specs.Stored.{IsStored, MayFollowBy, item_or_meta, under_key}
 unfoldable pub use Rattle.level_entries.specs.Stored.{stored_in}
+pub use Rattle.xdr_core.specs.Position.{Position, Reading, start_of}

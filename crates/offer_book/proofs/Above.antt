@@ -1,11 +1,11 @@
 -- What is above a key in the order of keys, and the offers of an account there.
 use Rattle.offer_book.proofs.Prelude.{◌≡◌, ◌≢◌, refl, sym, ap, ◌∙◌, Bool, true, false, cond, ◌&&◌, T, List, [], ◌∷◌}
-use Rattle.offer_book.proofs.Prelude.{Option, Some, None, Ordering, Less, Equal, Greater, is_lt, is_eq, eq_by_cmp}
-use Rattle.offer_book.proofs.Prelude.{tied_itself, find, entries, entries_sorted, get-entries, is_sorted, below_all}
-use Rattle.offer_book.proofs.Prelude.{both, first, second, is_less, greater, turned, none_above, LedgerEntry, LedgerKey}
-use Rattle.offer_book.proofs.Prelude.{key_of, key_cmp, keys_total, keys_exact, EntryMap, IsLeastAbove, IsNextAfter}
-use Rattle.offer_book.proofs.Prelude.{above, found_first}
-use Rattle.entry_map.proofs.shared_tree_proofs.Changed.{below_less, below_tied}
+use Rattle.offer_book.proofs.Prelude.{Option, Some, None, Less, Equal, Greater, is_lt, is_eq, eq_by_cmp, tied_itself}
+use Rattle.offer_book.proofs.Prelude.{find, entries, entries_sorted, get-entries, is_sorted, below_all, both, first}
+use Rattle.offer_book.proofs.Prelude.{second, is_less, greater, turned, LedgerEntry, LedgerKey, key_of, key_cmp}
+use Rattle.offer_book.proofs.Prelude.{keys_total, keys_exact, EntryMap, IsLeastAbove, IsNextAfter, above, found_first}
+use Rattle.std.specs.declared.cmp.Ordering.{Ordering}
+use Rattle.entry_map.proofs.shared_tree_proofs.Changed.{below_less, below_tied, none_above}
 
 abbrev pub Pairs : Type 0
 Pairs = List (LedgerKey × LedgerEntry)

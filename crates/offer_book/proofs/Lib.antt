@@ -1,3 +1,3 @@
 pub mod Above
 pub mod Selling
-pub mod Prelude
+mod Prelude

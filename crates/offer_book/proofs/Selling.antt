@@ -1,11 +1,14 @@
 -- The offers of an account among entries.
 use Rattle.offer_book.proofs.Prelude as prelude
 use prelude.{◌≡◌, ◌≢◌, refl, sym, ap, ◌∙◌, arith, Bool, true, false, cond, T, ℤ, pos, ◌<◌, ◌≤ℤ◌, List, [], ◌∷◌, map}
-use prelude.{length, All, Option, Some, None, IfSome, cons_option, Less, Equal, Greater, is_eq, ordering_then, int_cmp}
-use prelude.{int_cmp_is, get, find, entries, entries_sorted, get-entries, is_sorted, All-nil, All-cons, All-head}
-use prelude.{All-tail, first, second, LedgerEntry, LedgerKey, key_of, key_of_body, account_cmp, key_cmp, EntryMap}
-use prelude.{IsKeyed, IsLeastAbove, IsNextAfter, offer_in, offers_in, above, left, sold_in, IsSoldIn, IsNextSold}
-use prelude.{found_first, found_later, account_cmp_itself, exact_accounts, same_from_both_orders, if_some_at}
+use prelude.{length, All, Option, Some, None, IfSome, Less, Equal, Greater, is_eq, ordering_then, int_cmp, int_cmp_is}
+use prelude.{get, find, entries, entries_sorted, get-entries, is_sorted, first, second, LedgerEntry, LedgerKey, key_of}
+use prelude.{key_of_body, account_cmp, key_cmp, EntryMap, IsKeyed, IsLeastAbove, IsNextAfter, offer_in, offers_in}
+use prelude.{above, left, sold_in, IsSoldIn, IsNextSold, found_first, found_later, account_cmp_itself, exact_accounts}
+use prelude.{same_from_both_orders}
+use Rattle.std.specs.List.{cons_option}
+use Rattle.std.proofs.lemmas.List.Elements.{All-nil, All-cons, All-head, All-tail}
+use Rattle.ledger_types.proofs.Lists.{if_some_at}
 use Rattle.std.proofs.lemmas.Int.{ints}
 use Rattle.ledger_types.specs.declared.ids.AccountId.{AccountId}
 use Rattle.ledger_types.specs.declared.offer.OfferEntry.{OfferEntry}

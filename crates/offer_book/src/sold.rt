@@ -1,4 +1,4 @@
-//! The offers of an account.
+//! The offers of an account, sold by it, in rising order of their ids.
 
 ghost use Rattle.std.specs.Prelude.{◌≡◌, IfOk};
 ghost use Rattle.ledger_types.specs.declared.key.LedgerKey.TheVariants.{Offer};

@@ -111,7 +111,8 @@ module _ (n d v room : ℕ) (some_n : 1 ≤ n) (some_d : 1 ≤ d) (fits : v ≤ 
   worth_by : (t : Bool) → nat_lt d n ≡ t → (used_by t n d v).wheat ≤ room → (used_by t n d v).wheat * n ≤ room * d
   worth_by true is most = natural_at_most_trans (wheat * n) v (room * d) (whole_below v n) fits
   worth_by false is most =
-      natural_at_most_trans (dear * n) (room * n) (room * d) (mul-le-mul_right n most) (mul-le-mul_left room (ltb-false d n is))
+      natural_at_most_trans (dear * n) (room * n) (room * d) (mul-le-mul_right n most)
+      (mul-le-mul_left room (ltb-false d n is))
 
   pub worth_room : (used_up n d v).wheat ≤ room → (used_up n d v).wheat * n ≤ room * d
   worth_room = worth_by (nat_lt d n) refl
@@ -183,7 +184,8 @@ module _ (n d send receive : ℕ) (some_n : 1 ≤ n) (some_d : 1 ≤ d) (send_fi
       all_used n d moved.wheat more
       (natural_at_most_trans _ (moved.wheat * n) _ (worth_sent n d moved.wheat more) moved_worth)
       (natural_at_most_trans _ (moved.wheat * n) _ (worth_sent n d moved.wheat more) (mul-le-mul_right n moved_fits))
-      ∙ used_up_again n d all more some_n some_d (natural_at_most_trans all (receive * d) (more * d) received (mul-le-mul_right d room))
+      ∙ used_up_again n d all more some_n some_d
+      (natural_at_most_trans all (receive * d) (more * d) received (mul-le-mul_right d room))
 
   abbrev is_void : Bool
   is_void = is_half Normal moved || is_unfair Normal n d moved

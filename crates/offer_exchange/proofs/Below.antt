@@ -39,16 +39,28 @@ pub record AreAtMost (x y : ℕ) (a : Amounts) : Type 0 where
 -- v is worth at most x of wheat, and at most y of sheep
 module _ (n d v x y : ℕ) (some_n : 1 ≤ n) (some_d : 1 ≤ d) (wheat : v ≤ x * n) (sheep : v ≤ y * d) where
   wheat_up : AreAtMost x y (wheat_then_up n d v)
-  wheat_up = record { wheat = down v x n wheat; sheep = ceil_div_at_most (v / n * n) y d some_d (quotient_times_at_most v n (y * d) sheep) }
+  wheat_up = record {
+    wheat = down v x n wheat;
+    sheep = ceil_div_at_most (v / n * n) y d some_d (quotient_times_at_most v n (y * d) sheep);
+  }
 
   wheat_down : AreAtMost x y (wheat_then_down n d v)
-  wheat_down = record { wheat = down v x n wheat; sheep = down (v / n * n) y d (quotient_times_at_most v n (y * d) sheep) }
+  wheat_down = record {
+    wheat = down v x n wheat;
+    sheep = down (v / n * n) y d (quotient_times_at_most v n (y * d) sheep);
+  }
 
   sheep_up : AreAtMost x y (sheep_then_up n d v)
-  sheep_up = record { wheat = ceil_div_at_most (v / d * d) x n some_n (quotient_times_at_most v d (x * n) wheat); sheep = down v y d sheep }
+  sheep_up = record {
+    wheat = ceil_div_at_most (v / d * d) x n some_n (quotient_times_at_most v d (x * n) wheat);
+    sheep = down v y d sheep;
+  }
 
   sheep_down : AreAtMost x y (sheep_then_down n d v)
-  sheep_down = record { wheat = down (v / d * d) x n (quotient_times_at_most v d (x * n) wheat); sheep = down v y d sheep }
+  sheep_down = record {
+    wheat = down (v / d * d) x n (quotient_times_at_most v d (x * n) wheat);
+    sheep = down v y d sheep;
+  }
 
   pub used_up_below : AreAtMost x y (used_up n d v)
   used_up_below = elim (nat_lt d n) as (λ b. AreAtMost x y (if b then wheat_then_down n d v else sheep_then_up n d v)) [

@@ -2,4 +2,4 @@ pub mod Below
 pub mod Within
 pub mod Adjusting
 pub mod Evaluated
-pub mod Prelude
+mod Prelude

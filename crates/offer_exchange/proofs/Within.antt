@@ -6,7 +6,8 @@ use prelude.{some_stays, used_up, wheat_stays, table, is_half, is_unfair, exchan
 use Rattle.offer_exchange.proofs.Below.{AreAtMost, used_up_below, some_stays_below}
 
 -- the bounds of the offer's side and of the taker's
-within_both_bounds : (b : Bounds) (a : Amounts) → AreAtMost b.wheat_send b.sheep_receive a → AreAtMost b.wheat_receive b.sheep_send a
+within_both_bounds : (b : Bounds) (a : Amounts) → AreAtMost b.wheat_send b.sheep_receive a
+    → AreAtMost b.wheat_receive b.sheep_send a
     → AreWithin b a
 within_both_bounds b a offer taker = record {
   wheat_send = offer.wheat;
@@ -43,14 +44,17 @@ module _ (rounding : Rounding) (n d : ℕ) (b : Bounds) (some_n : 1 ≤ n) (some
   by_worth true is =
       let less = strictly sheep wheat (ltb-true sheep wheat is) in
       within_both_bounds b _ (some_stays_below n d sheep b.wheat_send b.sheep_receive some_n some_d
-      (natural_at_most_trans sheep wheat _ less wheat_sent) (natural_at_most_trans sheep wheat _ less sheep_received) rounding _
+      (natural_at_most_trans sheep wheat _ less wheat_sent)
+      (natural_at_most_trans sheep wheat _ less sheep_received) rounding _
       (min-le_right b.sheep_send b.sheep_receive))
       (some_stays_below n d sheep b.wheat_receive b.sheep_send some_n some_d wheat_received sheep_sent rounding _
       (min-le_left b.sheep_send b.sheep_receive))
   by_worth false is =
       let most = ltb-false sheep wheat is in
-      within_both_bounds b _ (used_up_below n d wheat b.wheat_send b.sheep_receive some_n some_d wheat_sent sheep_received)
-      (used_up_below n d wheat b.wheat_receive b.sheep_send some_n some_d (natural_at_most_trans wheat sheep _ most wheat_received)
+      within_both_bounds b _
+      (used_up_below n d wheat b.wheat_send b.sheep_receive some_n some_d wheat_sent sheep_received)
+      (used_up_below n d wheat b.wheat_receive b.sheep_send some_n some_d
+      (natural_at_most_trans wheat sheep _ most wheat_received)
       (natural_at_most_trans wheat sheep _ most sheep_sent))
 
   pub table_within : AreWithin b (table rounding n d b)

@@ -1,6 +1,10 @@
 -- What a removal leaves of balances.
-use Rattle.op_claim.proofs.Prelude.{ℕ, Option, Some, None, get, EntryMap, with_account, with_less, KeepsCore}
-use Rattle.op_claim.proofs.Prelude.{BalancesAreInRange}
+use Rattle.op_claim.proofs.Prelude.{ℕ, Option, Some, None, BalancesAreInRange}
+use Rattle.std.specs.FinMap.{get}
+use Rattle.entry_map.specs.EntryMap.{EntryMap}
+use Rattle.entry_slots.specs.Accounts.{with_account}
+use Rattle.sponsor_rules.specs.Counting.{with_less}
+use Rattle.sponsor_rules.specs.Keeping.{KeepsCore}
 use Rattle.ledger_types.specs.declared.ids.AccountId.{AccountId}
 use Rattle.ledger_types.specs.declared.account.AccountEntry.{AccountEntry}
 use Rattle.ledger_types.specs.declared.entry.LedgerEntry.{LedgerEntry}

@@ -1,11 +1,12 @@
 -- A claimable balance that is added: what it leaves, and that it can be.
-use Rattle.op_flags.proofs.Prelude.{◌≡◌, ◌≢◌, refl, sym, ap, subst, ◌∙◌, ℕ, ◌*◌, Bool, true, false, is_some, Option}
-use Rattle.op_flags.proofs.Prelude.{Some, None, Ok, arith, ◌≤◌, ℤ, pos, ◌+ℤ◌, ◌≤ℤ◌, get, AccountId, AccountEntry}
-use Rattle.op_flags.proofs.Prelude.{ClaimableBalanceEntry, LedgerEntry, key_of, key_of_body, EntryMap, put, account_at}
-use Rattle.op_flags.proofs.Prelude.{HasAccount, balance_at, balance_in, balance_of, with_sponsor, part, available, Ctx}
-use Rattle.op_flags.proofs.Prelude.{map_after_adding_balance, payer_by, payer_tests_at, map_after_charging}
-use Rattle.op_flags.proofs.Prelude.{balance_flags, held, flagged_ext, IsKeyed, under_key, Leaves, keeps_then}
-use Rattle.op_flags.proofs.Prelude.{accounts_kept, keyed_put, LedgerEntryBody, zero_add, unless_first_ok}
+use Rattle.op_flags.proofs.Prelude as prelude
+use prelude.{◌≡◌, ◌≢◌, refl, sym, ap, subst, ◌∙◌, ℕ, ◌*◌, Bool, true, false, is_some, Option, Some, None, Ok, arith}
+use prelude.{◌≤◌, ℤ, pos, ◌+ℤ◌, ◌≤ℤ◌, get, AccountId, AccountEntry, ClaimableBalanceEntry, LedgerEntry, key_of}
+use prelude.{key_of_body, EntryMap, put, account_at, HasAccount, balance_at, balance_in, balance_of, with_sponsor, part}
+use prelude.{Ctx, map_after_adding_balance, payer_by, payer_tests_at, balance_flags, held, flagged_ext, IsKeyed}
+use prelude.{under_key, Leaves, keeps_then, accounts_kept, keyed_put, LedgerEntryBody, zero_add, unless_first_ok}
+use Rattle.sponsor_rules.specs.reserve_rules.Reserve.{available}
+use Rattle.sponsor_rules.specs.Paying.{map_after_charging}
 use Rattle.ledger_types.specs.declared.ids.ClaimableBalanceId.{ClaimableBalanceId}
 use Rattle.trade_cross.proofs.legal_rules_proofs.ChargesLeft.{charging_kept, payer_had, put_beside}
 use Rattle.trade_cross.proofs.legal_rules_proofs.Holdings.{still_holds, put_holds}

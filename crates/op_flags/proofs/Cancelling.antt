@@ -3,10 +3,12 @@
 use Rattle.op_flags.proofs.Prelude.{◌≡◌, ◌≢◌, refl, sym, ap, subst, ◌∙◌, ℕ, Bool, true, false, cond, List, [], ◌∷◌, All}
 use Rattle.op_flags.proofs.Prelude.{Some, None, suc, ◌+◌, ◌<◌, ◌≤◌, length, drop, get_or, drop-cons, arith, drop_all}
 use Rattle.op_flags.proofs.Prelude.{All-nil, All-cons, All-head, All-tail, All-weaker, get, filter, ℤ, if◌then◌else◌}
-use Rattle.op_flags.proofs.Prelude.{Asset, OfferEntry, LedgerEntry, EntryMap, Undo, with_current, same_itself, offer_of}
-use Rattle.op_flags.proofs.Prelude.{offer_at, View, is_key, none_more, IsOwedRightly, Owed, IsLegalOwing, Leaves}
-use Rattle.op_flags.proofs.Prelude.{leaves_itself, keeps_both, IsCrossable, offer_key, trades_in}
-use Rattle.op_flags.proofs.Prelude.{map_after_cancelling_all, IsThere, AreExisting, map_after_one, same_keys, all_both}
+use Rattle.op_flags.proofs.Prelude.{Asset, OfferEntry, LedgerEntry, EntryMap, Undo, with_current, offer_of, offer_at}
+use Rattle.op_flags.proofs.Prelude.{View, is_key, none_more, Owed, IsLegalOwing, Leaves, leaves_itself, keeps_both}
+use Rattle.op_flags.proofs.Prelude.{IsCrossable, offer_key, trades_in, map_after_cancelling_all, IsThere, AreExisting}
+use Rattle.op_flags.proofs.Prelude.{map_after_one, same_keys, all_both}
+use Rattle.entry_map.proofs.KeyMaps.{same_itself}
+use Rattle.trade_cross.specs.legal_rules.OneMore.{IsOwedRightly}
 use Rattle.trade_cross.specs.Cancelling.{map_after_cancelling}
 use Rattle.trade_cross.proofs.Cancelled.{cancelled_keeps}
 use Rattle.trade_cross.proofs.CancelledLeft.{cancelling_left, cancelling_takes, cancelling_beside}
@@ -56,7 +58,8 @@ module _ (v : View) (id_pool : ℕ) (owed : Owed) (right : IsOwedRightly owed) (
       record {
         there = All-weaker (λ x. IsThere m x × (o.offer_id ≢ x.offer_id)) (IsThere (map_after_cancelling o m))
             (λ x both. still o m legal exists x both.1 both.0) os
-            (all_both {X = OfferEntry} (IsThere m) (λ x. o.offer_id ≢ x.offer_id) os (All-tail (IsThere m) o os all.there) all.apart.0);
+            (all_both {X = OfferEntry} (IsThere m) (λ x. o.offer_id ≢ x.offer_id) os
+            (All-tail (IsThere m) o os all.there) all.apart.0);
         apart = all.apart.1;
       }
 

@@ -19,4 +19,4 @@ pub use Rattle.trade_cross.proofs.sponsor_laws_proofs
 pub use Rattle.sponsor_rules.proofs as sponsor_rules_proofs
 pub use Rattle.trade_cross.proofs as trade_cross_proofs
 pub use Rattle.pool_shares.proofs.wide_math_proofs
-pub mod Prelude
+mod Prelude

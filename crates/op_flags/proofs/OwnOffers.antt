@@ -1,10 +1,11 @@
 -- The offers of an account exist, with distinct ids of at least 1, and are all that it has.
 use Rattle.op_flags.proofs.Prelude.{◌≡◌, refl, sym, ap, subst, ◌∙◌, ℕ, Bool, true, false, cond, List, [], ◌∷◌, All}
-use Rattle.op_flags.proofs.Prelude.{Some, All-nil, All-cons, All-head, All-tail, All-filter, tied_itself, get, entries}
-use Rattle.op_flags.proofs.Prelude.{get-entries, filter, cons_option, is_eq, ℤ, pos, ◌≤ℤ◌, map, AccountId, OfferEntry}
-use Rattle.op_flags.proofs.Prelude.{LedgerEntry, LedgerEntryBody, LedgerKey, key_of, key_of_body, account_cmp, key_cmp}
-use Rattle.op_flags.proofs.Prelude.{EntryMap, offer_at, offers_by, AreNumbered, View, Owed, IsLegalOwing, IsBodyInRange}
+use Rattle.op_flags.proofs.Prelude.{Some, All-nil, All-cons, All-head, All-tail, All-filter, get, entries, get-entries}
+use Rattle.op_flags.proofs.Prelude.{filter, cons_option, is_eq, ℤ, pos, ◌≤ℤ◌, map, AccountId, OfferEntry, LedgerEntry}
+use Rattle.op_flags.proofs.Prelude.{LedgerEntryBody, LedgerKey, key_of, key_of_body, account_cmp, key_cmp, EntryMap}
+use Rattle.op_flags.proofs.Prelude.{offer_at, offers_by, AreNumbered, View, Owed, IsLegalOwing, IsBodyInRange}
 use Rattle.op_flags.proofs.Prelude.{IsOfferInRange, IsCrossable, IsThere, AreExisting, if_some_from}
+use Rattle.std.specs.Cmp.{tied_itself}
 use Rattle.std.proofs.lemmas.Cmp.{nat_list_cmp_total}
 use Rattle.std.specs.FinMap.Entries.{find}
 use Rattle.ledger_types.specs.declared.entry.LedgerEntryBody.TheVariants as body

@@ -1,35 +1,37 @@
 -- Names that several proofs of this crate use.
-use Rattle.trade_cross.proofs.legal_rules_proofs.Prelude as lower
-pub use lower.{All, All-cons, All-head, All-nil, All-tail, AreEntriesLegal, Bool, Buying, EntryMap, HasAccount}
-pub use lower.{IsBodyInRange, IsBoundRightly, IsEntryLegal, IsKeyed, IsLegalOwing, IsOfferInRange, IsOwedRightly}
-pub use lower.{IsPoolInRange, IsTrustLineInRange, Kind, List, None, Ok, Option, Owed, Selling, Shares, Some, Tests}
-pub use lower.{Uses, View, [], add_neg_self, add_sub_self, add_zero_at_most, ap, arith, asset_cmp, available, bound_of}
-pub use lower.{buys, cond, counted, false, filter, first_fault, for_key, get, get_or, holder, if◌then◌else◌, inl, inr}
-pub use lower.{ints, is_eq, is_key, is_same_account, key_cmp, key_of, key_of_body, length, line_liabilities}
-pub use lower.{map_after_adding, map_after_adding_balance, map_after_charging, nat_eq, natural_nonnegative}
-pub use lower.{natural_positive, needed_line, neg_ℤ, none_more, nothing_owed, of_asset, of_line, offer_of, part}
-pub use lower.{payer_by, payer_of, payer_tests_at, plus, pool_named, pos, put, refl, same_itself, same_keys, sells}
-pub use lower.{sponsor_of, stated, stated_at, subst, suc, sym, tied_itself, total_none, true, under_key, view}
-pub use lower.{with_sponsor, zero, zero_add, ℕ, ℤ, ◌&&◌, ◌*◌, ◌++◌, ◌+ℤ◌, ◌+◌, ◌-ℤ◌, ◌<◌, ◌||◌, ◌∙◌, ◌∷◌, ◌≡◌, ◌≢◌}
-pub use lower.{◌≤ℤ◌, ◌≤◌, ◌⊎◌}
-unfoldable pub use lower.{account_at, line_at, offer_at, open_sponsor, pool_at, total, with_line}
-pub use Rattle.std.proofs.Common.{Err, OnOk, Result, bit_and, bit_or, bit_xor, drop, drop-cons, is_some, nat_lt, not}
-pub use Rattle.std.proofs.Common.{of_z, rules, to_z, w64, ◌%◌, ◌^◌}
+pub use Rattle.std.proofs.Common.{All, Bool, Err, List, None, Ok, OnOk, Option, Result, Some, [], ap, arith, bit_and}
+pub use Rattle.std.proofs.Common.{bit_or, bit_xor, cond, drop, drop-cons, false, get_or, inl, inr, is_some, length}
+pub use Rattle.std.proofs.Common.{nat_eq, nat_lt, not, of_z, refl, rules, subst, suc, sym, to_z, true, w64, zero, ℕ}
+pub use Rattle.std.proofs.Common.{◌%◌, ◌&&◌, ◌*◌, ◌++◌, ◌+◌, ◌<◌, ◌^◌, ◌||◌, ◌∙◌, ◌∷◌, ◌≡◌, ◌≢◌, ◌≤◌, ◌⊎◌}
 pub use Rattle.std.proofs.lemmas.Bool.{ltb-false, or_left, or_parts, or_right}
+pub use Rattle.std.proofs.lemmas.Int.{ints}
 pub use Rattle.std.proofs.lemmas.List.{drop_all}
-pub use Rattle.std.proofs.lemmas.List.Elements.{All-filter, All-weaker}
-pub use Rattle.std.specs.FinMap.{entries, get-entries}
-pub use Rattle.std.specs.List.{cons_option}
-pub use Rattle.std.specs.Prelude.{IfOk, map}
+pub use Rattle.std.proofs.lemmas.List.Elements.{All-cons, All-filter, All-head, All-nil, All-tail, All-weaker}
+pub use Rattle.std.specs.FinMap.{entries, get, get-entries}
+pub use Rattle.std.specs.List.{cons_option, filter}
+pub use Rattle.std.specs.Ordering.{is_eq}
+pub use Rattle.std.specs.Prelude.{IfOk, if◌then◌else◌, map, neg_ℤ, pos, ℤ, ◌+ℤ◌, ◌-ℤ◌, ◌≤ℤ◌}
+pub use Rattle.entry_map.specs.EntryMap.{EntryMap, put}
 pub use Rattle.entry_map.specs.Undo.{Undo, with_current}
+pub use Rattle.entry_slots.specs.Accounts.{HasAccount}
+unfoldable pub use Rattle.entry_slots.specs.Accounts.{account_at}
 pub use Rattle.entry_slots.specs.Balances.{balance_in, balance_of}
 unfoldable pub use Rattle.entry_slots.specs.Balances.{balance_at}
-pub use Rattle.entry_slots.specs.EntrySponsor.{sponsor_in}
+pub use Rattle.entry_slots.specs.EntrySponsor.{sponsor_in, sponsor_of, with_sponsor}
+pub use Rattle.entry_slots.specs.LineExtensions.{line_liabilities}
 pub use Rattle.entry_slots.specs.Lines.{line_of_slot, line_slot_at, line_slot_by, line_slot_of}
+unfoldable pub use Rattle.entry_slots.specs.Lines.{line_at, with_line}
+pub use Rattle.entry_slots.specs.Offers.{offer_of}
+unfoldable pub use Rattle.entry_slots.specs.Offers.{offer_at}
 pub use Rattle.entry_slots.specs.Pools.{pool_of_slot}
-pub use Rattle.ledger_types.proofs.Arithmetic.{at_most_refl, sub_self}
+unfoldable pub use Rattle.entry_slots.specs.Pools.{pool_at}
+pub use Rattle.entry_slots.specs.Tests.{Tests, first_fault}
+pub use Rattle.ledger_types.proofs.Arithmetic.{add_neg_self, add_sub_self, add_zero_at_most, at_most_refl}
+pub use Rattle.ledger_types.proofs.Arithmetic.{natural_nonnegative, natural_positive, sub_self, zero_add}
+pub use Rattle.ledger_types.proofs.KeyOrdering.{same_keys}
 pub use Rattle.ledger_types.proofs.Lists.{all_both, if_some_from}
-pub use Rattle.ledger_types.specs.KeyOrder.{account_cmp}
+pub use Rattle.ledger_types.specs.KeyOrder.{account_cmp, asset_cmp, key_cmp}
+pub use Rattle.ledger_types.specs.Keys.{key_of, key_of_body}
 pub use Rattle.ledger_types.specs.declared.account.AccountEntry.{AccountEntry}
 pub use Rattle.ledger_types.specs.declared.asset.Asset.{Asset}
 pub use Rattle.ledger_types.specs.declared.asset.TrustLineAsset.{TrustLineAsset}
@@ -63,7 +65,10 @@ pub use Rattle.pool_shares.proofs.Sound.{IsLegalPool, entries_sound, first_used,
 pub use Rattle.pool_shares.proofs.Sound.{second_used}
 pub use Rattle.pool_shares.specs.Fits.{DoShareLinesFit, DoesPoolFit}
 pub use Rattle.pool_shares.specs.Withdrawing.{map_after_withdrawing, part_of, with_change}
+pub use Rattle.sponsor_rules.specs.Adding.{map_after_adding, map_after_adding_balance}
 pub use Rattle.sponsor_rules.specs.Outcome.{IsRefused}
+pub use Rattle.sponsor_rules.specs.Payers.{is_same_account, payer_by, payer_of, payer_tests_at}
+unfoldable pub use Rattle.sponsor_rules.specs.Payers.{open_sponsor}
 pub use Rattle.sponsor_rules.specs.declared.context.Ctx.{Ctx}
 pub use Rattle.sponsor_rules.specs.declared.fault.AddFault.{AddFault}
 pub use Rattle.trade_cross.proofs.legal_rules_proofs.Leaving.{Leaves, accounts_kept, keeps_both, keeps_then, keyed_put}
@@ -75,6 +80,17 @@ pub use Rattle.trade_cross.proofs.legal_rules_proofs.Passed.{first_passed, unles
 pub use Rattle.trade_cross.specs.Crossable.{IsCrossable}
 pub use Rattle.trade_cross.specs.Crossing.{offer_key}
 pub use Rattle.trade_cross.specs.Locations.{DoesFit}
-pub use Rattle.trade_cross.specs.legal_rules.Ranges.{AreClaimantsInRange, AreLineFlags, IsBalanceInRange, IsHeldIn}
+pub use Rattle.trade_cross.specs.entry_sums.Sums.{part}
+unfoldable pub use Rattle.trade_cross.specs.entry_sums.Sums.{total}
+pub use Rattle.trade_cross.specs.legal_rules.Aggregates.{Buying, Kind, Selling, Shares, Uses, View, counted, stated}
+pub use Rattle.trade_cross.specs.legal_rules.Aggregates.{stated_at}
+pub use Rattle.trade_cross.specs.legal_rules.EntryKeys.{for_key, is_key}
+pub use Rattle.trade_cross.specs.legal_rules.Holdings.{IsKeyed, none_more, under_key}
+pub use Rattle.trade_cross.specs.legal_rules.Legal.{view}
+pub use Rattle.trade_cross.specs.legal_rules.Owing.{AreEntriesLegal, IsBoundRightly, IsEntryLegal, IsLegalOwing, Owed}
+pub use Rattle.trade_cross.specs.legal_rules.Owing.{nothing_owed, plus}
+pub use Rattle.trade_cross.specs.legal_rules.PoolShares.{needed_line, pool_named}
+pub use Rattle.trade_cross.specs.legal_rules.Ranges.{AreClaimantsInRange, AreLineFlags, IsBalanceInRange, IsBodyInRange}
+pub use Rattle.trade_cross.specs.legal_rules.Ranges.{IsHeldIn, IsOfferInRange, IsPoolInRange, IsTrustLineInRange}
 pub use Rattle.trade_cross.specs.legal_rules.Ranges.{balance_flags}
-pub use Rattle.trade_cross.specs.legal_rules.Supply.{held}
+pub use Rattle.trade_cross.specs.legal_rules.Supply.{held, of_asset, of_line}

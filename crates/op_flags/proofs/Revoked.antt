@@ -3,10 +3,12 @@ use Rattle.op_flags.proofs.Prelude as prelude
 use prelude.{◌≡◌, refl, sym, ap, subst, ◌∙◌, ℕ, Bool, true, false, List, Option, Some, None, arith, ints, get, filter}
 use prelude.{is_eq, ℤ, pos, ◌+ℤ◌, if◌then◌else◌, AccountId, Asset, TrustLineAsset, OfferEntry, TrustLineEntry}
 use prelude.{LedgerEntry, LedgerEntryBody, LedgerKey, key_of_body, asset_cmp, EntryMap, line_liabilities, line_at}
-use prelude.{total, total_none, is_same_account, offers_by, Selling, Buying, View, counted, stated, stated_at, is_key}
-use prelude.{for_key, none_more, bound_of, nothing_owed, IsEntryLegal, IsLegalOwing, holder, sells, buys, Leaves}
-use prelude.{line_entry, offer_key, line_asset_of, trades_in, map_after_cancelling_all, map_without_offers, AreExisting}
-use prelude.{same_keys, or_left, or_right}
+use prelude.{total, is_same_account, offers_by, Selling, Buying, View, counted, stated, stated_at, is_key, for_key}
+use prelude.{none_more, nothing_owed, IsEntryLegal, IsLegalOwing, Leaves, line_entry, offer_key, line_asset_of}
+use prelude.{trades_in, map_after_cancelling_all, map_without_offers, AreExisting, same_keys, or_left, or_right}
+use Rattle.trade_cross.proofs.entry_sums_proofs.Summing.{total_none}
+use Rattle.trade_cross.specs.legal_rules.OfferLiabilities.{bound_of}
+use Rattle.trade_cross.specs.legal_rules.Trades.{holder, sells, buys}
 use Rattle.ledger_types.specs.declared.asset.Asset.TheVariants as asset
 use Rattle.ledger_types.specs.declared.asset.TrustLineAsset.TheVariants as line
 use Rattle.ledger_types.specs.declared.entry.LedgerEntryBody.TheVariants as body

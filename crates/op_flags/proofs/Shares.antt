@@ -70,8 +70,10 @@ module _ (id_pool : ℕ) (m : EntryMap) (legal : AreEntriesLegal id_pool m) (id 
     shares = neg_ℤ t.balance;
   })
   pool_fits = record {
-    a = fits p.reserve_a (pos (part_of p t.balance).a) can_give_all.range.reserve_a (natural_nonnegative (part_of p t.balance).a);
-    b = fits p.reserve_b (pos (part_of p t.balance).b) can_give_all.range.reserve_b (natural_nonnegative (part_of p t.balance).b);
+    a = fits p.reserve_a (pos (part_of p t.balance).a) can_give_all.range.reserve_a
+        (natural_nonnegative (part_of p t.balance).a);
+    b = fits p.reserve_b (pos (part_of p t.balance).b) can_give_all.range.reserve_b
+        (natural_nonnegative (part_of p t.balance).b);
     shares = fits p.total_pool_shares t.balance can_give_all.range.shares some_shares;
   }
 

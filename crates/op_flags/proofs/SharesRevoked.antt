@@ -64,7 +64,8 @@ module _ (v : View) (id_pool : ℕ) (sum : ℤ) (m : EntryMap) (legal : IsLegalO
 
     sponsor_there : (s : AccountId) → sponsor_of its ≡ Some s → HasAccount m s
     sponsor_there s is =
-        let own = counted_exists v id_pool nothing_owed sum m legal count.Sponsoring s 1 its_key its (natural_nonnegative 0) there
+        let own = counted_exists v id_pool nothing_owed sum m legal count.Sponsoring s 1 its_key its
+        (natural_nonnegative 0) there
         (one_and_none _ _ (for_own s (sponsor_of its) 2 is (omega arith)) refl) (omega arith) in
         (own.account, own.exists)
 

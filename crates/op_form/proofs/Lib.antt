@@ -1,4 +1,4 @@
 pub mod Ranges
 pub mod Premises
 pub mod Balances
-pub mod Prelude
+mod Prelude

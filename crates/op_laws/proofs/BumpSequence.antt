@@ -64,7 +64,8 @@ bump_sequence_is_lawful ctx op m done fits under exists is =
     let new = with_account m ctx.op_source (with_seq_num_from op.bump_to) in
     let went = went_on ((int_lt op.bump_to (pos 0), answer bump.BadSeq) ∷ []) (success ctx (answer bump.Success) new [])
     done is in
-    let low = int_lt_false op.bump_to (pos 0) (first_passed (int_lt op.bump_to (pos 0)) (answer bump.BadSeq) [] went.0).0 in
+    let low = int_lt_false op.bump_to (pos 0)
+    (first_passed (int_lt op.bump_to (pos 0)) (answer bump.BadSeq) [] went.0).0 in
     let same : record { result = answer bump.Success; entries = new; ctx = ctx; moves = [] } ≡ done = cc in
     subst (IsLawful ctx m) same (lawful_still ctx m under (answer bump.Success) new
     (bumped_legal ctx op.bump_to m exists low fits)

@@ -34,7 +34,8 @@ use Rattle.op_laws.proofs.IssuedMoves.{same_issuer, issued_so, issued_by_move}
 use Rattle.op_laws.proofs.Lawful.{lawful_with, shifted_after}
 use Rattle.op_flags.proofs.BalanceLeft.{balance_left, no_balance, new_flags, payer_exists}
 use Rattle.op_laws.proofs.NewBalances.{IsBalanceEntry, balance_entry, claimants_in_range}
-use Rattle.op_laws.proofs.Described.{more_for, account_location, balance_location, moved, move_describes, more_turned, redeemed_more}
+use Rattle.op_laws.proofs.Described.{more_for, account_location, balance_location, moved, move_describes, more_turned}
+use Rattle.op_laws.proofs.Described.{redeemed_more}
 use Rattle.op_laws.proofs.Described.{balance_more}
 
 -- ---- what moves issue and give
@@ -247,7 +248,8 @@ module _ (ctx : Ctx) (op : CreateClaimableBalanceOp) (m : EntryMap) (done : Done
       let n = op.amount in
       let first = went_after_step (map_after_debit ctx src op.asset n m) creating.debit_result _ done is in
       let now = first.0 in
-      let one = amount_given ctx ctx.id_pool m under.settled.legal src n (nonnegative_from_positive n low) now op.asset first.1 in
+      let one = amount_given ctx ctx.id_pool m under.settled.legal src n
+      (nonnegative_from_positive n low) now op.asset first.1 in
       let shift = λ (x : Asset). unless_issuer x op.asset src (neg_ℤ n) in
       let now_legal = shifted_after ctx m under none_more shift now one.shifts in
       let second = went_after_charge (map_after_adding ctx src entry now) (creating.answer create.LowReserve) _ done

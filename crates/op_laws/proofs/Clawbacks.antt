@@ -82,4 +82,5 @@ clawback_is_lawful ctx op m done under exists is =
     (leaves_as ctx.base_reserve (in_line from held (neg_ℤ op.amount)) all m new given.left
     (λ k x. line_more held issued_asset from (neg_ℤ op.amount) other k x
     ∙ redeemed_more held (OfAccount from) (OfAccount src) op.amount (sym (same_issuer held src) ∙ issuer) k x))
-    (move_describes held (OfAccount from) (OfAccount src) op.amount (account_location held from) (account_location held src)))
+    (move_describes held (OfAccount from) (OfAccount src) op.amount (account_location held from)
+    (account_location held src)))

@@ -90,7 +90,8 @@ module _ (o : OfferEntry) where
     priced = both.0;
   }
 
-  all_described : (os : List OfferEntry) → All (λ x. IsPriced x.price) os → All (IsSame o) os → All (IsDistinctFrom o other) os
+  all_described : (os : List OfferEntry) → All (λ x. IsPriced x.price) os → All (IsSame o) os
+      → All (IsDistinctFrom o other) os
   all_described [] priced same = All-nil (IsDistinctFrom o other)
   all_described (x ∷ os) priced same = All-cons (IsDistinctFrom o other) x os
       (described x (All-head (λ y. IsPriced y.price) x os priced, All-head (IsSame o) x os same))
@@ -145,7 +146,8 @@ module _ (v : View) (id_pool : ℕ) (owed : Owed) (sum : ℤ) (m : EntryMap) (le
 
   among : ranked (filter pair offers) ≡ inserted o (ranked others)
   among = ranked_among o (holds (λ x. IsPriced x.price) sound.priced) (other o) (filter pair offers)
-      (All-filter pair (IsDistinctFrom o (other o)) offers described_all) (apart_filter pair offers sound.apart) is_among
+      (All-filter pair (IsDistinctFrom o (other o)) offers described_all)
+      (apart_filter pair offers sound.apart) is_among
 
   module _ (n : EntryMap) (keyed : IsKeyed n) (gone : IsGone (offer_key o) m n) where
     others_are : ranked others ≡ book n selling buying

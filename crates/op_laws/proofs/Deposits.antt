@@ -4,13 +4,14 @@ use prelude.{◌≡◌, inl, inr, refl, sym, ap, subst, ◌∙◌, ℕ, ◌*◌,
 use prelude.{Option, Some, None, Ok, arith, ints, one-le-mul, ℤ, pos, neg_ℤ, ◌+ℤ◌, ◌-ℤ◌, ◌≤ℤ◌, ◌<ℤ◌, int_le, int_lt}
 use prelude.{unsigned_abs, AccountId, Hash, Asset, TrustLineEntry, LiquidityPoolEntry, LedgerKey, OperationResult}
 use prelude.{EntryMap, HasAccount, line_liabilities, line_at, pool_at, first_fault, total, greatest_i64, line_room}
-use prelude.{unlimited, Ctx, IsFilledOrEmpty, Increase, both_more, view, nothing_owed, of_asset, held_of, holder}
-use prelude.{leaves_as, IsLegalLine, line_legal, first_passed, is_short_of, has_at, most_given, CanPay, CanShare}
-use prelude.{IsLegalPool, pool_legal, first_used, second_used, Done, OfAccount, OfPool, Move, is_price_bad, is_above}
-use prelude.{deposit_tests, is_unusable, do_shares_pass, deposit_by, is_price_outside, is_price_wrong, does_pass}
-use prelude.{is_pool_full, given_tests, map_after_depositing, put_in, liquidity_pool_deposit, IsLawful, AreLawful}
-use prelude.{issued, IsUnderway, IsMoved, unless_issuer, shifts_as, went_on, went_after_some, add_natural_nonnegative}
-use prelude.{int_lt_false, natural_positive_from_unequal, positive_from_int_le, unsigned_abs_positive, or_parts}
+use prelude.{unlimited, Ctx, Increase, both_more, view, nothing_owed, of_asset, held_of, holder, leaves_as, IsLegalLine}
+use prelude.{line_legal, first_passed, is_short_of, has_at, most_given, CanPay, CanShare, IsLegalPool, pool_legal}
+use prelude.{first_used, second_used, Done, OfAccount, OfPool, Move, is_price_bad, is_above, deposit_tests, is_unusable}
+use prelude.{do_shares_pass, deposit_by, is_price_outside, is_price_wrong, does_pass, is_pool_full, given_tests}
+use prelude.{map_after_depositing, put_in, liquidity_pool_deposit, IsLawful, AreLawful, issued, IsUnderway, IsMoved}
+use prelude.{unless_issuer, shifts_as, went_on, went_after_some, add_natural_nonnegative, int_lt_false}
+use prelude.{natural_positive_from_unequal, positive_from_int_le, unsigned_abs_positive, or_parts}
+use Rattle.op_flags.specs.legal_rules.Bounds.{IsFilledOrEmpty}
 use Rattle.std.specs.Prelude.{nat_eq}
 use Rattle.op_flags.specs.ledger_types.declared.asset.Asset.TheVariants as asset
 use Rattle.op_flags.specs.ledger_types.declared.asset.TrustLineAsset.TheVariants as line
@@ -27,7 +28,8 @@ use Rattle.op_laws.proofs.Issued.{issued_after}
 use Rattle.op_laws.proofs.Lawful.{lawful_with}
 use Rattle.op_laws.proofs.PoolPayments.{holder_exists, gives_so, shift_of, more_of, pool_before, account_before}
 use Rattle.op_laws.proofs.PoolPayments.{both_given}
-use Rattle.op_laws.proofs.Described.{Describes, more_for, account_location, pool_location, moved, move_describes, describes_both}
+use Rattle.op_laws.proofs.Described.{Describes, more_for, account_location, pool_location, moved, move_describes}
+use Rattle.op_laws.proofs.Described.{describes_both}
 
 -- ---- tests that let a deposit through
 
@@ -218,16 +220,20 @@ module _ (ctx : Ctx) (op : LiquidityPoolDepositOp) (m : EntryMap) (done : Done) 
       let pass_shares = does_pass p.total_pool_shares d.shares in
       let none_a = nat_eq d.a 0 in
       let none_b = nat_eq d.b 0 in
-      let tests = no_fault_tests_false (is_unusable m gives_a || is_unusable m gives_b) (do_shares_pass op p) (short_a || short_b)
+      let tests = no_fault_tests_false (is_unusable m gives_a || is_unusable m gives_b) (do_shares_pass op p)
+      (short_a || short_b)
       (is_price_wrong op d.a d.b) (int_lt (line_room t) (pos d.shares)) (is_pool_full p d)
       (answer depositing.NotAuthorized) (answer depositing.PoolFull) (answer depositing.Underfunded)
       (answer depositing.BadPrice) (answer depositing.LineFull) (answer depositing.PoolFull) tested.0 in
       let enough = or_parts short_a short_b tests.0 in
       let priced = or_parts none_a none_b (or_parts (none_a || none_b) (is_price_outside op d.a d.b) tests.1).0 in
       let fits = or_parts pass_a pass_b (or_parts (pass_a || pass_b) pass_shares tests.3).0 in
-      let fits_a = deposit_within_unlimited p.reserve_a d.a (int_lt_false greatest_i64 (p.reserve_a +ℤ pos d.a) fits.0) was.range.reserve_a in
-      let fits_b = deposit_within_unlimited p.reserve_b d.b (int_lt_false greatest_i64 (p.reserve_b +ℤ pos d.b) fits.1) was.range.reserve_b in
-      let can = can_put ctx op t p d its was (natural_positive_from_unequal d.a priced.0) (natural_positive_from_unequal d.b priced.1)
+      let fits_a = deposit_within_unlimited p.reserve_a d.a
+      (int_lt_false greatest_i64 (p.reserve_a +ℤ pos d.a) fits.0) was.range.reserve_a in
+      let fits_b = deposit_within_unlimited p.reserve_b d.b
+      (int_lt_false greatest_i64 (p.reserve_b +ℤ pos d.b) fits.1) was.range.reserve_b in
+      let can = can_put ctx op t p d its was (natural_positive_from_unequal d.a priced.0)
+      (natural_positive_from_unequal d.b priced.1)
       (λ none. first_shares (unsigned_abs p.reserve_a) (unsigned_abs p.reserve_b) (unsigned_abs p.total_pool_shares)
       (unsigned_abs op.max_amount_a) (unsigned_abs op.max_amount_b) none some_a some_b)
       (int_lt_false (line_room t) (pos d.shares) tests.2) in
@@ -263,5 +269,6 @@ liquidity_pool_deposit_is_lawful ctx op m done under source is =
     let some = or_parts none_a none_b least.0 in
     put_in_lawful ctx op m done under source
     (unsigned_abs_positive op.max_amount_a (positive_from_int_le op.max_amount_a some.0))
-    (unsigned_abs_positive op.max_amount_b (positive_from_int_le op.max_amount_b some.1)) line_found.0 pool_found.0 line_found.1
+    (unsigned_abs_positive op.max_amount_b (positive_from_int_le op.max_amount_b some.1)) line_found.0 pool_found.0
+    line_found.1
     pool_found.1 pool_found.2

@@ -27,7 +27,8 @@ pub described_at : (more : Increase) (old new : EntryMap) → HoldsMore more old
 described_at more old new holds x None = refl
 described_at more old new holds x (Some k) = holds k x
 
-pub described_by : (more : Increase) (old new : EntryMap) (moves : List Move) → HoldsMore more old new → Describes more moves
+pub described_by : (more : Increase) (old new : EntryMap) (moves : List Move) → HoldsMore more old new
+    → Describes more moves
     → AreDescribed old new moves
 described_by more old new moves holds describes x holder other =
     described_at more old new holds x (location_of x holder)

@@ -1,9 +1,10 @@
 -- Crossing meets the offers of the book as it was ranked at first.
 use Rattle.op_laws.proofs.Prelude.{◌≡◌, refl, sym, ap, ◌∙◌, ℕ, zero, suc, Bool, true, false, List, Option, Some, None}
-use Rattle.op_laws.proofs.Prelude.{if◌then◌else◌, OfferEntry, EntryMap, is_same_account, book, best, Trade, IsCrossable}
-use Rattle.op_laws.proofs.Prelude.{Left, step, is_too_dear, is_used_up, turn_at, turn, Crossing, ended, at_limit}
-use Rattle.op_laws.proofs.Prelude.{joined, left_after, crossed, atom_of, kept_by, best_exists, step_legal, ◌+ℤ◌}
-use Rattle.op_laws.proofs.Prelude.{turn_over, after_head, crossed_over, CrossingFollowsBook}
+use Rattle.op_laws.proofs.Prelude.{if◌then◌else◌, OfferEntry, EntryMap, is_same_account, book, best, Trade, Left, step}
+use Rattle.op_laws.proofs.Prelude.{is_too_dear, is_used_up, turn_at, turn, Crossing, ended, at_limit, joined}
+use Rattle.op_laws.proofs.Prelude.{left_after, crossed, atom_of, kept_by, best_exists, step_legal, ◌+ℤ◌, turn_over}
+use Rattle.op_laws.proofs.Prelude.{after_head, crossed_over, CrossingFollowsBook}
+use Rattle.op_flags.specs.trade_cross.Crossable.{IsCrossable}
 use Rattle.op_flags.specs.trade_cross.declared.crossed.CrossEnd.TheVariants.{Converted, BadPrice, CrossSelf}
 use Rattle.op_flags.specs.trade_cross.declared.turn.Turn.{Turn}
 use Rattle.op_flags.specs.trade_cross.declared.turn.Turn.TheVariants.{Ends, Meets}

@@ -1,10 +1,11 @@
 -- Hops of a path, and paths, carry an amount from one asset to another.
 use Rattle.op_laws.proofs.Prelude.{◌≡◌, refl, sym, ap, subst, ◌∙◌, ℕ, Bool, true, false, List, [], ◌∷◌, ◌++◌, Ok, Err}
 use Rattle.op_laws.proofs.Prelude.{Result, eqb-true, if◌then◌else◌, Asset, ClaimAtom, EntryMap, Ctx, view, nothing_owed}
-use Rattle.op_laws.proofs.Prelude.{AreEntriesLegal, held, total, entries_legal, Trade, Crossing, hop, is_served}
-use Rattle.op_laws.proofs.Prelude.{IsHopTrade, IsHopped, hop_keeps, PathFault, Carried, and_then, by_end, hopped}
-use Rattle.op_laws.proofs.Prelude.{after_hop, receiving, sending, needed_before, carried_on, is_same_asset}
-use Rattle.op_laws.proofs.Prelude.{received_hop, sent_hop, received, sent, same_assets}
+use Rattle.op_laws.proofs.Prelude.{AreEntriesLegal, held, total, entries_legal, Trade, Crossing, IsHopTrade, IsHopped}
+use Rattle.op_laws.proofs.Prelude.{hop_keeps, PathFault, Carried, and_then, by_end, hopped, after_hop, receiving}
+use Rattle.op_laws.proofs.Prelude.{sending, needed_before, carried_on, is_same_asset, received_hop, sent_hop, received}
+use Rattle.op_laws.proofs.Prelude.{sent, same_assets}
+use Rattle.op_flags.specs.trade_cross.Hop.{hop, is_served}
 use Rattle.op_flags.proofs.legal_rules_proofs.MayOwe.{nothing_right}
 use Rattle.op_flags.specs.ledger_types.declared.asset.Asset.TheVariants as asset
 use Rattle.op_flags.specs.trade_cross.declared.crossed.CrossEnd.{CrossEnd}

@@ -105,12 +105,14 @@ module _ (o : OfferEntry) (priced : IsPriced o.price) (other : OfferEntry → Bo
 
   passes_by : (x : OfferEntry) → IsDistinguished x → o.offer_id ≢ x.offer_id → (t : Bool) → other x ≡ t → t ≡ true
   passes_by x described apart true is = refl
-  passes_by x described apart false is = absurd (apart (ap (λ (y : OfferEntry). y.offer_id) (sym (described.itself is))))
+  passes_by x described apart false is =
+      absurd (apart (ap (λ (y : OfferEntry). y.offer_id) (sym (described.itself is))))
 
   all_passing : (os : List OfferEntry) → All IsDistinguished os → All (λ x. o.offer_id ≢ x.offer_id) os → All Passes os
   all_passing [] described apart = All-nil Passes
   all_passing (x ∷ os) described apart = All-cons Passes x os
-      (passes_by x (All-head IsDistinguished x os described) (All-head (λ y. o.offer_id ≢ y.offer_id) x os apart) (other x) refl)
+      (passes_by x (All-head IsDistinguished x os described) (All-head (λ y. o.offer_id ≢ y.offer_id) x os apart)
+      (other x) refl)
       (all_passing os (All-tail IsDistinguished x os described) (All-tail (λ y. o.offer_id ≢ y.offer_id) x os apart))
 
   orderly : (x : OfferEntry) → IsDistinguished x → (c : OfferEntry) → IsDistinguished c → IsOrderly x o c
@@ -149,9 +151,11 @@ module _ (o : OfferEntry) (priced : IsPriced o.price) (other : OfferEntry → Bo
           ⊎ (inserted x (ranked os) ≡ inserted o (ranked (cond t (x ∷ filter other os) (filter other os))))
       by_test true is (inl all) = inl (All-cons Passes x os is all)
       by_test true is (inr same) =
-          inr (after_other x os (All-head IsDistinguished x os described) (All-tail IsDistinguished x os described) is same)
+          inr (after_other x os (All-head IsDistinguished x os described)
+          (All-tail IsDistinguished x os described) is same)
       by_test false is later =
-          inr (after_itself x os (All-head IsDistinguished x os described) (All-tail IsDistinguished x os described) is apart.0)
+          inr (after_itself x os (All-head IsDistinguished x os described)
+          (All-tail IsDistinguished x os described) is apart.0)
 
   -- an offer that is among others is placed among them
   pub ranked_among : (os : List OfferEntry) → All IsDistinguished os → AreApart os → (All Passes os → ⊥)

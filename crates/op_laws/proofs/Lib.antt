@@ -57,4 +57,4 @@ pub use Rattle.op_pool.proofs.pool_math_proofs
 pub use Rattle.op_flags.proofs.pool_shares_proofs
 pub use Rattle.op_flags.proofs.sponsor_laws_proofs
 pub use Rattle.op_flags.proofs.trade_cross_proofs
-pub mod Prelude
+mod Prelude

@@ -96,7 +96,8 @@ module _ (ctx : Ctx) (m : EntryMap) (under : IsUnderway ctx m) (exists : HasAcco
         fits = tt;
         filled = tt;
       }) exists (sponsors_ready ctx m src under.sponsorships) done)
-      (λ kind k. zeros_add_to_zero (pos 0) _ refl (data_settled v entry (record { account_id = src; data_name = name; data_value = value })
+      (λ kind k. zeros_add_to_zero (pos 0) _ refl
+      (data_settled v entry (record { account_id = src; data_name = name; data_value = value })
       kind k)) (add_zero sum)
 
   added_lawful : (value : List ℕ) (done : Done) → data_at m src name ≡ None → added ctx name value m ≡ Ok done

@@ -3,10 +3,11 @@ use Rattle.op_laws.proofs.Prelude as prelude
 use prelude.{◌≡◌, refl, sym, ap, subst, ◌∙◌, ℕ, ◌≤◌, Bool, true, false, [], Option, Some, None, Result, Ok, Err, arith}
 use prelude.{ℤ, pos, if◌then◌else◌, get, int_eq, AccountId, OfferEntry, LedgerEntry, LedgerEntryBody, key_of_body}
 use prelude.{EntryMap, HasAccount, total, Ctx, map_after_counting_subentry, view, IsSponsorReady, held, holder}
-use prelude.{sponsors_ready, map_after_cancelling, offer_key, Done, OfAccount, Effect, Made, Changed, Managed, Removed}
-use prelude.{drawn, of_sold, unless_some, unless_lines, sell_fault, buy_fault, with_reserve, new_asked, made, old_asked}
-use prelude.{changed, managed_old, managed_at, moves_of, Answer, answer_of, success_answer, effect_of}
-use prelude.{attempt_of_managed, attempt_of, Asked, Sold, sold, map_without_offer, IsLawful, AreLawful, IsUnderway}
+use prelude.{sponsors_ready, offer_key, Done, OfAccount, Effect, Made, Changed, Managed, Removed, drawn, of_sold}
+use prelude.{unless_some, unless_lines, sell_fault, buy_fault, with_reserve, new_asked, made, old_asked, changed}
+use prelude.{managed_old, managed_at, moves_of, Answer, answer_of, success_answer, effect_of, attempt_of_managed}
+use prelude.{attempt_of, Asked, Sold, sold, map_without_offer, IsLawful, AreLawful, IsUnderway}
+use Rattle.op_flags.specs.trade_cross.Cancelling.{map_after_cancelling}
 use Rattle.std.specs.Prelude.{◌+◌}
 use Rattle.op_flags.specs.ledger_types.declared.asset.Asset.TheVariants as asset
 use Rattle.op_flags.specs.ledger_types.declared.entry.LedgerEntryBody.TheVariants as body

@@ -82,7 +82,8 @@ AreEndsKept move = IsKept move.asset move.to × IsKept move.asset move.from
 
 -- what moves say of all holders but the transit
 abbrev pub DescribesOthers : Increase → List Move → Type 0
-DescribesOthers more moves = (x : Asset) (holder : Holder) → is_issuer x holder ≡ false → is_holder holder Transit ≡ false
+DescribesOthers more moves = (x : Asset) (holder : Holder) → is_issuer x holder ≡ false
+    → is_holder holder Transit ≡ false
     → more_at more x (location_of x holder) ≡ gained x holder moves
 
 none_of : (b : Bool) (n : ℤ) → (if b && false then n else pos 0) ≡ pos 0

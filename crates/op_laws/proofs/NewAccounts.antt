@@ -184,7 +184,8 @@ module _ (ctx : Ctx) (op : CreateAccountOp) (m : EntryMap) (keyed : IsKeyed m) (
       let had = payers_had ctx m x 2 None (Some x) test.0 in
       let first = charging_kept ctx.base_reserve 2 (Some x) m keyed had.0 in
       let covered = sponsored_covered ctx op low in
-      let still = nobody_at now op.destination (absent_after m x (with_more count.Sponsoring 2) existing.0 keyed existing.1
+      let still = nobody_at now op.destination
+      (absent_after m x (with_more count.Sponsoring 2) existing.0 keyed existing.1
       (pays_more 2 existing.0).core.id (key.Account op.destination) (absent_at m op.destination keyed none)) in
       let gone : account_at now b.account_id ≡ None = ap (account_at now) h.core.id ∙ still in
       subst (IsAdded ctx op m) test.1 (record {
@@ -288,7 +289,8 @@ module _ (ctx : Ctx) (op : CreateAccountOp) (m : EntryMap) (done : Done) (under 
       let sum = total (held asset.Native) m in
       let from = left.others src h.account apart h.exists in
       let was = from.was in
-      let range = (account_legal v ctx.id_pool nothing_owed sum m src was under.settled.legal from.existed).range.range in
+      let range = (account_legal v ctx.id_pool nothing_owed sum m src was under.settled.legal
+      from.existed).range.range in
       under_all amount (available h.account ctx.base_reserve) (available was ctx.base_reserve) was.balance
       (account_liabilities was).buying greatest_i64 h.enough from.less
       (not_above_balance v ctx.id_pool nothing_owed sum m src was ctx.base_reserve amount under.settled.legal

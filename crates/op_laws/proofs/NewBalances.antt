@@ -29,7 +29,8 @@ time_low : (t : ℕ) (s : ℤ) → int_le (pos 0) s ≡ true → int_le (pos 0) 
 time_low t s h =
     let low : pos 0 ≤ℤ s = grind (arith, ints) in
     let after : pos 0 ≤ℤ time_after t s =
-    not_negative (pos t +ℤ s) greatest_i64 (natural_add_nonnegative t s low) (omega (arith, ints)) (int_lt (pos t +ℤ s) greatest_i64) in
+    not_negative (pos t +ℤ s) greatest_i64 (natural_add_nonnegative t s low) (omega (arith, ints))
+    (int_lt (pos t +ℤ s) greatest_i64) in
     at_least (time_after t s) after
   where
     at_least : (n : ℤ) → pos 0 ≤ℤ n → int_le (pos 0) n ≡ true

@@ -4,11 +4,13 @@ use prelude.{◌≡◌, ◌≢◌, refl, sym, ap, subst, ◌∙◌, ℕ, zero, s
 use prelude.{eq_by_cmp, unsigned_abs, AccountId, Asset, AccountEntry, OfferEntry, LedgerEntry, key_cmp, EntryMap, put}
 use prelude.{account_at, with_account, sponsor_of, offer_of, offer_at, with_offer, Rounding, Amounts, Bounds, exchanged}
 use prelude.{wheat_stays, with_less, map_after_releasing, without_subentry, map_after_removing}
-use prelude.{map_after_removing_entry, acquiring, releasing, binding, View, IsKeyed, bound_of, IsOwedRightly, Owed}
-use prelude.{IsLegalOwing, holder, releasing_kept, no_account_changed, keyed_put, offer_entry, with_offer_body}
-use prelude.{with_offer_is, IsOfferEntry, kept_elsewhere, pays_less, no_subentry_core, Left, seller_gives_at}
-use prelude.{seller_takes_at, map_after_trade, offer_key, meeting, amount_at, with_amount, map_after_rest, step_by}
-use prelude.{step, giving_change, taking_change, erase_get, put_get}
+use prelude.{map_after_removing_entry, View, IsKeyed, IsOwedRightly, Owed, IsLegalOwing, holder, releasing_kept}
+use prelude.{no_account_changed, keyed_put, offer_entry, with_offer_body, with_offer_is, IsOfferEntry, kept_elsewhere}
+use prelude.{pays_less, no_subentry_core, Left, seller_gives_at, seller_takes_at, map_after_trade, offer_key, meeting}
+use prelude.{amount_at, with_amount, map_after_rest, step_by, step, erase_get, put_get}
+use Rattle.op_flags.specs.legal_rules.Binding.{acquiring, releasing, binding}
+use Rattle.op_flags.specs.legal_rules.OfferLiabilities.{bound_of}
+use Rattle.op_flags.specs.trade_cross.Plans.{giving_change, taking_change}
 use Rattle.std.proofs.Common.{ℤ, pos}
 use Rattle.op_flags.specs.ledger_types.declared.key.LedgerKey.TheVariants as key
 use Rattle.op_flags.specs.sponsor_rules.declared.count.Count.TheVariants as count

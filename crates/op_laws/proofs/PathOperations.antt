@@ -58,7 +58,8 @@ module _ (ctx : Ctx) (op : PathPaymentStrictReceiveOp) (m : EntryMap) (done : Do
       → receive.done ctx op carried new ≡ Ok done → IsLawful ctx m done
   received_done taken took carried along new gave is =
       let all = unsigned_abs_nonnegative op.dest_amount amount in
-      let one = amount_taken ctx ctx.id_pool m under.settled.legal got_by (pos needed) (natural_nonnegative needed) taken op.dest_asset
+      let one = amount_taken ctx ctx.id_pool m under.settled.legal got_by (pos needed)
+      (natural_nonnegative needed) taken op.dest_asset
       (subst (λ n. map_after_credit got_by op.dest_asset n m ≡ Ok taken) (sym all) took) in
       let legal = shifted_after ctx m under none_more (λ x. unless_issuer x op.dest_asset got_by (pos needed)) taken
       one.shifts in
@@ -123,7 +124,8 @@ module _ (ctx : Ctx) (op : PathPaymentStrictSendOp) (m : EntryMap) (done : Done)
       → send.done ctx op carried new ≡ Ok done → IsLawful ctx m done
   sent_done given gave carried along new took is =
       let all = unsigned_abs_nonnegative op.send_amount amount in
-      let one = amount_given ctx ctx.id_pool m under.settled.legal ctx.op_source (pos all_sent) (natural_nonnegative all_sent) given
+      let one = amount_given ctx ctx.id_pool m under.settled.legal ctx.op_source (pos all_sent)
+      (natural_nonnegative all_sent) given
       op.send_asset
       (subst (λ n. map_after_debit ctx ctx.op_source op.send_asset n m ≡ Ok given) (sym all) gave) in
       let legal = shifted_after ctx m under none_more

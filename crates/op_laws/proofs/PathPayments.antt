@@ -29,7 +29,8 @@ atoms_kept (atom.OrderBook seller id sold n bought k ∷ atoms) =
     trade_kept (OfAccount seller) sold bought n k (moves_of Transit atoms) (account_location sold seller)
     (account_location bought seller) (atoms_kept atoms)
 atoms_kept (atom.LiquidityPool pool sold n bought k ∷ atoms) =
-    trade_kept (OfPool pool) sold bought n k (moves_of Transit atoms) (pool_location sold pool) (pool_location bought pool)
+    trade_kept (OfPool pool) sold bought n k (moves_of Transit atoms) (pool_location sold pool)
+    (pool_location bought pool)
     (atoms_kept atoms)
 atoms_kept (atom.V0 seller id sold n bought k ∷ atoms) = atoms_kept atoms
 

@@ -65,7 +65,8 @@ module _ (v : View) (id_pool base : ℕ) (sum : ℤ) (m : EntryMap) (legal : IsL
       let has = reaches (available there.0 base) n (int_lt_false (available there.0 base) (pos n)
       (sym (ap (λ o. is_short_of (pos n) (account_has base o)) there.1) ∙ enough)) in
       let le = subst (λ o. n ≤ account_gives base o) (sym there.1) has in (
-        can_give v id_pool base nothing_owed sum m legal n (λ k. natural_nonnegative 0) (Some (key.Account id)) there le,
+        can_give v id_pool base nothing_owed sum m legal n (λ k. natural_nonnegative 0)
+            (Some (key.Account id)) there le,
         le,
       )
   gives_so (Some (key.TrustLine id x)) there few enough =

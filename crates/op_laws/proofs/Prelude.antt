@@ -1,49 +1,24 @@
 -- Names that several proofs of this crate use.
-use Rattle.op_flags.proofs.trade_cross_proofs.Prelude as lower
-pub use lower.{All, All-cons, All-filter, All-head, All-nil, All-tail, All-weaker, Amounts, AreApart, AreOffersSound}
-pub use lower.{AreTraded, Bool, Bounds, Crossing, EntryMap, HoldsMore, Increase, IsBodyInRange, IsCrossable}
-pub use lower.{IsEntryLegal, IsFilledOrEmpty, IsKeyed, IsLegalOwing, IsLineInRange, IsOfTrade, IsOfferEntry}
-pub use lower.{IsOwedRightly, IsPoolInRange, IsPriced, Kind, Leaves, Left, List, None, Option, Owed, ShareLines, Shares}
-pub use lower.{Some, Sponsored, Sponsoring, Step, Subentries, View, [], account_after, account_elsewhere, account_gives}
-pub use lower.{account_in, account_kept, account_legal, account_liabilities, accounts_kept, acquiring, add_assoc}
-pub use lower.{add_natural_nonnegative, add_neg_zero, add_nonnegative, add_two_zeros, add_zero, add_zero_at_most}
-pub use lower.{amount_at, and_parts, ap, apart_accounts, arith, asset_cmp, at_least_nothing, at_limit}
-pub use lower.{at_most_add_natural, at_most_rest, at_most_trans, atom_of, available, beside_reserves, binding}
-pub use lower.{both_more, bought_in, bound_of, cond, cons_option, discharged_kept, ended, entries, entries_sorted}
-pub use lower.{eq_by_cmp, eqb-true, erase, erase_beside, erase_get, erase_there, erased_kept, false, filter}
-pub use lower.{filter_passes, fits_after_no_natural, fits_after_sub_natural, fits_within_room, get, get-entries}
-pub use lower.{giving_change, greatest_i64, head, held_in, held_of, holder, if◌then◌else◌, in_shares, inl, inr, int_cmp}
-pub use lower.{ints, is_eq, is_key, is_of_pair, is_same_account, is_served, is_too_dear, is_used_up, joined, keeps_both}
-pub use lower.{kept_at, kept_by, kept_elsewhere, kept_in, key_cmp, key_of, key_of_body, keyed_put, keys_exact}
-pub use lower.{keys_total, leaves_as, leaves_both, leaves_itself, left_after, legal_as, length, line_available}
-pub use lower.{line_changed, line_entry, line_gives, line_in, line_kept, line_legal, line_liabilities, line_of}
-pub use lower.{line_paid, line_room, line_takes, map_after_cancelling, map_after_discounting, map_after_releasing}
-pub use lower.{map_after_removing, map_after_removing_entry, map_after_rest, map_after_trade, meeting, more_at, more_in}
-pub use lower.{most_given, most_taken, natural_nonnegative, neg_ℤ, no_account_changed, no_subentry_core, none_more}
-pub use lower.{not_above_balance, nothing_owed, of_asset, of_line, offer_entry, offer_in, offer_key, offer_of}
-pub use lower.{offers_in, offers_of, part, paying, pays_less, plus, pool_in, pool_of, pos, put, put_beside}
-pub use lower.{put_elsewhere, put_holds, put_same, put_there, ranked, refl, releasing, releasing_kept, same_account}
-pub use lower.{same_assets, same_itself, same_keys, seller_gives_at, seller_takes_at, sold_in, sponsor_of, step_by}
-pub use lower.{still_holds, subst, suc, suc_minus_one, sym, taking_change, true, turn_at, under_key, unlimited}
-pub use lower.{unsigned_abs, unsigned_abs_positive, weighed, with_amount, with_less, with_line_body, with_line_is}
-pub use lower.{with_offer_body, with_offer_is, without_subentry, zero, ℕ, ℤ, ◌%◌, ◌&&◌, ◌*ℤ◌, ◌++◌, ◌+ℤ◌, ◌+◌, ◌-ℤ◌}
-pub use lower.{◌-◌, ◌<ℤ◌, ◌<◌, ◌∙◌, ◌∷◌, ◌≡◌, ◌≢◌, ◌≤ℤ◌, ◌≤◌, ◌⊎◌}
-unfoldable pub use lower.{account_at, best, book, book_in, crossed, exchanged, hop, line_at, offer_at, pool_at, step}
-unfoldable pub use lower.{total, turn, wheat_stays, with_account, with_line, with_offer}
-pub use Rattle.std.proofs.Common.{Err, Ok, Result, bit_and, bit_or, bit_xor, drop, get_or, insert, is_some, map, nat_eq}
-pub use Rattle.std.proofs.Common.{nat_le, nat_lt, not, slice_set, take, ◌*◌, ◌^◌, ◌||◌}
+pub use Rattle.std.proofs.Common.{All, Bool, Err, List, None, Ok, Option, Result, Some, [], ap, arith, bit_and, bit_or}
+pub use Rattle.std.proofs.Common.{bit_xor, cond, drop, false, get_or, inl, inr, insert, is_some, length, map, nat_eq}
+pub use Rattle.std.proofs.Common.{nat_le, nat_lt, not, refl, slice_set, subst, suc, sym, take, true, zero, ℕ, ◌%◌, ◌&&◌}
+pub use Rattle.std.proofs.Common.{◌*◌, ◌++◌, ◌+◌, ◌-◌, ◌<◌, ◌^◌, ◌||◌, ◌∙◌, ◌∷◌, ◌≡◌, ◌≢◌, ◌≤◌, ◌⊎◌}
 pub use Rattle.std.proofs.Math.Nat.{mul-lt-mul_of_pos_right, mul_right_comm, one-le-mul}
-pub use Rattle.std.proofs.lemmas.Bool.{cases_eq, cases_lt, not-false, or_parts}
+pub use Rattle.std.proofs.lemmas.Bool.{and_parts, cases_eq, cases_lt, eqb-true, not-false, or_parts}
+pub use Rattle.std.proofs.lemmas.Int.{ints}
 pub use Rattle.std.proofs.lemmas.List.{get_or-set_other, get_or-set_same, length-map, length-set}
-pub use Rattle.std.proofs.lemmas.List.Elements.{All-append, All-drop, All-push, All-set, All-take}
+pub use Rattle.std.proofs.lemmas.List.Elements.{All-append, All-cons, All-drop, All-filter, All-head, All-nil, All-push}
+pub use Rattle.std.proofs.lemmas.List.Elements.{All-set, All-tail, All-take, All-weaker, filter_passes}
 pub use Rattle.std.proofs.lemmas.List.Quantifiers.{all_pairs_push, all_pairs_remove, position-Some}
 pub use Rattle.std.proofs.lemmas.List.Sums.{fails_before_first, position_or_len_is}
 pub use Rattle.std.proofs.lemmas.Slice.Eq.{bytes_eq-Decides}
 pub use Rattle.std.specs.Cmp.{Equal-is, IsTotalOrder, nat_cmp_is}
-pub use Rattle.std.specs.FinMap.{int_cmp-IsAntisymmetric}
-pub use Rattle.std.specs.List.{AllPairs, find, list_any, position_or_len, remove}
-pub use Rattle.std.specs.Ordering.{MatchOrdering, int_eq, is_lt, nat_cmp, ordering_reverse, ordering_then, then_cmp}
-pub use Rattle.std.specs.Prelude.{int_le, int_lt, unwrap_or}
+pub use Rattle.std.specs.FinMap.{entries, entries_sorted, get, get-entries, int_cmp-IsAntisymmetric}
+pub use Rattle.std.specs.List.{AllPairs, cons_option, filter, find, list_any, position_or_len, remove}
+pub use Rattle.std.specs.Ordering.{MatchOrdering, eq_by_cmp, int_cmp, int_eq, is_eq, is_lt, nat_cmp, ordering_reverse}
+pub use Rattle.std.specs.Ordering.{ordering_then, then_cmp}
+pub use Rattle.std.specs.Prelude.{if◌then◌else◌, int_le, int_lt, neg_ℤ, pos, unsigned_abs, unwrap_or, ℤ, ◌*ℤ◌, ◌+ℤ◌}
+pub use Rattle.std.specs.Prelude.{◌-ℤ◌, ◌<ℤ◌, ◌≤ℤ◌}
 pub use Rattle.std.specs.declared.cmp.Ordering.{Ordering}
 pub use Rattle.std.specs.declared.cmp.Ordering.TheVariants.{Equal, Greater, Less}
 pub use Rattle.op_account.specs.AccountMerge.{account_merge, map_without_account, merge_of, taken_and_removed}
@@ -53,43 +28,59 @@ pub use Rattle.op_account.specs.CreateAccount.{added_and_paid, create_account, n
 pub use Rattle.op_claim.specs.Predicates.{fixed_claimant, fixed_level, time_after}
 unfoldable pub use Rattle.op_claim.specs.Predicates.{fixed_below}
 pub use Rattle.op_flags.proofs.Went.{went_after, went_after_charge, went_after_some, went_after_step, went_on}
-pub use Rattle.op_flags.proofs.entry_map_proofs.Lookups.{put_get}
+pub use Rattle.op_flags.proofs.entry_map_proofs.KeyMaps.{same_itself}
+pub use Rattle.op_flags.proofs.entry_map_proofs.Lookups.{erase_get, erase_there, put_elsewhere, put_get, put_there}
 pub use Rattle.op_flags.proofs.entry_map_proofs.Ranked.{all_ranked, apart_filter}
-pub use Rattle.op_flags.proofs.ledger_types_proofs.Arithmetic.{add_neg_self, add_sub_self, if_add, if_zero}
-pub use Rattle.op_flags.proofs.ledger_types_proofs.Arithmetic.{int_cmp_not_less, int_eq_true, int_lt_false}
-pub use Rattle.op_flags.proofs.ledger_types_proofs.Arithmetic.{natural_add_nonnegative, natural_positive_from_unequal}
+pub use Rattle.op_flags.proofs.ledger_types_proofs.Arithmetic.{add_assoc, add_natural_nonnegative, add_neg_self}
+pub use Rattle.op_flags.proofs.ledger_types_proofs.Arithmetic.{add_neg_zero, add_nonnegative, add_sub_self}
+pub use Rattle.op_flags.proofs.ledger_types_proofs.Arithmetic.{add_two_zeros, add_zero, add_zero_at_most}
+pub use Rattle.op_flags.proofs.ledger_types_proofs.Arithmetic.{at_most_add_natural, at_most_rest, at_most_trans}
+pub use Rattle.op_flags.proofs.ledger_types_proofs.Arithmetic.{fits_after_no_natural, fits_after_sub_natural}
+pub use Rattle.op_flags.proofs.ledger_types_proofs.Arithmetic.{fits_within_room, if_add, if_zero, int_cmp_not_less}
+pub use Rattle.op_flags.proofs.ledger_types_proofs.Arithmetic.{int_eq_true, int_lt_false, natural_add_nonnegative}
+pub use Rattle.op_flags.proofs.ledger_types_proofs.Arithmetic.{natural_nonnegative, natural_positive_from_unequal}
 pub use Rattle.op_flags.proofs.ledger_types_proofs.Arithmetic.{nonnegative_from_int_le, nonnegative_from_positive}
-pub use Rattle.op_flags.proofs.ledger_types_proofs.Arithmetic.{positive_from_int_le, sub_self, unsigned_abs_nonnegative}
+pub use Rattle.op_flags.proofs.ledger_types_proofs.Arithmetic.{positive_from_int_le, sub_self, suc_minus_one}
+pub use Rattle.op_flags.proofs.ledger_types_proofs.Arithmetic.{unsigned_abs_nonnegative, unsigned_abs_positive}
 pub use Rattle.op_flags.proofs.ledger_types_proofs.Arithmetic.{zero_add, zero_from_own_double, zero_sub_if_zero}
 pub use Rattle.op_flags.proofs.ledger_types_proofs.Arithmetic.{zero_sub_zero, zeros_add_to_zero}
 pub use Rattle.op_flags.proofs.ledger_types_proofs.Booleans.{is_lt_true_Less, then_not_Equal}
+pub use Rattle.op_flags.proofs.ledger_types_proofs.KeyOrdering.{keys_exact, keys_total, same_assets, same_keys}
 pub use Rattle.op_flags.proofs.ledger_types_proofs.KeyOrdering.{signer_keys_exact, signer_keys_total}
-pub use Rattle.op_flags.proofs.legal_rules_proofs.Changed.{account_changed}
+pub use Rattle.op_flags.proofs.legal_rules_proofs.Bounded.{account_legal}
+pub use Rattle.op_flags.proofs.legal_rules_proofs.Changed.{account_changed, line_changed}
 pub use Rattle.op_flags.proofs.legal_rules_proofs.ChargesLeft.{IsChargedFrom, charged_at, charged_kept, charging_kept}
-pub use Rattle.op_flags.proofs.legal_rules_proofs.ChargesLeft.{charging_left, erased_left, exchange_kept}
-pub use Rattle.op_flags.proofs.legal_rules_proofs.ChargesLeft.{exchanged_kept, moved_between, next_payer, payers_had}
-pub use Rattle.op_flags.proofs.legal_rules_proofs.ChargesLeft.{released_at, sponsor_kept, subentry_kept}
-pub use Rattle.op_flags.proofs.legal_rules_proofs.Covered.{account_states, sponsored_at_most}
+pub use Rattle.op_flags.proofs.legal_rules_proofs.ChargesLeft.{charging_left, discharged_kept, erase_beside}
+pub use Rattle.op_flags.proofs.legal_rules_proofs.ChargesLeft.{erased_kept, erased_left, exchange_kept, exchanged_kept}
+pub use Rattle.op_flags.proofs.legal_rules_proofs.ChargesLeft.{moved_between, next_payer, payers_had, put_beside}
+pub use Rattle.op_flags.proofs.legal_rules_proofs.ChargesLeft.{released_at, releasing_kept, sponsor_kept, subentry_kept}
+pub use Rattle.op_flags.proofs.legal_rules_proofs.Covered.{account_states, not_above_balance, sponsored_at_most}
 pub use Rattle.op_flags.proofs.legal_rules_proofs.Holdings.{account_same, cancelled, erase_holds, holds_as, holds_both}
-pub use Rattle.op_flags.proofs.legal_rules_proofs.Holdings.{holds_itself, lumens_there}
-pub use Rattle.op_flags.proofs.legal_rules_proofs.Indices.{absent_after}
+pub use Rattle.op_flags.proofs.legal_rules_proofs.Holdings.{holds_itself, lumens_there, put_holds, put_same}
+pub use Rattle.op_flags.proofs.legal_rules_proofs.Holdings.{still_holds}
+pub use Rattle.op_flags.proofs.legal_rules_proofs.Indices.{absent_after, account_after, account_elsewhere}
+pub use Rattle.op_flags.proofs.legal_rules_proofs.Indices.{kept_elsewhere}
 pub use Rattle.op_flags.proofs.legal_rules_proofs.Kept.{account_added_so, balance_added_so, balance_removed_so}
 pub use Rattle.op_flags.proofs.legal_rules_proofs.Kept.{data_settled, entry_moved_so, subentry_added_so}
-pub use Rattle.op_flags.proofs.legal_rules_proofs.Leaving.{IsNext, is_itself_after, keeps_then}
+pub use Rattle.op_flags.proofs.legal_rules_proofs.Leaving.{IsNext, Leaves, account_kept, accounts_kept, is_itself_after}
+pub use Rattle.op_flags.proofs.legal_rules_proofs.Leaving.{keeps_both, keeps_then, keyed_put, leaves_as, leaves_both}
+pub use Rattle.op_flags.proofs.legal_rules_proofs.Leaving.{leaves_itself, no_account_changed}
 pub use Rattle.op_flags.proofs.legal_rules_proofs.LegalConsequences.{sponsors_ready}
 pub use Rattle.op_flags.proofs.legal_rules_proofs.Legality.{entries_legal, legal_of, owing_nothing_of, owing_of}
 pub use Rattle.op_flags.proofs.legal_rules_proofs.Legality.{view_of}
-pub use Rattle.op_flags.proofs.legal_rules_proofs.LinesLeft.{IsLegalLine, of_line_zero}
+pub use Rattle.op_flags.proofs.legal_rules_proofs.Liable.{line_entry, with_line_body, with_line_is}
+pub use Rattle.op_flags.proofs.legal_rules_proofs.LinesLeft.{IsLegalLine, line_kept, line_legal, of_line_zero}
+pub use Rattle.op_flags.proofs.legal_rules_proofs.OffersKept.{IsOfferEntry, offer_entry, with_offer_body, with_offer_is}
 pub use Rattle.op_flags.proofs.legal_rules_proofs.PaidFor.{nothing_settled}
 pub use Rattle.op_flags.proofs.legal_rules_proofs.Passed.{first_passed, unless_first_ok}
 pub use Rattle.op_flags.proofs.legal_rules_proofs.Removing.{owns, subentry_removed}
-pub use Rattle.op_flags.proofs.legal_rules_proofs.ReservesLeft.{next_edited, paid_more, pays_more, reserves_of}
-pub use Rattle.op_flags.proofs.legal_rules_proofs.ReservesLeft.{subentry_charged}
+pub use Rattle.op_flags.proofs.legal_rules_proofs.ReservesLeft.{next_edited, no_subentry_core, paid_more, pays_less}
+pub use Rattle.op_flags.proofs.legal_rules_proofs.ReservesLeft.{pays_more, reserves_of, subentry_charged}
 pub use Rattle.op_flags.proofs.legal_rules_proofs.SignersKept.{counts_sponsoring, counts_subentry, paid_by_other}
 pub use Rattle.op_flags.proofs.legal_rules_proofs.SignersKept.{signer_added, signer_moved as signer_moved_so}
 pub use Rattle.op_flags.proofs.legal_rules_proofs.SignersKept.{signer_removed}
-pub use Rattle.op_flags.proofs.legal_rules_proofs.Steps.{account_entry, replace_legal, same_id_at, with_account_is}
-pub use Rattle.op_flags.proofs.legal_rules_proofs.Steps.{with_body}
+pub use Rattle.op_flags.proofs.legal_rules_proofs.Steps.{account_entry, legal_as, replace_legal, same_id_at}
+pub use Rattle.op_flags.proofs.legal_rules_proofs.Steps.{with_account_is, with_body}
 pub use Rattle.op_flags.proofs.legal_rules_proofs.Subentries.{subentry_of}
 pub use Rattle.op_flags.proofs.pool_shares_proofs.Counted.{counts_left, no_line_changed}
 pub use Rattle.op_flags.proofs.pool_shares_proofs.Gone.{IsLegalNow, gone_legal, when_nothing_owed}
@@ -97,7 +88,7 @@ pub use Rattle.op_flags.proofs.pool_shares_proofs.Sharing.{CanShare, both_of, sh
 pub use Rattle.op_flags.proofs.pool_shares_proofs.Sound.{IsLegalPool, entries_sound, first_used, line_exists_so}
 pub use Rattle.op_flags.proofs.pool_shares_proofs.Sound.{pool_legal, second_used, sound_of}
 pub use Rattle.op_flags.proofs.sponsor_laws_proofs.SignedAccounts.{index_within_signers}
-pub use Rattle.op_flags.proofs.sponsor_rules_proofs.Ids.{is_itself}
+pub use Rattle.op_flags.proofs.sponsor_rules_proofs.Ids.{apart_accounts, is_itself, same_account}
 pub use Rattle.op_flags.proofs.sponsor_rules_proofs.Keeping.{core_kept_twice, counts_edited, with_count_is}
 pub use Rattle.op_flags.proofs.sponsor_rules_proofs.Keeping.{with_count_keeps, with_sponsors_core}
 pub use Rattle.op_flags.proofs.trade_cross_proofs.Book.{IsInBook, best_exists}
@@ -108,17 +99,31 @@ pub use Rattle.op_flags.specs.RevokedShares.{Given, Revoked, all_revoked, given_
 pub use Rattle.op_flags.specs.RevokedShares.{payer_of_share, pools_revoked, revoked_id, share_revoked, share_revoked_by}
 pub use Rattle.op_flags.specs.RevokedShares.{share_revoked_of}
 unfoldable pub use Rattle.op_flags.specs.RevokedShares.{shares_revoked}
-pub use Rattle.op_flags.specs.entry_map.Book.{goes_before, inserted, price_cmp}
-pub use Rattle.op_flags.specs.entry_map.EntryMap.{IsKeyed as IsOwnKeyed}
-pub use Rattle.op_flags.specs.entry_slots.AccountExtensions.{num_sponsored, num_sponsoring, second_in, signer_sponsor}
-pub use Rattle.op_flags.specs.entry_slots.AccountExtensions.{sponsorship_in}
-pub use Rattle.op_flags.specs.entry_slots.Accounts.{HasAccount, account_of as account_in_entry}
+pub use Rattle.op_flags.specs.entry_map.Book.{AreApart, AreOffersSound, goes_before, head, inserted, is_of_pair}
+pub use Rattle.op_flags.specs.entry_map.Book.{offer_in, offers_in, offers_of, price_cmp, ranked}
+unfoldable pub use Rattle.op_flags.specs.entry_map.Book.{book_in}
+pub use Rattle.op_flags.specs.entry_map.EntryMap.{EntryMap, IsKeyed as IsOwnKeyed, erase, put}
+pub use Rattle.op_flags.specs.entry_slots.AccountExtensions.{account_liabilities, num_sponsored, num_sponsoring}
+pub use Rattle.op_flags.specs.entry_slots.AccountExtensions.{second_in, signer_sponsor, sponsorship_in}
+pub use Rattle.op_flags.specs.entry_slots.Accounts.{HasAccount, account_in, account_of as account_in_entry}
+unfoldable pub use Rattle.op_flags.specs.entry_slots.Accounts.{account_at, with_account}
 pub use Rattle.op_flags.specs.entry_slots.Balances.{balance_in, balance_of}
 unfoldable pub use Rattle.op_flags.specs.entry_slots.Balances.{balance_at}
-pub use Rattle.op_flags.specs.entry_slots.LineExtensions.{use_count}
+pub use Rattle.op_flags.specs.entry_slots.EntrySponsor.{sponsor_of}
+pub use Rattle.op_flags.specs.entry_slots.LineExtensions.{line_liabilities, use_count}
+pub use Rattle.op_flags.specs.entry_slots.Lines.{line_in, line_of}
+unfoldable pub use Rattle.op_flags.specs.entry_slots.Lines.{line_at, with_line}
+pub use Rattle.op_flags.specs.entry_slots.Offers.{offer_of}
+unfoldable pub use Rattle.op_flags.specs.entry_slots.Offers.{offer_at, with_offer}
+pub use Rattle.op_flags.specs.entry_slots.Pools.{pool_in, pool_of}
+unfoldable pub use Rattle.op_flags.specs.entry_slots.Pools.{pool_at}
 pub use Rattle.op_flags.specs.entry_slots.Tests.{Tests, first_fault}
+pub use Rattle.op_flags.specs.entry_sums.Sums.{part}
+unfoldable pub use Rattle.op_flags.specs.entry_sums.Sums.{total}
 pub use Rattle.op_flags.specs.ledger_types.Ids.{account_of}
-pub use Rattle.op_flags.specs.ledger_types.KeyOrder.{signer_key_cmp}
+pub use Rattle.op_flags.specs.ledger_types.KeyOrder.{asset_cmp, key_cmp, signer_key_cmp}
+pub use Rattle.op_flags.specs.ledger_types.Keys.{key_of, key_of_body}
+pub use Rattle.op_flags.specs.ledger_types.Prices.{IsPriced}
 pub use Rattle.op_flags.specs.ledger_types.declared.account.AccountEntry.{AccountEntry}
 pub use Rattle.op_flags.specs.ledger_types.declared.asset.Asset.{Asset}
 pub use Rattle.op_flags.specs.ledger_types.declared.asset.PoolParams.{PoolParams}
@@ -136,19 +141,25 @@ pub use Rattle.op_flags.specs.ledger_types.declared.offer.OfferEntry.{OfferEntry
 pub use Rattle.op_flags.specs.ledger_types.declared.signer.Signer.{Signer}
 pub use Rattle.op_flags.specs.ledger_types.declared.signer.SignerKey.{SignerKey}
 pub use Rattle.op_flags.specs.ledger_types.declared.trust_line.TrustLineEntry.{TrustLineEntry}
-pub use Rattle.op_flags.specs.legal_rules.Aggregates.{Buying, Selling, Uses, stated_at}
-pub use Rattle.op_flags.specs.legal_rules.ChangeLaws.{KeepsAggregates}
-pub use Rattle.op_flags.specs.legal_rules.EntryKeys.{for_key}
-pub use Rattle.op_flags.specs.legal_rules.Holdings.{IsAfter, IsCoveredBy, for_one, more_at as more_where}
+pub use Rattle.op_flags.specs.legal_rules.Aggregates.{Buying, Kind, Selling, ShareLines, Shares, Sponsored, Sponsoring}
+pub use Rattle.op_flags.specs.legal_rules.Aggregates.{Subentries, Uses, View, stated_at}
+pub use Rattle.op_flags.specs.legal_rules.ChangeLaws.{KeepsAggregates, in_shares}
+pub use Rattle.op_flags.specs.legal_rules.EntryKeys.{for_key, is_key}
+pub use Rattle.op_flags.specs.legal_rules.Holdings.{HoldsMore, Increase, IsAfter, IsCoveredBy, IsKeyed, both_more}
+pub use Rattle.op_flags.specs.legal_rules.Holdings.{for_one, more_at, more_at as more_where, none_more, under_key}
 pub use Rattle.op_flags.specs.legal_rules.Legal.{pools_in, view}
-pub use Rattle.op_flags.specs.legal_rules.OneMore.{one_more}
-pub use Rattle.op_flags.specs.legal_rules.Owing.{AreEntriesLegal, weight}
+pub use Rattle.op_flags.specs.legal_rules.OneMore.{IsOwedRightly, one_more}
+pub use Rattle.op_flags.specs.legal_rules.Owing.{AreEntriesLegal, IsEntryLegal, IsLegalOwing, Owed, beside_reserves}
+pub use Rattle.op_flags.specs.legal_rules.Owing.{nothing_owed, plus, weighed, weight}
 pub use Rattle.op_flags.specs.legal_rules.PoolShares.{needed_line, pool_named}
 pub use Rattle.op_flags.specs.legal_rules.Ranges.{AreAccountFlags, AreClaimantsInRange, AreLineFlags, AreSignersInRange}
-pub use Rattle.op_flags.specs.legal_rules.Ranges.{IsAccountInRange, IsBalanceInRange, IsDataInRange, IsHeldIn}
-pub use Rattle.op_flags.specs.legal_rules.Ranges.{IsTrustLineInRange, has_flag}
+pub use Rattle.op_flags.specs.legal_rules.Ranges.{IsAccountInRange, IsBalanceInRange, IsBodyInRange, IsDataInRange}
+pub use Rattle.op_flags.specs.legal_rules.Ranges.{IsHeldIn, IsPoolInRange, IsTrustLineInRange, has_flag}
 pub use Rattle.op_flags.specs.legal_rules.Sponsorships.{AreSponsorshipsSound, IsSponsorReady}
-pub use Rattle.op_flags.specs.legal_rules.Supply.{held, lumens_at, lumens_of}
+pub use Rattle.op_flags.specs.legal_rules.Supply.{held, held as held_of, held_in, lumens_at, lumens_of, of_asset}
+pub use Rattle.op_flags.specs.legal_rules.Supply.{of_line}
+pub use Rattle.op_flags.specs.legal_rules.Trades.{holder}
+unfoldable pub use Rattle.op_flags.specs.offer_book.Book.{best, book}
 pub use Rattle.op_flags.specs.op_form.Amounts.{line_debit_tests, map_after_credit, map_after_debit}
 pub use Rattle.op_flags.specs.op_form.Amounts.{map_after_line_debit_of}
 pub use Rattle.op_flags.specs.op_form.Assets.{is_issued_by, is_native, issuer_at, line_asset_of, line_of_asset}
@@ -171,14 +182,15 @@ pub use Rattle.op_flags.specs.pool_shares.Withdrawing.{with_change}
 pub use Rattle.op_flags.specs.sponsor_rules.Adding.{map_after_adding, map_after_adding_account}
 pub use Rattle.op_flags.specs.sponsor_rules.Adding.{map_after_counting_subentry, own_tests, sponsored_account_entry}
 pub use Rattle.op_flags.specs.sponsor_rules.Charge.{charge_of, line_multiplicity}
-pub use Rattle.op_flags.specs.sponsor_rules.Counting.{count_in, with_more}
+pub use Rattle.op_flags.specs.sponsor_rules.Counting.{count_in, with_less, with_more}
 pub use Rattle.op_flags.specs.sponsor_rules.Keeping.{KeepsCore}
-pub use Rattle.op_flags.specs.sponsor_rules.Payers.{move_tests_at, payer_of, payer_other_than, payer_tests_at}
-pub use Rattle.op_flags.specs.sponsor_rules.Payers.{subentry_tests_at}
+pub use Rattle.op_flags.specs.sponsor_rules.Payers.{is_same_account, move_tests_at, payer_of, payer_other_than}
+pub use Rattle.op_flags.specs.sponsor_rules.Payers.{payer_tests_at, subentry_tests_at}
 unfoldable pub use Rattle.op_flags.specs.sponsor_rules.Payers.{open_sponsor}
-pub use Rattle.op_flags.specs.sponsor_rules.Paying.{map_after_charging, map_after_exchange, with_other_payer}
-pub use Rattle.op_flags.specs.sponsor_rules.Paying.{with_subentry}
-pub use Rattle.op_flags.specs.sponsor_rules.Removing.{map_without_charge}
+pub use Rattle.op_flags.specs.sponsor_rules.Paying.{map_after_charging, map_after_exchange, map_after_releasing}
+pub use Rattle.op_flags.specs.sponsor_rules.Paying.{with_other_payer, with_subentry, without_subentry}
+pub use Rattle.op_flags.specs.sponsor_rules.Removing.{map_after_discounting, map_after_removing}
+pub use Rattle.op_flags.specs.sponsor_rules.Removing.{map_after_removing_entry, map_without_charge}
 pub use Rattle.op_flags.specs.sponsor_rules.SignerIndex.{found_at, found_signer, index_for, without_signer}
 unfoldable pub use Rattle.op_flags.specs.sponsor_rules.SignerIndex.{index_of}
 pub use Rattle.op_flags.specs.sponsor_rules.Signers.{map_after_adding_signer, map_after_moving_found}
@@ -187,8 +199,16 @@ pub use Rattle.op_flags.specs.sponsor_rules.Signers.{map_after_removing_signer, 
 pub use Rattle.op_flags.specs.sponsor_rules.Signers.{with_counted_signer, with_moved_signer, without_counted_signer}
 pub use Rattle.op_flags.specs.sponsor_rules.declared.context.Ctx.{Ctx}
 pub use Rattle.op_flags.specs.sponsor_rules.declared.context.Sponsorship.{Sponsorship}
-pub use Rattle.op_flags.specs.trade_cross.CrossingLaws.{more_by as atom_more}
-pub use Rattle.op_flags.specs.trade_cross.Holdings.{account_has, has_at, is_short_of, line_has}
+pub use Rattle.op_flags.specs.trade_cross.Crossing.{Crossing, Left, Step, amount_at, at_limit, atom_of, ended}
+pub use Rattle.op_flags.specs.trade_cross.Crossing.{is_too_dear, is_used_up, joined, left_after, map_after_rest}
+pub use Rattle.op_flags.specs.trade_cross.Crossing.{map_after_trade, meeting, offer_key, seller_gives_at}
+pub use Rattle.op_flags.specs.trade_cross.Crossing.{seller_takes_at, step_by, turn_at, with_amount}
+unfoldable pub use Rattle.op_flags.specs.trade_cross.Crossing.{crossed, step, turn}
+pub use Rattle.op_flags.specs.trade_cross.CrossingLaws.{AreTraded, IsOfTrade, bought_in, kept_at, kept_by, kept_in}
+pub use Rattle.op_flags.specs.trade_cross.CrossingLaws.{more_by as atom_more, more_in, sold_in}
+pub use Rattle.op_flags.specs.trade_cross.Holdings.{account_gives, account_has, at_least_nothing, has_at, is_short_of}
+pub use Rattle.op_flags.specs.trade_cross.Holdings.{line_gives, line_has, line_paid, line_takes, most_given, most_taken}
+pub use Rattle.op_flags.specs.trade_cross.Holdings.{paying}
 pub use Rattle.op_flags.specs.trade_cross.HopLaws.{AreHopped, IsHopTrade, IsHopped, IsOfHop}
 pub use Rattle.op_flags.specs.trade_cross.declared.trade.Trade.{Trade}
 unfoldable pub use Rattle.op_flags.specs.valid_values.Assets.{is_valid_asset}
@@ -212,6 +232,8 @@ pub use Rattle.op_offers.specs.Operations.{Answer, answer_of, attempt_of, attemp
 unfoldable pub use Rattle.op_offers.specs.Operations.{offers_operation}
 pub use Rattle.op_offers.specs.Selling.{Asked, Sold, map_without_offer, source_gives_at, source_takes_at, trade_of}
 unfoldable pub use Rattle.op_offers.specs.Selling.{sold}
+pub use Rattle.op_offers.specs.offer_exchange.Exchange.{Amounts, Bounds, unlimited}
+unfoldable pub use Rattle.op_offers.specs.offer_exchange.Exchange.{exchanged, wheat_stays}
 pub use Rattle.op_offers.specs.offer_exchange.declared.rounding.Rounding.{Rounding}
 pub use Rattle.op_options.specs.ManageData.{added, manage_data, managed, name_tests, new_data, removed, valued}
 pub use Rattle.op_options.specs.ManageData.{with_value}
@@ -237,6 +259,7 @@ pub use Rattle.op_pool.specs.Deposit.{is_pool_full, is_price_bad, is_price_outsi
 pub use Rattle.op_pool.specs.Deposit.{liquidity_pool_deposit, map_after_depositing, put_in}
 pub use Rattle.op_pool.specs.Withdraw.{disabled_tests, liquidity_pool_withdraw, map_after_taking, move_of_a, move_of_b}
 pub use Rattle.op_pool.specs.Withdraw.{share_tests, taken, taken_tests, withdraw_tests}
+pub use Rattle.op_pool.specs.reserve_rules.Reserve.{IsLineInRange, available, greatest_i64, line_available, line_room}
 pub use Rattle.op_sponsor.specs.RevokeSponsorship.{entry_moved, entry_revoked, entry_tests, is_malformed}
 pub use Rattle.op_sponsor.specs.RevokeSponsorship.{revoke_sponsorship, signer_moved, signer_tests}
 pub use Rattle.op_trust.proofs.Counts.{same_params}

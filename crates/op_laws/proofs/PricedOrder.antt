@@ -101,4 +101,5 @@ module _ (a b c : OfferEntry) (a_priced : IsPriced a.price) (b_priced : IsPriced
 
     pub before_both : goes_before a b ≡ true → goes_before b c ≡ true → goes_before a c ≡ true
     before_both first second = ap is_lt (sym a_c
-        ∙ rank_total.trans rank_a rank_b rank_c (a_b ∙ is_lt_true_Less (order a b) first) (b_c ∙ is_lt_true_Less (order b c) second))
+        ∙ rank_total.trans rank_a rank_b rank_c (a_b ∙ is_lt_true_Less (order a b) first)
+        (b_c ∙ is_lt_true_Less (order b c) second))

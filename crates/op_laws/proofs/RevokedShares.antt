@@ -20,7 +20,8 @@ use Rattle.op_flags.proofs.SharesRevoked.{left_so, put_legal, put_left, left_goo
 use Rattle.op_laws.proofs.AsideMoves.{pool_issues_none, balance_issues_none}
 use Rattle.op_laws.proofs.Issued.{issued_after}
 use Rattle.op_laws.proofs.IssuedMoves.{same_issuer, issued_so, issued_by_move}
-use Rattle.op_laws.proofs.Described.{Describes, describes_both, more_for, moved, move_describes, account_location, balance_location}
+use Rattle.op_laws.proofs.Described.{Describes, describes_both, more_for, moved, move_describes, account_location}
+use Rattle.op_laws.proofs.Described.{balance_location}
 use Rattle.op_laws.proofs.Described.{pool_location, pool_more, balance_more, more_at, none_at, redeemed_more}
 use Rattle.op_laws.proofs.Parts.{IsPart, no_part, both_parts}
 
@@ -33,7 +34,8 @@ pub record IsGiven (base : ℕ) (held_asset : Asset) (pool : Hash) (n : ℕ) (ol
   pub put : Asset → ℤ
   pub left : Leaves base more old new
   pub supply : (x : Asset) → total (held x) new ≡ (total (held x) old +ℤ put x)
-  pub describes : Describes (both_more more (under_key (key.LiquidityPool pool) (λ x. of_asset x held_asset (neg_ℤ (pos n)))))
+  pub describes : Describes
+      (both_more more (under_key (key.LiquidityPool pool) (λ x. of_asset x held_asset (neg_ℤ (pos n)))))
       moves
   pub issues : (x : Asset) → (of_asset x held_asset (neg_ℤ (pos n)) +ℤ put x) ≡ issued x moves
 
@@ -69,7 +71,8 @@ more_as d e same x (Some k) = same k x
 
 describes_as : (d e : Increase) (moves : List Move) → ((k : LedgerKey) (x : Asset) → d k x ≡ e k x) → Describes e moves
     → Describes d moves
-describes_as d e moves same describes x holder other = more_as d e same x (location_of x holder) ∙ describes x holder other
+describes_as d e moves same describes x holder other =
+    more_as d e same x (location_of x holder) ∙ describes x holder other
 
 module _ (id_pool : ℕ) (ctx : Ctx) (given : Given) (m : EntryMap) (legal : AreEntriesLegal id_pool m) where
   abbrev base : ℕ
@@ -143,10 +146,12 @@ module _ (id_pool : ℕ) (ctx : Ctx) (given : Given) (m : EntryMap) (legal : Are
           left = put_left id_pool ctx given m r exists valid put legal.keyed;
           supply = λ x. (put_legal id_pool ctx given m r exists valid put (view_of x m) (total (held x) m)
               (owing_of x id_pool m legal)).supply;
-          describes = describes_as (both_more (under_key (key.ClaimableBalance id) (λ x. of_asset x given.asset n)) gives)
+          describes = describes_as
+              (both_more (under_key (key.ClaimableBalance id) (λ x. of_asset x given.asset n)) gives)
               (moved given.asset from to n) (move_to given to ∷ [])
               (λ k x i. balance_more given.asset id n k x i +ℤ gives_is k x i)
-              (move_describes given.asset from to n (pool_location given.asset given.pool) (balance_location given.asset id));
+              (move_describes given.asset from to n (pool_location given.asset given.pool)
+              (balance_location given.asset id));
           issues = λ x. between_of (is_eq (asset_cmp x given.asset)) n
               ∙ (λ i. of_asset x given.asset (issued_so (pool_issues_none given.asset given.pool i)
               (balance_issues_none given.asset id i) n))
@@ -295,7 +300,8 @@ module _ (ctx : Ctx) (low : OperationResult) (m : EntryMap) (legal : AreEntriesL
       more = both_more (both_more first.more gave_a) (both_more second.more gave_b);
       legal = good_two.0;
       left = all_left;
-      describes = describes_both (both_more first.more gave_a) (both_more second.more gave_b) one.moves two.moves first.describes
+      describes = describes_both (both_more first.more gave_a)
+          (both_more second.more gave_b) one.moves two.moves first.describes
           second.describes;
       supply = λ x. supply_of (total (held x) m) (total (held x) withdrawn) (total (held x) emptied)
           (total (held x) one.entries) (total (held x) two.entries) (of_asset x p.params.asset_a a)

@@ -101,7 +101,8 @@ balance_body other x h = absurd (cc)
 
 amount_low : (id_pool : ℕ) (of : LedgerEntryBody) (x : ClaimableBalanceEntry) → balance_in of ≡ Some x
     → IsBodyInRange id_pool of → pos 0 ≤ℤ x.amount
-amount_low id_pool of x is range = nonnegative_from_positive x.amount (subst (IsBodyInRange id_pool) (balance_body of x is) range).amount
+amount_low id_pool of x is range =
+    nonnegative_from_positive x.amount (subst (IsBodyInRange id_pool) (balance_body of x is) range).amount
 
 pub settled_amounts : SettledAmounts
 unfolding balance_at

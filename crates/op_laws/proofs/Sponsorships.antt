@@ -35,7 +35,8 @@ opened_so ctx m under result opened sound =
       entries = m;
       ctx = record ctx { sponsorships = opened };
       moves = [];
-    }) (λ v sum legal. legal) (λ id. is_itself_after ctx.base_reserve (account_at m id)) (holds_itself m) describes_nothing
+    }) (λ v sum legal. legal) (λ id. is_itself_after ctx.base_reserve (account_at m id))
+    (holds_itself m) describes_nothing
     nothing_issued
     (record {
       seq = refl;

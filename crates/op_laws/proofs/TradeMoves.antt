@@ -12,7 +12,8 @@ use Rattle.op_flags.specs.ledger_types.declared.claim_atom.ClaimAtom.TheVariants
 use Rattle.op_flags.specs.ledger_types.declared.key.LedgerKey.TheVariants as key
 use Rattle.op_laws.proofs.IssuedMoves.{same_issuer}
 use Rattle.op_laws.proofs.MoveSums.{Measure, summed, held_by, more_by, moved_more, sum_issued}
-use Rattle.op_laws.proofs.Described.{Describes, describes_nothing, describes_both, at_index, more_for, moved, move_describes, account_more}
+use Rattle.op_laws.proofs.Described.{Describes, describes_nothing, describes_both, at_index, more_for, moved}
+use Rattle.op_laws.proofs.Described.{move_describes, account_more}
 use Rattle.op_laws.proofs.Described.{HasLocation, account_location, pool_location, pool_more}
 
 -- ---- a measure of amounts
@@ -184,11 +185,13 @@ pub moves_describe : (source : AccountId) (atoms : List ClaimAtom)
 moves_describe source [] = describes_nothing
 moves_describe source (atom.OrderBook seller id sold n bought k ∷ atoms) =
     trade_describes (OfAccount source) (OfAccount seller) sold bought n k (moves_of (OfAccount source) atoms)
-    (account_location sold source) (account_location sold seller) (account_location bought source) (account_location bought seller)
+    (account_location sold source) (account_location sold seller) (account_location bought source)
+    (account_location bought seller)
     (moves_describe source atoms)
 moves_describe source (atom.LiquidityPool pool sold n bought k ∷ atoms) =
     trade_describes (OfAccount source) (OfPool pool) sold bought n k (moves_of (OfAccount source) atoms)
-    (account_location sold source) (pool_location sold pool) (account_location bought source) (pool_location bought pool)
+    (account_location sold source) (pool_location sold pool) (account_location bought source)
+    (pool_location bought pool)
     (moves_describe source atoms)
 moves_describe source (atom.V0 seller id sold n bought k ∷ atoms) = moves_describe source atoms
 

@@ -21,7 +21,8 @@ use Rattle.op_laws.proofs.Issued.{issued_after}
 use Rattle.op_laws.proofs.Lawful.{lawful_with}
 use Rattle.op_laws.proofs.PoolPayments.{holder_exists, takes_so, shift_of, more_of, pool_before, account_before}
 use Rattle.op_laws.proofs.PoolPayments.{both_taken}
-use Rattle.op_laws.proofs.Described.{Describes, more_for, account_location, pool_location, moved, move_describes, describes_both}
+use Rattle.op_laws.proofs.Described.{Describes, more_for, account_location, pool_location, moved, move_describes}
+use Rattle.op_laws.proofs.Described.{describes_both}
 
 -- ---- what a withdrawal moves
 
@@ -142,7 +143,8 @@ module _ (ctx : Ctx) (op : LiquidityPoolWithdrawOp) (m : EntryMap) (done : Done)
       let room = or_parts full_a full_b second.0 in
       let both = both_taken ctx.id_pool ctx.base_reserve m under.settled.legal ctx.op_source op.pool_id t p has exists
       (neg_ℤ (pos part_out.a)) (neg_ℤ (pos part_out.b)) (neg_ℤ op.amount)
-      (can_withdraw ctx.op_source op.pool_id t p op.amount its was (nonnegative_from_positive op.amount some) enough of_all) part_out.a
+      (can_withdraw ctx.op_source op.pool_id t p op.amount its was
+      (nonnegative_from_positive op.amount some) enough of_all) part_out.a
       part_out.b (takes_first room.0)
       (takes_second room.1) in
       let also = tested.1 in
@@ -170,5 +172,6 @@ liquidity_pool_withdraw_is_lawful ctx op m done under source is =
     let least = or_parts (none || below_a) below_b test.0 in
     let some = or_parts none below_a least.0 in
     let short = first_passed (int_lt line_found.0.balance op.amount) (answer withdrawing.Underfunded) [] held.0 in
-    taken_lawful ctx op m done under source (positive_from_int_le op.amount some.0) line_found.0 pool_found.0 line_found.1
+    taken_lawful ctx op m done under source
+    (positive_from_int_le op.amount some.0) line_found.0 pool_found.0 line_found.1
     pool_found.1 (int_lt_false line_found.0.balance op.amount short.0) pool_found.2

@@ -1,4 +1,4 @@
-//! Laws of what comes before the operations of a transaction.
+//! Laws of settled entries: what leaves them settled, and what they are known to be.
 
 ghost use Rattle.op_laws.specs.Steps as spec;
 

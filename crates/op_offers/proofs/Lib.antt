@@ -10,4 +10,4 @@ mod Begun
 mod Loaded
 mod Applied
 pub use Rattle.offer_exchange.proofs as offer_exchange_proofs
-pub mod Prelude
+mod Prelude

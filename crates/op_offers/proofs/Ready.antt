@@ -3,10 +3,11 @@ use Rattle.op_offers.proofs.Prelude as prelude
 use prelude.{◌≡◌, refl, ap, ◌∙◌, ℕ, ◌≤◌, zero, suc, Option, Some, None, Ok, arith, ints, pos, neg_ℤ, ◌≤ℤ◌, unsigned_abs}
 use prelude.{Result, IsPriced, LedgerKey, EntryMap, Undo, with_current, first_fault, unless_fault, sponsor_of}
 use prelude.{unlimited, adjusted, trade_aggregates, bound_of, IsOwedRightly, one_more, Owed, one_more_is_right}
-use prelude.{CrossEnd, Converted, Partial, BadPrice, CrossSelf, TooMany, IsCrossable, Crossing, most_given, most_taken}
-use prelude.{IsInRangeAt, given_fits, taken_fits, OfferFault, IsSellable, IsSold, DoPaymentsFit, DoesRestFit, end_fault}
-use prelude.{Asked, source_gives_at, source_takes_at, trade_of, crossed_by, settled, amount_left, offer_left}
-use prelude.{wanted_tests, after_tests, by_end, kept, Sold, sold}
+use prelude.{CrossEnd, Converted, Partial, BadPrice, CrossSelf, TooMany, Crossing, most_given, most_taken, IsInRangeAt}
+use prelude.{given_fits, taken_fits, OfferFault, IsSellable, IsSold, DoPaymentsFit, DoesRestFit, end_fault, Asked}
+use prelude.{source_gives_at, source_takes_at, trade_of, crossed_by, settled, amount_left, offer_left, wanted_tests}
+use prelude.{after_tests, by_end, kept, Sold, sold}
+use Rattle.trade_cross.specs.Crossable.{IsCrossable}
 use Rattle.trade_cross.specs.Progressing.{AreTradeBounds}
 use Rattle.trade_cross.proofs.Bonds.{bond_fits, payment_fits, available_within, bought_within}
 use Rattle.trade_cross.proofs.StepIs.{all_in_range}

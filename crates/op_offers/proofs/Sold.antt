@@ -3,20 +3,21 @@ use Rattle.op_offers.proofs.Prelude as prelude
 use prelude.{◌≡◌, refl, sym, ap, subst, ◌∙◌, ℕ, ◌+◌, ◌-◌, ◌≤◌, zero, suc, Bool, true, false, Option, Some, None, Ok}
 use prelude.{arith, ints, ℤ, pos, neg_ℤ, ◌+ℤ◌, ◌-ℤ◌, ◌≤ℤ◌, unsigned_abs, if◌then◌else◌, is_eq, int_cmp, get, AccountId}
 use prelude.{TrustLineAsset, AccountEntry, OfferEntry, LedgerEntry, LedgerEntryBody, LedgerKey, key_of, key_of_body}
-use prelude.{EntryMap, put, account_at, sponsor_of, line_of, line_at, total, total_none, available, room, greatest_i64}
-use prelude.{is_there, Amounts, unlimited, adjusted, liabilities, bound_of, is_key, for_account, binding, acquiring}
-use prelude.{CanBind, Kind, Subentries, Sponsoring, Sponsored, View, offer_with, offer_with_in, trade_aggregates, Owed}
-use prelude.{nothing_owed, plus, weighed, IsEntryLegal, IsLegalOwing, IsOfferInRange, acquiring_legal, binding_legal}
-use prelude.{unbound_if, put_legal, legal_wider, legal_as, most_given, most_taken, account_gives, account_takes}
-use prelude.{line_gives, line_takes, paying, CrossEnd, Converted, Partial, BadPrice, CrossSelf, TooMany, most_crossings}
-use prelude.{Crossing, converted, left_of_trade, drawn, OfferFault, Asked, capped, source_gives_at, source_takes_at}
-use prelude.{wanted_tests, trade_of, settled, left_of, offer_left, map_after_keeping, Sold, kept, by_end, after_tests}
-use prelude.{sold, unless_fault, first_fault, IsHeld, IsEased, Related, Passes, IsOwedRightly, one_more, IsCrossed}
-use prelude.{kept_at, kept_in, IsAskedRightly, SellingKeeps, can_sell, can_buy, given_fits, taken_fits, giving_takes}
-use prelude.{selling_takes, held_paid, held_bound, offer_beside, no_less, put_beside, crossing_keeps, subentries_freed}
+use prelude.{EntryMap, put, account_at, sponsor_of, line_of, line_at, total, total_none, is_there, Amounts, unlimited}
+use prelude.{adjusted, liabilities, bound_of, is_key, for_account, binding, acquiring, CanBind, Kind, Subentries}
+use prelude.{Sponsoring, Sponsored, View, offer_with, offer_with_in, trade_aggregates, Owed, nothing_owed, plus}
+use prelude.{weighed, IsEntryLegal, IsLegalOwing, IsOfferInRange, acquiring_legal, binding_legal, unbound_if, put_legal}
+use prelude.{legal_wider, legal_as, most_given, most_taken, account_gives, account_takes, line_gives, line_takes}
+use prelude.{paying, CrossEnd, Converted, Partial, BadPrice, CrossSelf, TooMany, most_crossings, Crossing, converted}
+use prelude.{left_of_trade, drawn, OfferFault, Asked, capped, source_gives_at, source_takes_at, wanted_tests, trade_of}
+use prelude.{settled, left_of, offer_left, map_after_keeping, Sold, kept, by_end, after_tests, sold, unless_fault}
+use prelude.{first_fault, IsHeld, IsEased, Related, Passes, IsOwedRightly, one_more, IsCrossed, kept_at, kept_in}
+use prelude.{IsAskedRightly, SellingKeeps, can_sell, can_buy, given_fits, taken_fits, giving_takes, selling_takes}
+use prelude.{held_paid, held_bound, offer_beside, no_less, put_beside, crossing_keeps, subentries_freed}
 use prelude.{one_more_is_right, IsOwnKey, holder_own, IsKeyed, put_elsewhere, add_assoc, add_neg_self}
 use prelude.{add_to_zero_at_most_one, add_zero, add_zero_at_most, int_cmp_equal, natural_at_most_trans}
 use prelude.{unsigned_abs_positive, add-zero}
+use Rattle.sponsor_rules.specs.reserve_rules.Reserve.{available, room, greatest_i64}
 use Rattle.std.proofs.Math.Nat.{min-le_right}
 use Rattle.ledger_types.specs.declared.entry.LedgerEntryBody.TheVariants as body
 use Rattle.ledger_types.specs.declared.key.LedgerKey.TheVariants as key
@@ -207,7 +208,8 @@ module _ (v : View) (id_pool next base : ℕ) (sum : ℤ) (asked : Asked) (m : E
     one = subst (λ a. 1 ≤ a) (sym is) (omega arith)
 
     binds : IsBound n d send receive (adjusted n d send receive)
-    binds = adjusted_bound n d send receive (unsigned_abs_positive asked.offer.price.n n_some) (unsigned_abs_positive asked.offer.price.d d_some)
+    binds = adjusted_bound n d send receive (unsigned_abs_positive asked.offer.price.n n_some)
+        (unsigned_abs_positive asked.offer.price.d d_some)
         (natural_at_most_trans send (most_given base m (source_gives_at asked)) unlimited send_fits
         (given_fits v id_pool base owed sum m legal owed_right.covered (source_gives_at asked) right.gives))
         (natural_at_most_trans receive (most_taken m (source_takes_at asked)) unlimited receive_fits
@@ -266,7 +268,8 @@ module _ (v : View) (id_pool next base : ℕ) (sum : ℤ) (asked : Asked) (m : E
     pub sells_fit : (bound_of new).wheat ≤ most_given base now (source_gives_at asked)
     sells_fit = subst (λ x. x ≤ most_given base now (source_gives_at asked)) (sym wheat_is)
         (subst (λ x. adjusted n d send receive ≤ x) (sym (put_given m e new refl base (source_gives_at asked)))
-        (natural_at_most_trans (adjusted n d send receive) send _ (subst (λ x. x ≤ send) binds.all_selling binds.selling) send_fits))
+        (natural_at_most_trans (adjusted n d send receive) send _
+        (subst (λ x. x ≤ send) binds.all_selling binds.selling) send_fits))
 
     pub sells : CanBind now (source_gives_at asked) (pos (bound_of new).wheat) (pos 0)
     sells = can_sell v next base (trade_aggregates new) sum now legal_now (bound_of new).wheat (source_gives_at asked)
@@ -276,7 +279,8 @@ module _ (v : View) (id_pool next base : ℕ) (sum : ℤ) (asked : Asked) (m : E
     bound_now = binding (source_gives_at asked) (pos (bound_of new).wheat) (pos 0) now
 
     pub legal_bound : IsLegalOwing v next
-        (plus (trade_aggregates new) (unbound_if (source_gives_at asked) (pos (bound_of new).wheat) (pos 0))) sum bound_now
+        (plus (trade_aggregates new) (unbound_if (source_gives_at asked) (pos (bound_of new).wheat) (pos 0))) sum
+        bound_now
     legal_bound = binding_legal v next (trade_aggregates new) sum now (source_gives_at asked) (pos (bound_of new).wheat)
         (pos 0)
         legal_now sells
@@ -289,7 +293,8 @@ module _ (v : View) (id_pool next base : ℕ) (sum : ℤ) (asked : Asked) (m : E
         (subst (λ x. x ≤ most_taken now (source_takes_at asked)) (sym sheep_is)
         (subst (λ x. (liabilities n d (adjusted n d send receive)).sheep ≤ x)
         (sym (put_taken m e new refl (source_takes_at asked)))
-        (natural_at_most_trans (liabilities n d (adjusted n d send receive)).sheep receive _ binds.buying receive_fits)))
+        (natural_at_most_trans
+        (liabilities n d (adjusted n d send receive)).sheep receive _ binds.buying receive_fits)))
         (selling_takes now legal_now.keyed (source_gives_at asked) (pos (bound_of new).wheat) sells
         (source_takes_at asked)))
 

@@ -1,14 +1,15 @@
 -- What an offer that is sold leaves of the accounts.
 use Rattle.op_offers.proofs.Prelude as prelude
 use prelude.{◌≡◌, refl, sym, ap, subst, ◌∙◌, ℕ, ◌≤◌, zero, suc, None, Some, Ok, arith, ints, ℤ, pos, neg_ℤ, ◌+ℤ◌}
-use prelude.{unsigned_abs, AccountEntry, get, OfferEntry, key_of_body, part, held_in, held_of, HoldsMore, put_same}
-use prelude.{LedgerEntry, EntryMap, put, account_at, sponsor_of, adjusted, without_subentry, bound_of, binding, View}
-use prelude.{IsLegalOwing, most_given, most_taken, paying, CrossEnd, Converted, Partial, BadPrice, CrossSelf, TooMany}
-use prelude.{most_crossings, Crossing, converted, left_of_trade, Asked, source_gives_at, source_takes_at, trade_of}
-use prelude.{settled, left_of, offer_left, map_after_keeping, Sold, kept, sold, Increase, none_more, both_more, more_at}
-use prelude.{one_more, more_in, AreTraded, IsAskedRightly, discharged_kept, crossed_legal, owner, giving_left}
-use prelude.{taking_left, selling_left, buying_left, one_more_is_right, IsKeyed, Leaves, leaves_both, leaves_as}
-use prelude.{keeps_both, accounts_kept}
+use prelude.{unsigned_abs, AccountEntry, get, OfferEntry, key_of_body, part, held_in, held_of, HoldsMore, LedgerEntry}
+use prelude.{EntryMap, put, account_at, sponsor_of, adjusted, without_subentry, bound_of, binding, View, IsLegalOwing}
+use prelude.{most_given, most_taken, paying, CrossEnd, Converted, Partial, BadPrice, CrossSelf, TooMany, most_crossings}
+use prelude.{Crossing, converted, left_of_trade, Asked, source_gives_at, source_takes_at, trade_of, settled, left_of}
+use prelude.{offer_left, map_after_keeping, Sold, kept, sold, Increase, none_more, both_more, more_at, one_more}
+use prelude.{more_in, AreTraded, IsAskedRightly, discharged_kept, crossed_legal, owner, giving_left, taking_left}
+use prelude.{selling_left, buying_left, one_more_is_right, IsKeyed, Leaves, leaves_both, leaves_as, keeps_both}
+use prelude.{accounts_kept}
+use Rattle.trade_cross.proofs.legal_rules_proofs.Holdings.{put_same}
 use Rattle.ledger_types.specs.declared.key.LedgerKey.TheVariants as key
 use Rattle.ledger_types.specs.declared.entry.LedgerEntryBody.TheVariants as body
 use Rattle.op_offers.proofs.Sold.{capped_fits, account_same, legal_now, legal_bound, sells}

@@ -1,10 +1,11 @@
 -- What the tests of operations on offers leave: an offer whose fields are valid, and a source that holds both assets.
 use Rattle.op_offers.proofs.Prelude.{◌≡◌, ◌≢◌, refl, ap, ◌∙◌, ℕ, ◌%◌, Bool, true, false, not, ◌||◌, ◌&&◌, [], ◌∷◌}
 use Rattle.op_offers.proofs.Prelude.{nat_eq, bit_and, Option, Some, None, arith, pos, int_le, int_lt, ◌≤ℤ◌, is_eq}
-use Rattle.op_offers.proofs.Prelude.{int_eq, AccountId, LedgerKey, asset_cmp, EntryMap, account_at, HasAccount, line_at}
-use Rattle.op_offers.proofs.Prelude.{Tests, first_passed, IsHeld, IsOwnKey, Ask, OfferFault, is_no_pair}
-use Rattle.op_offers.proofs.Prelude.{is_out_of_range, is_malformed, sell_line_fault, sell_fault, buy_line_fault}
-use Rattle.op_offers.proofs.Prelude.{buy_fault, positive_from_int_le, not-false, or_parts}
+use Rattle.op_offers.proofs.Prelude.{int_eq, AccountId, LedgerKey, EntryMap, account_at, HasAccount, line_at, Tests}
+use Rattle.op_offers.proofs.Prelude.{first_passed, IsHeld, IsOwnKey, Ask, OfferFault, is_no_pair, is_out_of_range}
+use Rattle.op_offers.proofs.Prelude.{is_malformed, sell_line_fault, sell_fault, buy_line_fault, buy_fault}
+use Rattle.op_offers.proofs.Prelude.{positive_from_int_le, not-false, or_parts}
+use Rattle.ledger_types.specs.KeyOrder.{asset_cmp}
 use Rattle.std.proofs.lemmas.Nat.{and_mask}
 use Rattle.std.specs.Cmp.{tied_itself}
 use Rattle.ledger_types.specs.declared.asset.Asset.{Asset}
@@ -38,7 +39,8 @@ valid_ask ask test =
     (not (is_valid_asset ask.buying) || is_eq (asset_cmp ask.selling ask.buying)) both.0 in
     let other = or_parts (not (is_valid_asset ask.buying)) (is_eq (asset_cmp ask.selling ask.buying)) pair.1 in
     let low : Bool = int_lt ask.offer_id (pos 0) || (int_eq ask.amount (pos 0) && int_eq ask.offer_id (pos 0)) in
-    let amount = or_parts (int_lt ask.amount (pos 0)) (int_le ask.price.n (pos 0) || (int_le ask.price.d (pos 0) || low))
+    let amount = or_parts (int_lt ask.amount (pos 0))
+    (int_le ask.price.n (pos 0) || (int_le ask.price.d (pos 0) || low))
     both.1 in
     let n = or_parts (int_le ask.price.n (pos 0)) (int_le ask.price.d (pos 0) || low) amount.1 in
     let d = or_parts (int_le ask.price.d (pos 0)) low n.1 in

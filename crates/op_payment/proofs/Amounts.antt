@@ -1,13 +1,14 @@
 -- Amounts of any asset that accounts give and take.
 use Rattle.op_payment.proofs.Prelude as prelude
 use prelude.{◌≡◌, refl, ap, subst, ℕ, Bool, true, false, not, ◌∷◌, [], Option, Some, None, Ok, arith, ints, ℤ, pos}
-use prelude.{neg_ℤ, int_lt, ◌+ℤ◌, ◌-ℤ◌, ◌≤ℤ◌, if◌then◌else◌, AccountId, Asset, TrustLineEntry, EntryMap}
-use prelude.{line_liabilities, line_at, with_line, IsLineInRange, line_available, line_room, Ctx, view, nothing_owed}
-use prelude.{AreEntriesLegal, of_asset, CreditFault, DebitFault, with_less, with_more, line_debit_tests}
-use prelude.{line_credit_tests, map_after_debit, map_after_issued_debit, map_after_line_debit_of, map_after_credit}
-use prelude.{map_after_issued_credit, map_after_line_credit_of, is_native, is_issued_by, line_asset_of}
-use prelude.{map_after_lumens_credit, map_after_lumens_debit, line_legal, IsKeyed, Increase, none_more, under_key}
-use prelude.{for_one, Leaves, leaves_itself, leaves_as, add_sub_first, int_lt_false}
+use prelude.{neg_ℤ, int_lt, ◌+ℤ◌, ◌-ℤ◌, ◌≤ℤ◌, if◌then◌else◌, AccountId, Asset, TrustLineEntry, EntryMap, line_at}
+use prelude.{with_line, IsLineInRange, line_available, line_room, Ctx, view, nothing_owed, AreEntriesLegal, of_asset}
+use prelude.{CreditFault, DebitFault, with_less, with_more, line_debit_tests, line_credit_tests, map_after_debit}
+use prelude.{map_after_issued_debit, map_after_line_debit_of, map_after_credit, map_after_issued_credit}
+use prelude.{map_after_line_credit_of, is_native, is_issued_by, line_asset_of, map_after_lumens_credit}
+use prelude.{map_after_lumens_debit, line_legal, IsKeyed, Increase, none_more, under_key, for_one, Leaves}
+use prelude.{leaves_itself, leaves_as, add_sub_first, int_lt_false}
+use Rattle.sponsor_rules.specs.entry_slots.LineExtensions.{line_liabilities}
 use Rattle.std.specs.Option.{ok_or}
 use Rattle.ledger_types.specs.declared.asset.Asset.TheVariants as asset
 use Rattle.ledger_types.specs.declared.key.LedgerKey.TheVariants as key

@@ -1,11 +1,13 @@
 -- What a hop of a call yields: how many offers it crosses, by the law of hops, and how far it carries an amount.
-use Rattle.op_payment.proofs.Prelude.{◌≡◌, ◌≢◌, refl, sym, ap, subst, ◌∙◌, ◌≤◌, Bool, true, false, Result, Ok, Err}
-use Rattle.op_payment.proofs.Prelude.{unsigned_abs, ◌-◌, ◌++◌, if◌then◌else◌, Asset, EntryMap, Undo, with_current, Ctx}
-use Rattle.op_payment.proofs.Prelude.{unlimited, IsCrossable, Crossing, hop, is_served, AreTradeBounds, IsCrossing}
-use Rattle.op_payment.proofs.Prelude.{CarriedOfCall, PathFault, carried_of, needed_before_of, carried_on_of}
-use Rattle.op_payment.proofs.Prelude.{DoCrossingsFit, IsReceiving, IsSending, IsHopped, IsCarriedSo, Carried, by_end}
-use Rattle.op_payment.proofs.Prelude.{hopped, after_hop, receiving, sending, needed_before, carried_on, is_same_asset}
-use Rattle.op_payment.proofs.Prelude.{received_hop, sent_hop, natural_nonnegative, nonnegative_from_natural}
+use Rattle.op_payment.proofs.Prelude as prelude
+use prelude.{◌≡◌, ◌≢◌, refl, sym, ap, subst, ◌∙◌, ◌≤◌, Bool, true, false, Result, Ok, Err, unsigned_abs, ◌-◌, ◌++◌}
+use prelude.{if◌then◌else◌, Asset, EntryMap, Undo, with_current, Ctx, IsCrossable, AreTradeBounds, IsCrossing}
+use prelude.{CarriedOfCall, PathFault, carried_of, needed_before_of, carried_on_of, DoCrossingsFit, IsReceiving}
+use prelude.{IsSending, IsHopped, IsCarriedSo, Carried, by_end, hopped, after_hop, receiving, sending, needed_before}
+use prelude.{carried_on, is_same_asset, received_hop, sent_hop, natural_nonnegative, nonnegative_from_natural}
+use Rattle.offer_exchange.specs.Exchange.{unlimited}
+use Rattle.trade_cross.specs.Crossing.{Crossing}
+use Rattle.trade_cross.specs.Hop.{hop, is_served}
 use Rattle.trade_cross.specs.declared.crossed.Crossed.{Crossed}
 use Rattle.trade_cross.specs.declared.crossed.CrossEnd.{CrossEnd}
 use Rattle.trade_cross.specs.declared.crossed.CrossEnd.TheVariants.{CrossSelf, TooMany}

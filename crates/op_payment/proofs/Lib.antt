@@ -5,4 +5,4 @@ pub mod Amounts
 pub mod HopsMade
 pub mod PathLegality
 pub mod PathEnds
-pub mod Prelude
+mod Prelude

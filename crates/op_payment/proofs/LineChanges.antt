@@ -1,15 +1,19 @@
 -- What a change of a line leaves: legal entries, the supply of its asset, and the accounts.
-use Rattle.op_payment.proofs.Prelude as prelude
-use prelude.{◌≡◌, refl, ap, ◌∙◌, ℕ, Bool, true, false, Some, ℤ, pos, ◌+ℤ◌, ◌-ℤ◌, if◌then◌else◌, is_eq, AccountId, Asset}
-use prelude.{TrustLineEntry, asset_cmp, EntryMap, line_at, with_line, Kind, Shares, in_shares, nothing_owed}
-use prelude.{IsBoundRightly, IsEntryLegal, of_asset, of_line, line_changed, legal_as, is_native, line_asset_of, IsKeyed}
-use prelude.{none_more, under_key, Leaves, leaves_as, line_legal, line_of_any_left, line_of_any_kept, is_key}
+use Rattle.op_payment.proofs.Prelude.{◌≡◌, refl, ap, ◌∙◌, ℕ, Bool, true, false, Some, ℤ, pos, ◌+ℤ◌, ◌-ℤ◌, if◌then◌else◌}
+use Rattle.op_payment.proofs.Prelude.{is_eq, AccountId, Asset, TrustLineEntry, EntryMap, line_at, with_line, Kind}
+use Rattle.op_payment.proofs.Prelude.{Shares, nothing_owed, IsBoundRightly, IsEntryLegal, of_asset, of_line, is_native}
+use Rattle.op_payment.proofs.Prelude.{line_asset_of, IsKeyed, none_more, under_key, Leaves, leaves_as, line_legal}
+use Rattle.op_payment.proofs.Prelude.{line_of_any_left, line_of_any_kept}
+use Rattle.ledger_types.specs.KeyOrder.{asset_cmp}
+use Rattle.trade_cross.proofs.legal_rules_proofs.Changed.{line_changed}
+use Rattle.trade_cross.proofs.legal_rules_proofs.Steps.{legal_as}
+use Rattle.trade_cross.specs.legal_rules.EntryKeys.{is_key}
 use Rattle.ledger_types.specs.declared.asset.Asset.TheVariants as asset
 use Rattle.ledger_types.specs.declared.asset.TrustLineAsset.{TrustLineAsset}
 use Rattle.ledger_types.specs.declared.entry.LedgerEntryBody.TheVariants as body
 use Rattle.ledger_types.specs.declared.key.LedgerKey.{LedgerKey}
 use Rattle.ledger_types.specs.declared.key.LedgerKey.TheVariants as key
-use Rattle.trade_cross.specs.legal_rules.ChangeLaws.{KeepsLineAggregates}
+use Rattle.trade_cross.specs.legal_rules.ChangeLaws.{KeepsLineAggregates, in_shares}
 use Rattle.trade_cross.specs.legal_rules.Ranges.{IsTrustLineInRange}
 use Rattle.op_payment.proofs.Shifts.{ShiftsLegal}
 

@@ -1,11 +1,13 @@
 -- Lumens that an account gives and takes.
 use Rattle.op_payment.proofs.Prelude as prelude
 use prelude.{◌≡◌, refl, subst, ℕ, Bool, true, false, Option, Some, None, inl, inr, arith, ints, ℤ, pos, neg_ℤ, ◌+ℤ◌}
-use prelude.{◌-ℤ◌, ◌≤ℤ◌, if◌then◌else◌, is_lt, int_cmp, AccountId, EntryMap, account_at, with_account}
-use prelude.{account_liabilities, available, room, min_balance, Ctx, View, nothing_owed, IsLegalOwing, lumens_of}
-use prelude.{account_legal, not_above_balance, with_less_lumens, map_after_lumens_debit_of, map_after_lumens_debit}
-use prelude.{with_more_lumens, map_after_lumens_credit_of, map_after_lumens_credit, IsKeyed, for_one, Leaves}
-use prelude.{account_changed, add_nonnegative, int_cmp_not_less}
+use prelude.{◌-ℤ◌, ◌≤ℤ◌, if◌then◌else◌, is_lt, int_cmp, AccountId, EntryMap, available, room, min_balance, Ctx, View}
+use prelude.{nothing_owed, IsLegalOwing, lumens_of, account_legal, with_less_lumens, map_after_lumens_debit_of}
+use prelude.{map_after_lumens_debit, with_more_lumens, map_after_lumens_credit_of, map_after_lumens_credit, IsKeyed}
+use prelude.{for_one, Leaves, account_changed, add_nonnegative, int_cmp_not_less}
+use Rattle.sponsor_rules.specs.entry_slots.Accounts.{account_at, with_account}
+use Rattle.sponsor_rules.specs.entry_slots.AccountExtensions.{account_liabilities}
+use Rattle.trade_cross.proofs.legal_rules_proofs.Covered.{not_above_balance}
 use Rattle.ledger_types.specs.declared.account.AccountEntry.{AccountEntry}
 use Rattle.trade_cross.proofs.legal_rules_proofs.Paid.{paid_legal, debit_legal}
 
@@ -70,7 +72,12 @@ given_of ctx id amount m new None exists is = absurd (cc)
 given_of ctx id amount m new (Some a) exists is =
     let test = passed_some (is_lt (int_cmp (available a ctx.base_reserve) amount))
     (with_account m id (with_less_lumens amount)) new is in
-    record { account = a; exists = exists; enough = int_cmp_not_less (available a ctx.base_reserve) amount test.0; is = test.1 }
+    record {
+      account = a;
+      exists = exists;
+      enough = int_cmp_not_less (available a ctx.base_reserve) amount test.0;
+      is = test.1;
+    }
 
 pub debit_is_given : (ctx : Ctx) (id : AccountId) (amount : ℤ) (m new : EntryMap)
     → map_after_lumens_debit ctx id amount m ≡ Some new

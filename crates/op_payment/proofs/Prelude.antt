@@ -1,18 +1,14 @@
 -- Names that several proofs of this crate use.
-use Rattle.trade_cross.proofs.Prelude as lower
-pub use lower.{Bool, Crossing, EntryMap, Increase, IsCrossable, IsCrossing, IsEntryLegal, IsKeyed, IsLegalOwing}
-pub use lower.{IsLineInRange, Kind, Leaves, None, Option, Shares, Some, Undo, View, [], account_changed, account_legal}
-pub use lower.{account_liabilities, add_assoc, add_nonnegative, add_sub_first, add_zero, ap, arith, asset_cmp}
-pub use lower.{available, false, if◌then◌else◌, in_shares, inl, inr, int_cmp, ints, is_eq, is_key, is_served, leaves_as}
-pub use lower.{leaves_itself, legal_as, length, line_available, line_changed, line_legal, line_liabilities, line_room}
-pub use lower.{min_balance, natural_nonnegative, neg_ℤ, none_more, nonnegative_from_natural, not_above_balance}
-pub use lower.{nothing_owed, of_asset, of_line, pos, refl, room, rules, subst, sym, true, under_key, unlimited}
-pub use lower.{unsigned_abs, with_current, ℕ, ℤ, ◌+ℤ◌, ◌-ℤ◌, ◌∙◌, ◌∷◌, ◌≡◌, ◌≢◌, ◌≤ℤ◌, ◌≤◌}
-unfoldable pub use lower.{account_at, hop, line_at, with_account, with_line}
-pub use Rattle.std.proofs.Common.{Err, Ok, Result, not, of_z, to_z, w64}
-pub use Rattle.std.specs.Ordering.{is_lt}
-pub use Rattle.std.specs.Prelude.{IfOk, int_lt, ◌++◌, ◌-◌}
-pub use Rattle.ledger_types.proofs.Arithmetic.{int_cmp_not_less, int_lt_false, unsigned_abs_nonnegative}
+pub use Rattle.std.proofs.Common.{Bool, Err, None, Ok, Option, Result, Some, [], ap, arith, false, inl, inr, length}
+pub use Rattle.std.proofs.Common.{not, of_z, refl, rules, subst, sym, to_z, true, w64, ℕ, ◌∙◌, ◌∷◌, ◌≡◌, ◌≢◌, ◌≤◌}
+pub use Rattle.std.proofs.lemmas.Int.{ints}
+pub use Rattle.std.specs.Ordering.{int_cmp, is_eq, is_lt}
+pub use Rattle.std.specs.Prelude.{IfOk, if◌then◌else◌, int_lt, neg_ℤ, pos, unsigned_abs, ℤ, ◌++◌, ◌+ℤ◌, ◌-ℤ◌, ◌-◌, ◌≤ℤ◌}
+pub use Rattle.entry_map.specs.EntryMap.{EntryMap}
+pub use Rattle.entry_map.specs.Undo.{Undo, with_current}
+pub use Rattle.ledger_types.proofs.Arithmetic.{add_assoc, add_nonnegative, add_sub_first, add_zero, int_cmp_not_less}
+pub use Rattle.ledger_types.proofs.Arithmetic.{int_lt_false, natural_nonnegative, nonnegative_from_natural}
+pub use Rattle.ledger_types.proofs.Arithmetic.{unsigned_abs_nonnegative}
 pub use Rattle.ledger_types.specs.declared.asset.Asset.{Asset}
 pub use Rattle.ledger_types.specs.declared.ids.AccountId.{AccountId}
 pub use Rattle.ledger_types.specs.declared.trust_line.TrustLineEntry.{TrustLineEntry}
@@ -34,10 +30,18 @@ pub use Rattle.op_payment.specs.Paths.{received, received_hop, receiving, sendin
 pub use Rattle.op_payment.specs.declared.carried.Carried.{Carried as CarriedOfCall}
 pub use Rattle.op_payment.specs.declared.path_fault.PathFault.{PathFault}
 pub use Rattle.sponsor_rules.specs.declared.context.Ctx.{Ctx}
+unfoldable pub use Rattle.sponsor_rules.specs.entry_slots.Lines.{line_at, with_line}
+pub use Rattle.sponsor_rules.specs.reserve_rules.Reserve.{IsLineInRange, available, line_available, line_room}
+pub use Rattle.sponsor_rules.specs.reserve_rules.Reserve.{min_balance, room}
+pub use Rattle.trade_cross.proofs.legal_rules_proofs.Bounded.{account_legal}
+pub use Rattle.trade_cross.proofs.legal_rules_proofs.Leaving.{Leaves, account_changed, leaves_as, leaves_itself}
 pub use Rattle.trade_cross.proofs.legal_rules_proofs.LinesLeft.{line_kept as line_of_any_kept}
-pub use Rattle.trade_cross.proofs.legal_rules_proofs.LinesLeft.{line_left as line_of_any_left}
-pub use Rattle.trade_cross.specs.Progressing.{AreTradeBounds}
-pub use Rattle.trade_cross.specs.legal_rules.Holdings.{for_one}
+pub use Rattle.trade_cross.proofs.legal_rules_proofs.LinesLeft.{line_left as line_of_any_left, line_legal}
+pub use Rattle.trade_cross.specs.Crossable.{IsCrossable}
+pub use Rattle.trade_cross.specs.Progressing.{AreTradeBounds, IsCrossing}
+pub use Rattle.trade_cross.specs.legal_rules.Aggregates.{Kind, Shares, View}
+pub use Rattle.trade_cross.specs.legal_rules.Holdings.{Increase, IsKeyed, for_one, none_more, under_key}
 pub use Rattle.trade_cross.specs.legal_rules.Legal.{view}
-pub use Rattle.trade_cross.specs.legal_rules.Owing.{AreEntriesLegal, IsBoundRightly}
-pub use Rattle.trade_cross.specs.legal_rules.Supply.{lumens_of}
+pub use Rattle.trade_cross.specs.legal_rules.Owing.{AreEntriesLegal, IsBoundRightly, IsEntryLegal, IsLegalOwing}
+pub use Rattle.trade_cross.specs.legal_rules.Owing.{nothing_owed}
+pub use Rattle.trade_cross.specs.legal_rules.Supply.{lumens_of, of_asset, of_line}

@@ -4,17 +4,18 @@ use prelude.{◌≡◌, refl, sym, ap, subst, ◌∙◌, ℕ, ◌<◌, ◌≤◌
 use prelude.{ints, ltb-true, ltb-false, ◌&&◌, ◌||◌, ℤ, pos, neg_ℤ, ◌+ℤ◌, ◌-ℤ◌, ◌≤ℤ◌, ◌<ℤ◌, ◌∷◌, [], unsigned_abs}
 use prelude.{int_lt, nat_lt, TrustLineEntry, LiquidityPoolEntry, OperationResult, EntryMap, LineSlot, PoolSlot, line_at}
 use prelude.{line_slot_at, line_liabilities, pool_at, pool_slot_at, Tests, first_fault, greatest_i64, line_room, Ctx}
-use prelude.{numbers_of, AnswersDeposit, IsUnsigned, greatest, IsFilledOrEmpty, IsPoolInRange, holder, is_short_of}
-use prelude.{has_at, DoesFit, BalancesAreInRange, IsDepositBy, is_either_unusable, does_pass, amount_tests}
-use prelude.{map_after_putting, is_price_wrong, is_pool_full, DoesDepositFit, ArePoolsSound, line_loaded, pool_loaded}
-use prelude.{int_lt_false, natural_nonnegative, or_parts}
+use prelude.{numbers_of, AnswersDeposit, IsUnsigned, IsPoolInRange, holder, is_short_of, has_at, DoesFit}
+use prelude.{BalancesAreInRange, IsDepositBy, is_either_unusable, does_pass, amount_tests, map_after_putting}
+use prelude.{is_price_wrong, is_pool_full, DoesDepositFit, ArePoolsSound, line_loaded, pool_loaded, int_lt_false}
+use prelude.{natural_nonnegative, or_parts}
+use Rattle.trade_cross.specs.legal_rules.Bounds.{IsFilledOrEmpty}
 use Rattle.ledger_types.specs.declared.asset.TrustLineAsset.TheVariants as line
 use Rattle.ledger_types.specs.declared.entry.LedgerEntryBody.TheVariants as body
 use Rattle.op_types.specs.declared.pool_results.LiquidityPoolDepositResult.TheVariants as depositing
 use Rattle.op_types.specs.declared.pool_ops.LiquidityPoolDepositOp.{LiquidityPoolDepositOp}
 use Rattle.pool_math.specs.declared.deposits.Deposited.{Deposited}
 use Rattle.pool_math.specs.Parts.{signed}
-use Rattle.pool_math.specs.Pools.{Deposit, AreFilledOrEmpty}
+use Rattle.pool_math.specs.Pools.{Deposit, AreFilledOrEmpty, greatest}
 use Rattle.op_form.specs.Done.{Attempt, Move}
 use Rattle.op_form.specs.Steps.{unless_result, success}
 use Rattle.op_pool.specs.Deposit.{answer, do_shares_pass, deposit_by, map_after_depositing, move_of_a}
@@ -130,7 +131,11 @@ module _ (ctx : Ctx) (op : LiquidityPoolDepositOp) (share : TrustLineEntry) (poo
       let fits = or_parts (pass_a || pass_b) pass_shares all.3 in
       let both_fit = or_parts pass_a pass_b fits.0 in
       record {
-        unsigned = record { shares = natural_nonnegative d.shares; a = natural_nonnegative d.a; b = natural_nonnegative d.b };
+        unsigned = record {
+          shares = natural_nonnegative d.shares;
+          a = natural_nonnegative d.a;
+          b = natural_nonnegative d.b;
+        };
         balance = rises share.balance d.shares line_range.balance
             (λ more. in_limit share.balance (line_liabilities share).buying share.limit greatest_i64 (pos d.shares)
             (int_lt_false (line_room share) (pos d.shares) all.2) line_range.buying
@@ -153,7 +158,11 @@ module _ (ctx : Ctx) (op : LiquidityPoolDepositOp) (share : TrustLineEntry) (poo
 -- what is worked out is unsigned
 pub unsigned_of : (d : Deposited) (amounts : Deposit) → d ≡ signed amounts → IsUnsigned d
 unsigned_of d amounts is = subst IsUnsigned (sym is)
-    (record { shares = natural_nonnegative amounts.shares; a = natural_nonnegative amounts.a; b = natural_nonnegative amounts.b })
+    (record {
+      shares = natural_nonnegative amounts.shares;
+      a = natural_nonnegative amounts.a;
+      b = natural_nonnegative amounts.b;
+    })
 
 -- a deposit of which no test holds fits
 pub fits_as : (ctx : Ctx) (op : LiquidityPoolDepositOp) (share : LineSlot) (pool : PoolSlot) (d : Deposited)

@@ -1,12 +1,18 @@
 -- That the sums of deposits and withdrawals fit.
 use Rattle.op_pool.proofs.Prelude.{◌≡◌, ◌⊎◌, inl, inr, refl, sym, ap, ◌∙◌, ℕ, ◌≤◌, false, Option, Some, None, arith}
-use Rattle.op_pool.proofs.Prelude.{ints, ltb-false, ℤ, pos, neg_ℤ, ◌+ℤ◌, ◌-ℤ◌, ◌≤ℤ◌, nat_lt, get, TrustLineEntry}
-use Rattle.op_pool.proofs.Prelude.{asset_cmp, EntryMap, account_of, account_at, account_liabilities, line_of, line_at}
-use Rattle.op_pool.proofs.Prelude.{line_liabilities, greatest_i64, min_balance, available, room, line_available}
-use Rattle.op_pool.proofs.Prelude.{line_room, unlimited, IsKeyed, holder, payment, DoesPaymentFit, at_least_nothing}
+use Rattle.op_pool.proofs.Prelude.{ints, ltb-false, ℤ, pos, neg_ℤ, ◌+ℤ◌, ◌-ℤ◌, ◌≤ℤ◌, nat_lt, TrustLineEntry, EntryMap}
+use Rattle.op_pool.proofs.Prelude.{line_of, line_at, line_liabilities, greatest_i64, min_balance, available, room}
+use Rattle.op_pool.proofs.Prelude.{line_available, line_room, holder, payment, DoesPaymentFit, at_least_nothing}
 use Rattle.op_pool.proofs.Prelude.{is_short_of, account_has, line_has, has_at, account_takes, line_takes, most_taken}
-use Rattle.op_pool.proofs.Prelude.{paying, DoesFit, DoSumsFit, IsInRangeAt, share_key, with_change, map_with_shares}
+use Rattle.op_pool.proofs.Prelude.{paying, DoesFit, DoSumsFit, share_key, with_change, map_with_shares}
 use Rattle.op_pool.proofs.Prelude.{BalancesAreInRange, DoPaymentsFit, ArePoolsSound, int_lt_false}
+use Rattle.std.specs.FinMap.{get}
+use Rattle.ledger_types.specs.KeyOrder.{asset_cmp}
+use Rattle.entry_slots.specs.Accounts.{account_of, account_at}
+use Rattle.entry_slots.specs.AccountExtensions.{account_liabilities}
+use Rattle.trade_cross.specs.offer_exchange.Exchange.{unlimited}
+use Rattle.trade_cross.specs.legal_rules.Holdings.{IsKeyed}
+use Rattle.trade_cross.specs.Sides.{IsInRangeAt}
 use Rattle.std.specs.declared.cmp.Ordering.TheVariants.{Less}
 use Rattle.ledger_types.specs.declared.ids.AccountId.{AccountId}
 use Rattle.ledger_types.specs.declared.ids.Hash.{Hash}

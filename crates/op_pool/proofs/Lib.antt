@@ -2,4 +2,4 @@ pub mod Fitting
 pub mod Deposits
 pub mod Withdrawals
 pub use Rattle.pool_math.proofs as pool_math_proofs
-pub mod Prelude
+mod Prelude

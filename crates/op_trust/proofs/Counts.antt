@@ -1,14 +1,28 @@
 -- That what counts a line of shares can count one less where the line exists, and one more where no count is full.
-use Rattle.op_trust.proofs.Prelude as prelude
-use prelude.{◌≡◌, ◌≢◌, refl, sym, ap, subst, ◌∙◌, ℕ, Bool, true, false, if◌then◌else◌, not, ◌||◌, Option, Some, None}
-use prelude.{Ok, arith, ints, ℤ, pos, neg_ℤ, ◌≤ℤ◌, int_eq, is_eq, is_lt, get, LedgerEntry, asset_cmp, key_of, EntryMap}
-use prelude.{put, account_of, account_at, line_at, use_count, pool_of, pool_at, greatest_i64, map_after_adding}
-use prelude.{map_after_counting, sponsored_entry, with_more, open_sponsor, subentry_tests_at, IsReady}
-use prelude.{map_after_charging, with_subentry, with_more_paid, with_count_core, done_by, IsKeyed, needed_line}
-use prelude.{share_line, DoesCountFit, DoUsesFitAt, DoLinesFit, DoShareLinesFit, empty_pool, map_with_pool}
-use prelude.{map_with_pool_by, are_same_params, is_taken, is_pool_bad, is_used_fully, is_used_fully_at, is_held_fully}
-use prelude.{put_elsewhere, put_there, int_eq_true}
-use Rattle.std.specs.Prelude.{int_le}
+use Rattle.op_trust.proofs.Prelude.{◌≡◌, ◌≢◌, refl, sym, ap, subst, ◌∙◌, ℕ, Bool, true, false, if◌then◌else◌, not, ◌||◌}
+use Rattle.op_trust.proofs.Prelude.{Option, Some, None, Ok, arith, LedgerEntry, line_at, pool_of, pool_at}
+use Rattle.op_trust.proofs.Prelude.{map_after_adding, map_after_counting, sponsored_entry, open_sponsor}
+use Rattle.op_trust.proofs.Prelude.{subentry_tests_at, IsReady, needed_line, DoesCountFit, DoUsesFitAt, DoLinesFit}
+use Rattle.op_trust.proofs.Prelude.{DoShareLinesFit, empty_pool, map_with_pool, map_with_pool_by, are_same_params}
+use Rattle.op_trust.proofs.Prelude.{is_taken, is_pool_bad, is_used_fully, is_used_fully_at, is_held_fully}
+use Rattle.std.proofs.lemmas.Int.{ints}
+use Rattle.std.specs.Ordering.{int_eq, is_eq, is_lt}
+use Rattle.std.specs.FinMap.{get}
+use Rattle.ledger_types.specs.KeyOrder.{asset_cmp}
+use Rattle.ledger_types.specs.Keys.{key_of}
+use Rattle.entry_map.specs.EntryMap.{EntryMap, put}
+use Rattle.entry_slots.specs.Accounts.{account_of, account_at}
+use Rattle.entry_slots.specs.LineExtensions.{use_count}
+use Rattle.sponsor_rules.specs.reserve_rules.Reserve.{greatest_i64}
+use Rattle.sponsor_rules.specs.Counting.{with_more}
+use Rattle.sponsor_rules.specs.Paying.{map_after_charging, with_subentry, with_more_paid}
+use Rattle.sponsor_rules.proofs.Keeping.{with_count_core}
+use Rattle.trade_cross.proofs.sponsor_laws_proofs.Bounds.{done_by}
+use Rattle.trade_cross.specs.legal_rules.Holdings.{IsKeyed}
+use Rattle.trade_cross.specs.legal_rules.ShareLaws.{share_line}
+use Rattle.entry_map.proofs.Lookups.{put_elsewhere, put_there}
+use Rattle.ledger_types.proofs.Arithmetic.{int_eq_true}
+use Rattle.std.specs.Prelude.{int_le, ℤ, pos, neg_ℤ, ◌≤ℤ◌}
 use Rattle.ledger_types.specs.declared.ids.AccountId.{AccountId}
 use Rattle.ledger_types.specs.declared.ids.Hash.{Hash}
 use Rattle.ledger_types.specs.declared.asset.PoolParams.{PoolParams}

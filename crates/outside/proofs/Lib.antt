@@ -1,4 +1,4 @@
 pub mod Running
 pub mod MemDisk
 pub mod Crashed
-pub mod Prelude
+mod Prelude

@@ -1,3 +1,5 @@
+//! What a volume in memory counts of a call.
+
 /// A call on a volume in memory that counts a range, or a sync that was made.
 #[derive(Drop)]
 pub(crate) enum Call {

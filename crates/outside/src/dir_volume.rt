@@ -1,3 +1,5 @@
+//! A volume over four files of a directory.
+
 ghost use Rattle.std.specs.Prelude.{◌≡◌, ◌≤◌};
 ghost use Rattle.outside.specs.Disk.{untold};
 ghost use Rattle.outside.specs.Streams.{Rose};

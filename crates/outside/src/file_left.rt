@@ -1,3 +1,5 @@
+//! What a crash may leave of one file.
+
 ghost use Rattle.std.specs.Prelude.{◌≡◌, IfOk, OnOk};
 ghost use Rattle.outside.specs.MemDisk as spec;
 ghost use Rattle.outside.specs.MemDisk.{same_file, fill_calls};

@@ -1,3 +1,5 @@
+//! What the files of a volume in memory hold, and what a crash may leave of them.
+
 ghost use Rattle.std.specs.Prelude.{◌≡◌, ◌<◌, ◌≤◌, ◌≢◌, [], ◌∷◌, ◌++◌, ℕ, List, Bool, true, length, take, IfOk, OnOk};
 ghost use Rattle.std.specs.Prelude.{OnErr, IsTrue};
 ghost use Rattle.outside.specs.Disk.{Image, Runs, Same, InFile, Torn, Wrote, CutShort, IsSafe};

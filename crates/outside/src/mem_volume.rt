@@ -1,3 +1,5 @@
+//! A volume in memory, for tests.
+
 ghost use Rattle.std.specs.Prelude.{◌≡◌, ◌≢◌, ◌<◌, ◌≤◌, ◌+◌, ◌^◌, [], ℕ, List, length, take, drop, IfOk, OnOk, IsErr};
 ghost use Rattle.std.specs.Prelude.{Some, None};
 ghost use Rattle.outside.specs.Streams.{HasCause, Rose};

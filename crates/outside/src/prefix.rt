@@ -1,3 +1,5 @@
+//! Copying the prefix of a text.
+
 ghost use Rattle.std.specs.Prelude.{◌≡◌, min, length, take};
 
 // Copies as many bytes as both have from the start of `from` to the start of `to`, and says how many.

@@ -1,3 +1,5 @@
+//! Files that may lose power.
+
 ghost use Rattle.std.specs.Prelude.{◌≡◌, ◌≤◌, ◌<◌, ◌+◌, ◌^◌, ℕ, List, OnOk, IsErr, IfOk, length, take, drop};
 ghost use Rattle.outside.specs.Streams.{HasCause};
 ghost use Rattle.outside.specs.Disk.{Image, Disk, Runs, Same, Stays, InFile, Torn, Wrote, CutShort, IsSafe};

@@ -3,9 +3,11 @@ use Rattle.pool_shares.proofs.Prelude as prelude
 use prelude.{◌≡◌, ◌≢◌, refl, sym, ap, ◌∙◌, ℕ, Option, Some, None, ℤ, get, AccountId, Hash, TrustLineAsset, AccountEntry}
 use prelude.{TrustLineEntry, LiquidityPoolEntry, LedgerEntry, LedgerEntryBody, LedgerKey, key_of_body, EntryMap}
 use prelude.{with_account, with_account_in, with_account_of, sponsor_of, with_line, with_line_in, with_line_of}
-use prelude.{pool_slot_of, pool_slot_at, with_pool, with_pool_in, with_pool_of, with_less, map_after_releasing}
-use prelude.{without_subentry, with_less_paid, map_without_charge, map_after_removing_entry, map_after_removing}
-use prelude.{IsKeyed, paid, keyed_put, line_paid, paying, erase_elsewhere, put_elsewhere}
+use prelude.{pool_slot_of, pool_slot_at, with_pool, with_pool_in, with_pool_of, map_after_releasing, without_subentry}
+use prelude.{with_less_paid, map_without_charge, map_after_removing_entry, map_after_removing, IsKeyed, keyed_put}
+use prelude.{line_paid, paying, erase_elsewhere, put_elsewhere}
+use Rattle.sponsor_rules.specs.Counting.{with_less}
+use Rattle.trade_cross.specs.legal_rules.Payments.{paid}
 use Rattle.ledger_types.specs.declared.entry.LedgerEntryBody.TheVariants as body
 use Rattle.ledger_types.specs.declared.key.LedgerKey.TheVariants as key
 use Rattle.trade_cross.proofs.entry_sums_proofs.Lookups.{erase_each}

@@ -1,17 +1,19 @@
 -- The pools of an account among entries, by its lines in the order of keys.
-use Rattle.pool_shares.proofs.Prelude as prelude
-use prelude.{◌≡◌, ◌≢◌, refl, sym, ap, ◌∙◌, arith, Bool, true, false, ◌<◌, List, [], ◌∷◌, ◌++◌, append-nil, append_assoc}
-use prelude.{length, All, Option, Some, None, IfSome, cons_option, if◌then◌else◌, Less, Equal, Greater, ordering_then}
-use prelude.{get, entries, All-head, All-tail, AccountId, Hash, TrustLineAsset, LedgerEntry, LedgerEntryBody, LedgerKey}
-use prelude.{key_of, key_of_body, line_cmp, key_cmp, EntryMap, IsLeastAbove, IsNextAfter, is_same_account, same_account}
-use prelude.{AreKeyed, line_held, left, held_in, IsNextLine, IsAheadOfShares}
+use Rattle.pool_shares.proofs.Prelude.{◌≡◌, ◌≢◌, refl, sym, ap, ◌∙◌, arith, Bool, true, false, ◌<◌, List, [], ◌∷◌, ◌++◌}
+use Rattle.pool_shares.proofs.Prelude.{append-nil, append_assoc, length, All, Option, Some, None, IfSome, if◌then◌else◌}
+use Rattle.pool_shares.proofs.Prelude.{Less, Equal, Greater, ordering_then, get, entries, AccountId, Hash}
+use Rattle.pool_shares.proofs.Prelude.{TrustLineAsset, LedgerEntry, LedgerEntryBody, LedgerKey, key_of, key_of_body}
+use Rattle.pool_shares.proofs.Prelude.{line_cmp, key_cmp, EntryMap, IsLeastAbove, IsNextAfter, is_same_account}
+use Rattle.pool_shares.proofs.Prelude.{AreKeyed, line_held, left, held_in, IsNextLine, IsAheadOfShares}
+use Rattle.std.specs.List.{cons_option}
+use Rattle.std.proofs.lemmas.List.Elements.{All-head, All-tail}
 use Rattle.std.specs.Cmp.{tied_itself}
 use Rattle.std.proofs.lemmas.Cmp.{nat_list_cmp_total}
 use Rattle.ledger_types.specs.declared.asset.TrustLineAsset.TheVariants as line
 use Rattle.ledger_types.specs.declared.entry.LedgerEntryBody.TheVariants as body
 use Rattle.ledger_types.specs.declared.key.LedgerKey.TheVariants as key
 use Rattle.entry_map.specs.EntryMap.{IsKeyed}
-use Rattle.sponsor_rules.proofs.Ids.{is_itself}
+use Rattle.sponsor_rules.proofs.Ids.{is_itself, same_account}
 use Rattle.trade_cross.specs.offer_book.Sold.{above}
 use Rattle.trade_cross.proofs.offer_book_proofs.Above.{Pairs, skipped, taken, nothing_left, next_left}
 use Rattle.trade_cross.proofs.offer_book_proofs.Selling.{IsOwn, all_own}

@@ -10,4 +10,4 @@ pub mod Shared
 pub mod Loaded
 pub mod Parts
 pub use Rattle.pool_math.proofs.wide_math_proofs
-pub mod Prelude
+mod Prelude

@@ -71,7 +71,8 @@ module _ (p : LiquidityPoolEntry) (shares : ℤ) (low : pos 0 ≤ℤ shares) (wi
   all = unsigned_abs p.total_pool_shares
 
   fair : (reserve : ℤ) → IsFairWithdrawal (unsigned_abs reserve) all n (withdrawn (unsigned_abs reserve) all n)
-  fair reserve = withdrawn_fair (unsigned_abs reserve) all n (unsigned_abs_at_most shares p.total_pool_shares low within)
+  fair reserve = withdrawn_fair (unsigned_abs reserve) all n
+      (unsigned_abs_at_most shares p.total_pool_shares low within)
 
   abbrev left : LiquidityPoolEntry
   left = with_change (neg_ℤ (pos part.a)) (neg_ℤ (pos part.b)) (neg_ℤ shares) p
@@ -89,8 +90,10 @@ module _ (p : LiquidityPoolEntry) (shares : ℤ) (low : pos 0 ≤ℤ shares) (wi
   filled_by (inr less) (inl full) =
       let fewer = numbers_less shares p.total_pool_shares low less in
       inl (
-        sub_natural_positive p.reserve_a part.a low_a ((fair p.reserve_a).some_left fewer (number_full p.reserve_a full.0)),
-        sub_natural_positive p.reserve_b part.b low_b ((fair p.reserve_b).some_left fewer (number_full p.reserve_b full.1)),
+        sub_natural_positive p.reserve_a part.a low_a
+            ((fair p.reserve_a).some_left fewer (number_full p.reserve_a full.0)),
+        sub_natural_positive p.reserve_b part.b low_b
+            ((fair p.reserve_b).some_left fewer (number_full p.reserve_b full.1)),
         shares_less p.total_pool_shares shares less,
       )
   filled_by how (inr none) = inr (

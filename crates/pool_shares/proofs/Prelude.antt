@@ -1,32 +1,29 @@
 -- Names that several proofs of this crate use.
-use Rattle.trade_cross.proofs.Prelude as lower
-pub use lower.{All, All-head, All-tail, Bool, DoesFit, EntryMap, IsEntryLegal, IsFilledOrEmpty, IsKeyed, IsLegalOwing}
-pub use lower.{IsLineEntry, IsPoolEntry, IsPoolInRange, Kind, Leaves, List, None, Option, ShareLines, Shares, Some}
-pub use lower.{Undo, View, [], accounts_kept, ap, append-nil, append_assoc, arith, asset_cmp, cons_option}
-pub use lower.{discharged_kept, entries, erase, erase_elsewhere, erased_kept, false, get, holder, if◌then◌else◌}
-pub use lower.{in_aggregate, in_shares, inl, inr, ints, is_eq, is_key, is_same_account, keeps_both, key_cmp, key_of}
-pub use lower.{key_of_body, keyed_put, leaves_as, leaves_itself, legal_as, length, line_changed, line_entry, line_in}
-pub use lower.{line_kept, line_left, line_legal, line_liabilities, line_of, line_paid, map_after_discounting}
-pub use lower.{map_after_releasing, map_after_removing, map_after_removing_entry, minimum_not_below}
-pub use lower.{natural_nonnegative, neg_ℤ, none_more, nothing_owed, of_line, one_not_at_most_zero, paid, part, paying}
-pub use lower.{plus, pool_changed, pool_entry, pool_in, pool_of, pool_slot_at, pool_slot_of, pos, put, put_beside}
-pub use lower.{put_elsewhere, put_same, put_there, refl, rules, same_account, same_itself, sponsor_of, still_holds}
-pub use lower.{sub_natural_positive, subst, sym, true, under_key, unsigned_abs, with_account_in, with_account_of}
-pub use lower.{with_less, with_line_body, with_line_in, with_line_is, with_line_of, with_pool_body, with_pool_in}
-pub use lower.{with_pool_is, with_pool_of, without_subentry, ℕ, ℤ, ◌%◌, ◌++◌, ◌+ℤ◌, ◌-ℤ◌, ◌<ℤ◌, ◌<◌, ◌∙◌, ◌∷◌, ◌≡◌, ◌≢◌}
-pub use lower.{◌≤ℤ◌, ◌≤◌, ◌⊎◌}
-unfoldable pub use lower.{account_at, line_at, pool_at, total, with_account, with_line, with_pool}
-pub use Rattle.std.proofs.Common.{IfSome, of_z, to_z, w32, w64}
-pub use Rattle.std.proofs.lemmas.Int.{to_z-of_z}
-pub use Rattle.std.specs.Ordering.{ordering_then}
-pub use Rattle.std.specs.Prelude.{int_lt}
+pub use Rattle.std.proofs.Common.{All, Bool, IfSome, List, None, Option, Some, [], ap, append-nil, append_assoc, arith}
+pub use Rattle.std.proofs.Common.{false, inl, inr, length, of_z, refl, rules, subst, sym, to_z, true, w32, w64, ℕ, ◌%◌}
+pub use Rattle.std.proofs.Common.{◌++◌, ◌<◌, ◌∙◌, ◌∷◌, ◌≡◌, ◌≢◌, ◌≤◌, ◌⊎◌}
+pub use Rattle.std.proofs.lemmas.Int.{ints, to_z-of_z}
+pub use Rattle.std.specs.FinMap.{entries, get}
+pub use Rattle.std.specs.Ordering.{is_eq, ordering_then}
+pub use Rattle.std.specs.Prelude.{if◌then◌else◌, int_lt, neg_ℤ, pos, unsigned_abs, ℤ, ◌+ℤ◌, ◌-ℤ◌, ◌<ℤ◌, ◌≤ℤ◌}
 pub use Rattle.std.specs.declared.cmp.Ordering.TheVariants.{Equal, Greater, Less}
-pub use Rattle.entry_map.specs.EntryMap.{IsLeastAbove, IsNextAfter}
-pub use Rattle.entry_slots.specs.LineExtensions.{use_count}
-pub use Rattle.entry_slots.specs.Lines.{line_of_slot, line_slot_at, line_slot_by, line_slot_of}
+pub use Rattle.entry_map.proofs.Lookups.{erase_elsewhere, put_elsewhere, put_there}
+pub use Rattle.entry_map.specs.EntryMap.{EntryMap, IsLeastAbove, IsNextAfter, erase, put}
+pub use Rattle.entry_map.specs.Undo.{Undo}
+pub use Rattle.entry_slots.specs.Accounts.{with_account_in, with_account_of}
+unfoldable pub use Rattle.entry_slots.specs.Accounts.{account_at, with_account}
+pub use Rattle.entry_slots.specs.EntrySponsor.{sponsor_of}
+pub use Rattle.entry_slots.specs.LineExtensions.{line_liabilities, use_count}
+pub use Rattle.entry_slots.specs.Lines.{line_in, line_of, line_of_slot, line_slot_at, line_slot_by, line_slot_of}
+pub use Rattle.entry_slots.specs.Lines.{with_line_in, with_line_of}
+unfoldable pub use Rattle.entry_slots.specs.Lines.{line_at, with_line}
+pub use Rattle.entry_slots.specs.Pools.{pool_in, pool_of, pool_slot_at, pool_slot_of, with_pool_in, with_pool_of}
+unfoldable pub use Rattle.entry_slots.specs.Pools.{pool_at, with_pool}
 pub use Rattle.ledger_types.proofs.Arithmetic.{add_positive_first, add_positive_second, if_zeros, int_eq_true}
-pub use Rattle.ledger_types.proofs.Arithmetic.{natural_positive, sub_nonnegative, unsigned_abs_at_most}
-pub use Rattle.ledger_types.specs.KeyOrder.{line_cmp}
+pub use Rattle.ledger_types.proofs.Arithmetic.{natural_nonnegative, natural_positive, one_not_at_most_zero}
+pub use Rattle.ledger_types.proofs.Arithmetic.{sub_natural_positive, sub_nonnegative, unsigned_abs_at_most}
+pub use Rattle.ledger_types.specs.KeyOrder.{asset_cmp, key_cmp, line_cmp}
+pub use Rattle.ledger_types.specs.Keys.{key_of, key_of_body}
 pub use Rattle.ledger_types.specs.declared.account.AccountEntry.{AccountEntry}
 pub use Rattle.ledger_types.specs.declared.asset.Asset.{Asset}
 pub use Rattle.ledger_types.specs.declared.asset.PoolParams.{PoolParams}
@@ -42,19 +39,35 @@ pub use Rattle.pool_shares.specs.Fits.{DoLinesFit, DoShareLinesFit, DoUsesFit, D
 pub use Rattle.pool_shares.specs.Held.{IsAheadOfShares, IsNextLine, held_in, left, line_held}
 pub use Rattle.pool_shares.specs.ShareLines.{has_no_line, map_without_bare_pool, map_without_share_line}
 pub use Rattle.pool_shares.specs.Withdrawing.{Part, map_with_shares, part_of, share_key, with_change}
-pub use Rattle.sponsor_rules.specs.Paying.{with_less_paid}
+pub use Rattle.sponsor_rules.specs.Payers.{is_same_account}
+pub use Rattle.sponsor_rules.specs.Paying.{map_after_releasing, with_less_paid, without_subentry}
+pub use Rattle.sponsor_rules.specs.Removing.{map_after_discounting, map_after_removing, map_after_removing_entry}
 pub use Rattle.sponsor_rules.specs.Removing.{map_without_charge}
-pub use Rattle.trade_cross.proofs.legal_rules_proofs.Leaving.{keeps_then}
-pub use Rattle.trade_cross.proofs.legal_rules_proofs.LinesLeft.{IsLegalLine, line_named}
+pub use Rattle.trade_cross.proofs.legal_rules_proofs.Changed.{IsPoolEntry, line_changed, pool_changed, pool_entry}
+pub use Rattle.trade_cross.proofs.legal_rules_proofs.Changed.{with_pool_body, with_pool_is}
+pub use Rattle.trade_cross.proofs.legal_rules_proofs.ChargesLeft.{discharged_kept, erased_kept, put_beside}
+pub use Rattle.trade_cross.proofs.legal_rules_proofs.Holdings.{put_same, still_holds}
+pub use Rattle.trade_cross.proofs.legal_rules_proofs.Leaving.{Leaves, accounts_kept, keeps_both, keeps_then, keyed_put}
+pub use Rattle.trade_cross.proofs.legal_rules_proofs.Leaving.{leaves_as, leaves_itself}
+pub use Rattle.trade_cross.proofs.legal_rules_proofs.Liable.{IsLineEntry, line_entry, with_line_body, with_line_is}
+pub use Rattle.trade_cross.proofs.legal_rules_proofs.LinesLeft.{IsLegalLine, line_kept, line_left, line_legal}
+pub use Rattle.trade_cross.proofs.legal_rules_proofs.LinesLeft.{line_named}
 pub use Rattle.trade_cross.proofs.legal_rules_proofs.PoolsKept.{pool_erased}
 pub use Rattle.trade_cross.proofs.legal_rules_proofs.ShareLinesKept.{params_known, share_line_gone}
-pub use Rattle.trade_cross.specs.legal_rules.Aggregates.{Uses, counted, stated, stated_at}
-pub use Rattle.trade_cross.specs.legal_rules.EntryKeys.{for_key}
-pub use Rattle.trade_cross.specs.legal_rules.Holdings.{IsKeyed as AreKeyed}
+pub use Rattle.trade_cross.specs.Holdings.{line_paid, paying}
+pub use Rattle.trade_cross.specs.Locations.{DoesFit}
+pub use Rattle.trade_cross.specs.entry_sums.Sums.{part}
+unfoldable pub use Rattle.trade_cross.specs.entry_sums.Sums.{total}
+pub use Rattle.trade_cross.specs.legal_rules.Aggregates.{Kind, ShareLines, Shares, Uses, View, counted, stated}
+pub use Rattle.trade_cross.specs.legal_rules.Aggregates.{stated_at}
+pub use Rattle.trade_cross.specs.legal_rules.Bounds.{IsFilledOrEmpty}
+pub use Rattle.trade_cross.specs.legal_rules.EntryKeys.{for_key, is_key}
+pub use Rattle.trade_cross.specs.legal_rules.Holdings.{IsKeyed, IsKeyed as AreKeyed, none_more, under_key}
 pub use Rattle.trade_cross.specs.legal_rules.Legal.{pools_in, view}
-pub use Rattle.trade_cross.specs.legal_rules.Owing.{AreEntriesLegal}
+pub use Rattle.trade_cross.specs.legal_rules.Owing.{AreEntriesLegal, IsEntryLegal, IsLegalOwing, in_aggregate}
+pub use Rattle.trade_cross.specs.legal_rules.Owing.{nothing_owed, plus}
 pub use Rattle.trade_cross.specs.legal_rules.PoolShares.{Pools, needed_line, pool_named, share_lines, shares_in, uses}
 pub use Rattle.trade_cross.specs.legal_rules.PoolShares.{uses_by, uses_of}
 pub use Rattle.trade_cross.specs.legal_rules.ShareLaws.{map_with_lines, map_with_share_lines, map_with_uses}
 pub use Rattle.trade_cross.specs.legal_rules.ShareLaws.{map_with_uses_at, with_lines, with_uses}
-pub use Rattle.trade_cross.specs.legal_rules.Supply.{held}
+pub use Rattle.trade_cross.specs.legal_rules.Supply.{held, of_line}

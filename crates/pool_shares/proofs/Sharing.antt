@@ -3,14 +3,15 @@ use Rattle.pool_shares.proofs.Prelude as prelude
 use prelude.{◌≡◌, refl, ap, subst, ◌∙◌, ℕ, ◌%◌, Bool, true, false, Some, arith, ints, ℤ, pos, ◌+ℤ◌, ◌-ℤ◌, ◌≤ℤ◌}
 use prelude.{if◌then◌else◌, is_eq, AccountId, Hash, Asset, TrustLineAsset, TrustLineEntry, LiquidityPoolEntry}
 use prelude.{LedgerKey, asset_cmp, EntryMap, line_liabilities, line_at, pool_of, pool_at, with_pool, IsFilledOrEmpty}
-use prelude.{Kind, Shares, ShareLines, View, in_shares, is_key, IsKeyed, none_more, under_key, nothing_owed}
-use prelude.{in_aggregate, plus, IsEntryLegal, IsLegalOwing, IsPoolInRange, of_line, line_changed, pool_changed, Leaves}
-use prelude.{leaves_as, keeps_then, IsLegalLine, line_left, line_legal, legal_as, line_paid, paying, share_key}
-use prelude.{with_change, map_with_shares, if_zeros}
+use prelude.{Kind, Shares, ShareLines, View, is_key, IsKeyed, none_more, under_key, nothing_owed, in_aggregate, plus}
+use prelude.{IsEntryLegal, IsLegalOwing, of_line, line_changed, pool_changed, Leaves, leaves_as, keeps_then}
+use prelude.{IsLegalLine, line_left, line_legal, line_paid, paying, share_key, with_change, map_with_shares, if_zeros}
+use Rattle.trade_cross.specs.legal_rules.ChangeLaws.{in_shares}
+use Rattle.trade_cross.proofs.legal_rules_proofs.Steps.{legal_as}
 use Rattle.ledger_types.specs.declared.asset.TrustLineAsset.TheVariants as line
 use Rattle.ledger_types.specs.declared.entry.LedgerEntryBody.TheVariants as body
 use Rattle.ledger_types.specs.declared.key.LedgerKey.TheVariants as key
-use Rattle.trade_cross.specs.legal_rules.Ranges.{AreLineFlags, IsTrustLineInRange}
+use Rattle.trade_cross.specs.legal_rules.Ranges.{AreLineFlags, IsTrustLineInRange, IsPoolInRange}
 pub use Rattle.trade_cross.proofs.PoolsLeft.{both_of}
 use Rattle.trade_cross.proofs.PoolsLeft.{pool_left as pool_rises}
 use Rattle.pool_shares.proofs.Beside.{paying_beside, paying_keyed}

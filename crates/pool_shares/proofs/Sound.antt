@@ -2,12 +2,14 @@
 use Rattle.pool_shares.proofs.Prelude as prelude
 use prelude.{◌≡◌, ◌≢◌, refl, sym, ap, subst, ◌∙◌, ℕ, Option, Some, None, arith, ints, ℤ, pos, neg_ℤ, ◌+ℤ◌, ◌≤ℤ◌}
 use prelude.{if◌then◌else◌, get, Less, Equal, AccountId, Hash, PoolParams, TrustLineAsset, TrustLineEntry}
-use prelude.{LiquidityPoolEntry, LedgerEntry, LedgerEntryBody, LedgerKey, asset_cmp, EntryMap, same_itself, use_count}
-use prelude.{line_in, line_of, line_at, pool_in, pool_of, pool_at, total, Kind, Shares, ShareLines, Uses, View, counted}
-use prelude.{stated, stated_at, for_key, view, nothing_owed, IsLegalOwing, pool_named, needed_line, shares_in}
-use prelude.{share_lines, uses, uses_by, uses_of, held, pool_entry, minimum_not_below, IsLineEntry, line_entry}
-use prelude.{IsLegalLine, line_legal, params_known, DoUsesFitAt, DoShareLinesFit, add_positive_first}
-use prelude.{add_positive_second, natural_nonnegative, natural_positive, one_not_at_most_zero}
+use prelude.{LiquidityPoolEntry, LedgerEntry, LedgerEntryBody, LedgerKey, asset_cmp, EntryMap, use_count, line_in}
+use prelude.{line_of, line_at, pool_in, pool_of, pool_at, total, Kind, Shares, ShareLines, Uses, View, counted, stated}
+use prelude.{stated_at, for_key, view, nothing_owed, IsLegalOwing, pool_named, needed_line, shares_in, share_lines}
+use prelude.{uses, uses_by, uses_of, held, pool_entry, IsLineEntry, line_entry, IsLegalLine, line_legal, params_known}
+use prelude.{DoUsesFitAt, DoShareLinesFit, add_positive_first, add_positive_second, natural_nonnegative}
+use prelude.{natural_positive, one_not_at_most_zero}
+use Rattle.entry_map.proofs.KeyMaps.{same_itself}
+use Rattle.trade_cross.proofs.legal_rules_proofs.Covered.{minimum_not_below}
 use Rattle.ledger_types.specs.declared.asset.Asset.TheVariants as asset
 use Rattle.ledger_types.specs.declared.asset.TrustLineAsset.TheVariants as line
 use Rattle.ledger_types.specs.declared.entry.LedgerEntryBody.TheVariants as body

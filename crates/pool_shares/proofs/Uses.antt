@@ -2,8 +2,9 @@
 use Rattle.pool_shares.proofs.Prelude.{◌≡◌, ◌≢◌, refl, sym, ap, subst, ◌∙◌, Option, Some, None, ℤ, if◌then◌else◌, get}
 use Rattle.pool_shares.proofs.Prelude.{AccountId, Hash, Asset, PoolParams, TrustLineAsset, LedgerKey, EntryMap, line_of}
 use Rattle.pool_shares.proofs.Prelude.{line_at, pool_of, pool_at, is_same_account, map_after_removing, IsKeyed}
-use Rattle.pool_shares.proofs.Prelude.{with_uses, map_with_uses_at, map_with_uses, holder, DoUsesFitAt, DoUsesFit}
-use Rattle.pool_shares.proofs.Prelude.{DoLinesFit, DoShareLinesFit}
+use Rattle.pool_shares.proofs.Prelude.{with_uses, map_with_uses_at, map_with_uses, DoUsesFitAt, DoUsesFit, DoLinesFit}
+use Rattle.pool_shares.proofs.Prelude.{DoShareLinesFit}
+use Rattle.trade_cross.specs.legal_rules.Trades.{holder}
 use Rattle.std.specs.Prelude.{Bool, true, false}
 use Rattle.ledger_types.specs.declared.asset.Asset.TheVariants as asset
 use Rattle.ledger_types.specs.declared.asset.TrustLineAsset.TheVariants as line

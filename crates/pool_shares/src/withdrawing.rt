@@ -1,4 +1,4 @@
-//! Shares that an account takes and gives back, with the amounts that go with them.
+//! What shares of a pool are worth, and storing a change of an account's shares with the pool's reserves.
 
 ghost use Rattle.std.specs.Prelude.{◌≡◌, ◌+ℤ◌, ◌≤ℤ◌, pos, Some, OnOk};
 ghost use Rattle.ledger_types.specs.declared.asset.TrustLineAsset.TheVariants.{PoolShare};

@@ -1,6 +1,6 @@
 -- Rows: whether an account or a line has an extension once nothing, something, and nothing again is recorded in it.
 use Rattle.probe.proofs.Prelude.{◌≡◌, refl, Bool, true, false, [], ◌∷◌, Option, Some, None, pos, with_liabilities_in}
-use Rattle.probe.proofs.Prelude.{with_line_liabilities_in, with_use_count_in}
+use Rattle.entry_slots.specs.LineExtensions.{with_line_liabilities_in, with_use_count_in}
 use Rattle.ledger_types.specs.declared.price.Liabilities.{Liabilities}
 
 abbrev nothing : Liabilities

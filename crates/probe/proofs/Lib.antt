@@ -3,4 +3,4 @@ pub mod Empty
 mod Extensions
 pub mod Plain
 mod Sparing
-pub mod Prelude
+mod Prelude

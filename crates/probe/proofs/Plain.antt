@@ -1,9 +1,13 @@
 -- Ledgers without pools: an entry that is put into one, and that their pools are sound.
-use Rattle.probe.proofs.Prelude.{◌≡◌, refl, sym, ap, ◌∙◌, ℕ, ◌+◌, ◌≤◌, Some, arith, ints, none-some, pos, ◌+ℤ◌, ◌≤ℤ◌}
+use Rattle.probe.proofs.Prelude.{◌≡◌, refl, sym, ap, ◌∙◌, ℕ, ◌+◌, ◌≤◌, Some, arith, none-some, pos, ◌+ℤ◌, ◌≤ℤ◌}
 use Rattle.probe.proofs.Prelude.{AccountId, AccountEntry, TrustLineAsset, TrustLineEntry, LedgerEntry, key_of_body}
 use Rattle.probe.proofs.Prelude.{EntryMap, put, num_sponsored, num_sponsoring, account_in, account_at, line_in, line_at}
-use Rattle.probe.proofs.Prelude.{pool_in, pool_at, put_each, min_balance, pool_named, IsPlain, IsPlainLine}
-use Rattle.probe.proofs.Prelude.{IsPlainUnder, IsPlainLedger}
+use Rattle.probe.proofs.Prelude.{IsPlain, IsPlainLine, IsPlainUnder, IsPlainLedger}
+use Rattle.std.proofs.lemmas.Int.{ints}
+use Rattle.entry_slots.specs.Pools.{pool_in, pool_at}
+use Rattle.entry_sums.proofs.Lookups.{put_each}
+use Rattle.reserve_rules.specs.Reserve.{min_balance}
+use Rattle.legal_rules.specs.PoolShares.{pool_named}
 use Rattle.ledger_types.specs.declared.ids.Hash.{Hash}
 use Rattle.ledger_types.specs.declared.asset.TrustLineAsset.TheVariants as line
 use Rattle.ledger_types.specs.declared.liquidity_pool.LiquidityPoolEntry.{LiquidityPoolEntry}

@@ -1,17 +1,20 @@
 -- Names that several proofs of this crate use.
-use Rattle.legal_rules.proofs.Prelude as lower
-pub use lower.{Bool, EntryMap, None, Option, Some, [], account_in, account_of, ap, arith, cases_eq, cond, eq_by_cmp}
-pub use lower.{false, get, get-empty, if◌then◌else◌, inl, inr, ints, key_cmp, key_of, key_of_body, length, line_in}
-pub use lower.{line_of, map, min_balance, num_sponsored, num_sponsoring, pool_in, pool_named, pos, put, put_each, refl}
-pub use lower.{subst, suc, sym, true, with_liabilities_in, with_line_liabilities_in, with_use_count_in, zero, ℕ, ◌+ℤ◌}
-pub use lower.{◌+◌, ◌<◌, ◌∙◌, ◌∷◌, ◌≡◌, ◌≢◌, ◌≤ℤ◌, ◌≤◌, ◌⊎◌}
-unfoldable pub use lower.{account_at, line_at, pool_at}
-pub use Rattle.std.proofs.Common.{rules, vec_len}
+pub use Rattle.std.proofs.Common.{Bool, None, Option, Some, [], ap, arith, cond, false, inl, inr, length, map, refl}
+pub use Rattle.std.proofs.Common.{rules, subst, suc, sym, true, vec_len, zero, ℕ, ◌+◌, ◌<◌, ◌∙◌, ◌∷◌, ◌≡◌, ◌≢◌, ◌≤◌}
+pub use Rattle.std.proofs.Common.{◌⊎◌}
 pub use Rattle.std.proofs.lemmas.Option.{none-some}
-pub use Rattle.std.specs.FinMap.{from_entries, get-insert}
-pub use Rattle.std.specs.Prelude.{not, ◌&&◌}
+pub use Rattle.std.specs.FinMap.{from_entries, get, get-empty, get-insert}
+pub use Rattle.std.specs.Prelude.{if◌then◌else◌, not, pos, ◌&&◌, ◌+ℤ◌, ◌≤ℤ◌}
+pub use Rattle.entry_map.specs.EntryMap.{EntryMap, put}
+pub use Rattle.entry_slots.specs.AccountExtensions.{num_sponsored, num_sponsoring, with_liabilities_in}
+pub use Rattle.entry_slots.specs.Accounts.{account_in, account_of}
+unfoldable pub use Rattle.entry_slots.specs.Accounts.{account_at}
 pub use Rattle.entry_slots.specs.Balances.{balance_in, balance_of}
 unfoldable pub use Rattle.entry_slots.specs.Balances.{balance_at}
+pub use Rattle.entry_slots.specs.Lines.{line_in, line_of}
+unfoldable pub use Rattle.entry_slots.specs.Lines.{line_at}
+pub use Rattle.ledger_types.specs.KeyOrder.{key_cmp}
+pub use Rattle.ledger_types.specs.Keys.{key_of, key_of_body}
 pub use Rattle.ledger_types.specs.declared.account.AccountEntry.{AccountEntry}
 pub use Rattle.ledger_types.specs.declared.asset.TrustLineAsset.{TrustLineAsset}
 pub use Rattle.ledger_types.specs.declared.claimable_balance.ClaimableBalanceEntry.{ClaimableBalanceEntry}

@@ -1,6 +1,7 @@
 -- What a ready outcome spares.
 use Rattle.probe.proofs.Prelude.{◌≡◌, ◌≢◌, ℕ, zero, suc, ◌+◌, ◌<◌, ◌≤◌, Bool, true, false, inl, inr, length, refl, sym}
-use Rattle.probe.proofs.Prelude.{ap, subst, ◌∙◌, arith, cases_eq, not, ◌&&◌, if◌then◌else◌}
+use Rattle.probe.proofs.Prelude.{ap, subst, ◌∙◌, arith, not, ◌&&◌, if◌then◌else◌}
+use Rattle.std.proofs.lemmas.Bool.{cases_eq}
 use Rattle.std.proofs.lemmas.List.{get_or-set_same, get_or-set_other}
 use Rattle.bucket_core.specs.Bucket.{Contents}
 use Rattle.bucket_core.specs.File.{count_of}

@@ -1,10 +1,15 @@
 -- Where the parts of an image are in its text.
-use Rattle.record_stream.proofs.Prelude as prelude
-use prelude.{◌≡◌, ℕ, zero, suc, ◌+◌, ◌-◌, ◌≤◌, ◌<◌, pos, List, [], ◌∷◌, ◌++◌, length, take, drop, map, Ok, Err, refl}
-use prelude.{sym, ap, subst, ◌∙◌, append_assoc, arith, get_or, Fits, w8, slice_set, Fits-lt-pow, le-ltb, length-append}
-use prelude.{length-drop, drop-drop, get_or-drop, map-append, Position, Reading, start_of, IsBytes, Takes, u64}
-use prelude.{bytes_at, mark, mark_word, Xdr, tag, big_bytes, file, all_files, start_image, Span, Layout, piece}
-use prelude.{IsWithin, AreWithin, image_in, IsIn, IsPassed, IsLayout, IsTaken, drop_at, take_at}
+use Rattle.record_stream.proofs.Prelude.{◌≡◌, ℕ, zero, suc, ◌+◌, ◌-◌, ◌≤◌, ◌<◌, pos, List, [], ◌∷◌, ◌++◌, length, take}
+use Rattle.record_stream.proofs.Prelude.{drop, map, Ok, Err, refl, sym, ap, subst, ◌∙◌, append_assoc, arith, get_or}
+use Rattle.record_stream.proofs.Prelude.{Fits, w8, slice_set, length-append, length-drop, drop-drop, get_or-drop}
+use Rattle.record_stream.proofs.Prelude.{map-append, Position, Reading, start_of, u64, bytes_at, mark, mark_word, file}
+use Rattle.record_stream.proofs.Prelude.{all_files, start_image, Span, Layout, piece, IsWithin, AreWithin, image_in}
+use Rattle.record_stream.proofs.Prelude.{IsIn, IsPassed, IsLayout, IsTaken, drop_at, take_at}
+use Rattle.std.proofs.Math.Facts.{Fits-lt-pow}
+use Rattle.std.proofs.lemmas.Bool.{le-ltb}
+use Rattle.xdr_core.specs.Format.{IsBytes, Takes}
+use Rattle.xdr_core.specs.Xdr.{Xdr, tag}
+use Rattle.byteorder.specs.Endian.{big_bytes}
 use Rattle.std.proofs.lemmas.List.Elements.{All-nil, All-cons, All-append}
 use Rattle.xdr_core.specs.declared.fault.XdrFault.{XdrFault}
 use Rattle.xdr_core.proofs.Steps.{Takes-then}
@@ -108,7 +113,8 @@ pub prefix_header : (text : List ℕ) (p0 p q : Position) (v : List ℕ) (at : �
     → magic.read p0 ≡ Ok (tt, p) → (mark 16777216).read p ≡ Ok (v, q) → at ≡ q.at
     → HeaderPassed text p q (length v) at
 prefix_header text p0 p q v at prefix fits first second here =
-    header_passed text p q v (length v) at (magic_passed text p0 p (subst (IsIn text) (sym prefix) (at_prefix text fits))
+    header_passed text p q v (length v) at
+    (magic_passed text p0 p (subst (IsIn text) (sym prefix) (at_prefix text fits))
     first) second refl here
 
 -- ---- all files
@@ -131,7 +137,8 @@ none_so_far text p h = record {
     nothing (Ok x) = refl
     nothing (Err wrong) = refl
 
-pub one_passed : (text : List ℕ) (count room : ℕ) (p now after : Position) (spans : List Span) (span : Span) → count < 22
+pub one_passed : (text : List ℕ) (count room : ℕ) (p now after : Position) (spans : List Span) (span : Span)
+    → count < 22
     → AreSoFar text count room p now spans → IsPassed text (file room) now after span
     → AreSoFar text (count + 1) (room - span.len) p after (spans ++ span ∷ [])
 one_passed text count room p now after spans span below so_far one =

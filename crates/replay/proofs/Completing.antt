@@ -30,7 +30,8 @@ runs_of vol P h words passphrase bytes input out err end ran command reported =
 answered_to : (passphrase bytes : List ℕ) (input out err : Seen) (end : Status)
     → DidCatchUp passphrase input out err end → input.before ≡ Some bytes → AnsweredTo passphrase bytes out end
 answered_to passphrase bytes input out err end did reported =
-    subst (λ (before : Option (List ℕ)). IfSome before (λ given. AnsweredTo passphrase given out end)) reported did.answered
+    subst (λ (before : Option (List ℕ)). IfSome before (λ given. AnsweredTo passphrase given out end)) reported
+    did.answered
 
 -- ---- the other side
 
@@ -67,7 +68,8 @@ answered_own passphrase bytes input out err end o did (text, h, inr (short, f)) 
 
 pub catchups_answered : Catchups IsAnswered
 catchups_answered passphrase bytes input out err end did reported o is =
-    answered_own passphrase bytes input out err end o did (answered_to passphrase bytes input out err end did reported) is
+    answered_own passphrase bytes input out err end o did
+    (answered_to passphrase bytes input out err end did reported) is
 
 pub runs_answered : (vol : SeenVolume) → Runs vol IsAnswered
 runs_answered vol = runs_of vol IsAnswered catchups_answered

@@ -76,7 +76,8 @@ short_prefix : (prefix text : List ℕ) → IsUnbroken text → IsPrefix prefix 
 short_prefix prefix text h (n, le, e) less =
     let small : n ≤ length text =
     omega (arith, less, ap length e, length-take-le n (ended_line text) le, length-append text (10 ∷ [])) in
-    ap closed_count (e ∙ take-append-le n text (10 ∷ []) small) ∙ count_unbroken (take n text) (prefix_unbroken n text h)
+    ap closed_count (e ∙ take-append-le n text (10 ∷ []) small)
+    ∙ count_unbroken (take n text) (prefix_unbroken n text h)
 
 pub poor_line : (text : List ℕ) → IsUnbroken text → closed_in text ≡ 0 → IsPoor (ended_line text)
 poor_line text h is prefix f = elim (complete_or_less prefix (ended_line text) f) [
@@ -188,7 +189,8 @@ counts_close c =
     (closed_counts c.state.header c.results)
 
 -- a prefix that isn't all of them has none
-pub poor_close : (c : PreparedClose) (prefix : List ℕ) → IsPrefix prefix (lines_of c) → length prefix < length (lines_of c)
+pub poor_close : (c : PreparedClose) (prefix : List ℕ) → IsPrefix prefix (lines_of c)
+    → length prefix < length (lines_of c)
     → closed_count prefix ≡ 0
 unfolding closed_lines
 poor_close c prefix f less =

@@ -315,7 +315,8 @@ module _ (network : Hash) (input : Seen) (vol : SeenVolume) where
   broken image rule i judged =
       reported_prefix input.before input.now i.given (λ bytes. IsBadImage network bytes rule) i.gave
       (λ others reported. subst (λ (t : List ℕ). IsBadImage network t rule)
-      (sym (ap (λ (t : List ℕ). i.given ++ t) (nothing_after_end input.now others i.ended reported) ∙ append-nil i.given))
+      (sym (ap (λ (t : List ℕ). i.given ++ t) (nothing_after_end input.now others i.ended reported)
+      ∙ append-nil i.given))
       (image, i.are, judged))
 
   unjudged_made : vol.same → (image : StartImage) (end : Status) → IsInput image input

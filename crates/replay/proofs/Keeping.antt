@@ -167,7 +167,8 @@ kept_written s bytes c next out old mid new (Some end) closes same safe opens ru
 abbrev Written : (out : Seen) (text : List ℕ) (entire end : Status) → Type 0
 Written out text entire end = (prefix : List ℕ) × Received out prefix × IsWritten text entire prefix end
 
-wrote_prefix : (out : Seen) (text : List ℕ) (entire end : Status) → Wrote out text entire end → Written out text entire end
+wrote_prefix : (out : Seen) (text : List ℕ) (entire end : Status) → Wrote out text entire end
+    → Written out text entire end
 wrote_prefix out text entire end (inl (e, h)) = (text, h, inl (e, refl))
 wrote_prefix out text entire end (inr (inl (e, failed, (n, le, h)))) = (take n text, h, inr (inl (e, (n, le, refl))))
 wrote_prefix out text entire end (inr (inr (e, h))) = ([], h, inr (inr (e, refl)))
@@ -261,7 +262,8 @@ unkept_end : (s : ClosingState) (bytes others text : List ℕ) (out : Seen) (old
     → length bytes ≤ max_record_len → text ≡ framed bytes ++ others → IsSafe old → OpensTo old.reads s
     → (u : IsUnkept s bytes out old new end) → Keeps s text u.prefix old new end
 unkept_end s bytes others text out old new end fits cut safe opens u =
-    untouched s text u.prefix old new end safe opens u.runs (unkept_unbroken s bytes out old new end u) (elim u.nothing [
+    untouched s text u.prefix old new end safe opens u.runs (unkept_unbroken s bytes out old new end u)
+    (elim u.nothing [
       | inl empty ↦ inr empty.1
       | inr refused ↦ inl (refused_closes_nothing s bytes others text refused.0 fits cut refused.1)
     ])
@@ -579,7 +581,8 @@ gone_on old new input out g now out_now faults out_faults before mid after end s
       (λ (t : List ℕ). Answers old.state (record { at = old.at; rest = t }) (lines_of g.closed ++ k.prefix) end)
       (sym (text_after old.ahead g.given (framed g.bytes) new.ahead k.given g.cut))
       (gone_answers old.state old.at new.at g.bytes g.closed (new.ahead ++ k.given) k.prefix end g.short g.closes g.at
-      (subst (λ (x : ClosingState). Answers x (record { at = new.at; rest = new.ahead ++ k.given }) k.prefix end) g.state
+      (subst (λ (x : ClosingState). Answers x (record { at = new.at; rest = new.ahead ++ k.given }) k.prefix end)
+      g.state
       k.answers));
   keeps = subst (λ (t : List ℕ). Keeps old.state t (lines_of g.closed ++ k.prefix) before after end)
       (sym (text_after old.ahead g.given (framed g.bytes) new.ahead k.given g.cut))

@@ -38,4 +38,4 @@ pub use Rattle.worker_merges.proofs.entry_table_proofs
 pub use Rattle.worker_merges.proofs.image_rules_proofs
 pub use Rattle.worker_merges.proofs.ledger_close_proofs
 pub use Rattle.xdr_core.proofs as xdr_core_proofs
-pub mod Prelude
+mod Prelude

@@ -1,8 +1,9 @@
 -- What the machine keeps, whatever happens.
 use Rattle.replay.proofs.Prelude.{◌≡◌, ◌⊎◌, inl, inr, ℕ, zero, suc, ◌+◌, ◌≤◌, ◌<◌, List, [], ◌∷◌, ◌++◌, length, Some}
-use Rattle.replay.proofs.Prelude.{Ok, IsSome, refl, sym, ap, subst, ◌∙◌, arith, append_assoc, slice_get, cases_eq}
-use Rattle.replay.proofs.Prelude.{cases_lt, ext_get_or, length-append, ClosingState, max_file_total, PreparedClose}
-use Rattle.replay.proofs.Prelude.{IsClosed, ClosesWith, IsClose, AreClosedTo}
+use Rattle.replay.proofs.Prelude.{Ok, IsSome, refl, sym, ap, subst, ◌∙◌, arith, append_assoc, slice_get, ext_get_or}
+use Rattle.replay.proofs.Prelude.{length-append, ClosingState, max_file_total, PreparedClose, IsClosed, ClosesWith}
+use Rattle.replay.proofs.Prelude.{IsClose, AreClosedTo}
+use Rattle.std.proofs.lemmas.Bool.{cases_eq, cases_lt}
 use Rattle.std.proofs.lemmas.List.{append-nil}
 use Rattle.std.proofs.lemmas.Option.{none-some, same_Some}
 use Rattle.stored_outcome.specs.bucket_core.Bucket.{Contents}
@@ -66,9 +67,15 @@ may_go m may index count some (inl x) e =
     elim (index_of_two (length m.log) (length m.log + 1) index count
     (subst (λ (l : List ℕ). slice_get l index ≡ Some count) x.1 e)) [ inl is ↦ inl is | inr is ↦ inr (is, some) ]
 may_go m may index count some (inr (inl x)) e =
-    inr (index_of_one (length m.log + 1) index count (subst (λ (l : List ℕ). slice_get l index ≡ Some count) x.1 e), some)
+    inr (
+      index_of_one (length m.log + 1) index count (subst (λ (l : List ℕ). slice_get l index ≡ Some count) x.1 e),
+      some,
+    )
 may_go m may index count some (inr (inr x)) e =
-    inr (index_of_one (length m.log + 1) index count (subst (λ (l : List ℕ). slice_get l index ≡ Some count) x.1 e), some)
+    inr (
+      index_of_one (length m.log + 1) index count (subst (λ (l : List ℕ). slice_get l index ≡ Some count) x.1 e),
+      some,
+    )
 
 write_kept : (s : ClosingState) (old new : Machine) → IsWrite old new → IsSound s old → IsSound s new
 write_kept s old new (inl same) sound = subst (IsSound s) (sym same) sound
@@ -156,7 +163,8 @@ install_kept s old new i sound =
       accepted = λ bytes e. absurd (none-some bytes (sym i.free ∙ e));
       acked = omega (arith, i.acked);
       may = λ index count e.
-          inl (index_of_one (length new.log) index count (subst (λ (l : List ℕ). slice_get l index ≡ Some count) i.may e));
+          inl (index_of_one (length new.log) index count
+          (subst (λ (l : List ℕ). slice_get l index ≡ Some count) i.may e));
     }
 
 -- ---- merges
@@ -260,7 +268,8 @@ first_sound s m count first = record {
       });
   accepted = λ bytes e. absurd (none-some bytes (sym first.free ∙ e));
   acked = omega (arith, first.acked);
-  may = λ index count e. inl (index_of_one 0 index count (subst (λ (l : List ℕ). slice_get l index ≡ Some count) first.may e)
+  may = λ index count e. inl
+      (index_of_one 0 index count (subst (λ (l : List ℕ). slice_get l index ≡ Some count) first.may e)
       ∙ sym (ap (λ (l : List (List ℕ)). length l) first.log));
 }
 

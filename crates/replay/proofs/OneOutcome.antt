@@ -110,7 +110,8 @@ pub prefixes_are_of_outcomes : PrefixesAreOfOutcomes
 prefixes_are_of_outcomes passphrase input prefix o f h =
     output_prefix (network_id_of passphrase) (start_image.read (start_of input)) prefix o f h
 
-received_prefix : (out : Seen) (prefix text : List ℕ) → IsPrefix prefix text → Received out prefix → ReceivedPrefix out text
+received_prefix : (out : Seen) (prefix text : List ℕ) → IsPrefix prefix text → Received out prefix
+    → ReceivedPrefix out text
 received_prefix out prefix text (n, le, e) h = (n, le, subst (Appends out.before out.now) e h)
 
 pub outputs_are_prefixes : OutputsArePrefixes

@@ -130,7 +130,8 @@ one_refused s (x ∷ prefix) bytes others lines now wrong (y ∷ prefix') bytes'
     let first : y ≡ x = cc in
     let rest : prefix ++ bytes ∷ others ≡ prefix' ++ bytes' ∷ others' = cc in
     let closed : a'.0 ≡ a.0 = same_close s x a'.0 a.0 (subst (λ w. IsClose s w (Ok a'.0)) first a'.2) a.2 in
-    let tails = one_refused a.0.state prefix bytes others a.1 now wrong prefix' bytes' others' a'.1 now' wrong' rest a.3 b
+    let tails = one_refused a.0.state prefix bytes others a.1 now wrong prefix' bytes' others' a'.1 now' wrong' rest a.3
+    b
     (subst (λ (t : PreparedClose). AreClosed t.state prefix' a'.1 now') closed a'.3) b' in
     λ i. sym first i ∷ tails i
 

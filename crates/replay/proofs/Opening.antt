@@ -91,7 +91,8 @@ IsOff before err vol end =
 missing_end : (err : Seen) (vol : SeenVolume) (end : Status) → HoldsNothing vol.before.reads → Unopened vol end
     → IsOff status.Missing err vol end
 missing_end err vol status.Missing none u = inl refl
-missing_end err vol (status.BadStore file offset) none u = absurd (missing_not_bad vol.before.reads file offset none u.0)
+missing_end err vol (status.BadStore file offset) none u =
+    absurd (missing_not_bad vol.before.reads file offset none u.0)
 missing_end err vol status.NoMemory none u = inr (inr (inr refl))
 missing_end err vol status.DiskFault none u = inr (inl (refl, u))
 missing_end err vol status.Done none u = absurd u

@@ -1,39 +1,41 @@
 -- Names that several proofs of this crate use.
-use Rattle.image_store.proofs.Prelude as lower
-pub use lower.{All-cons, Bool, Disk, Err, Holds, HoldsEither, HoldsNothing, Image, IsBytes, IsCreated, IsImage, IsSafe}
-pub use lower.{IsSettled, Kept, List, None, Ok, Option, Position, Reading, Result, Runs, Same, Some, StoreState, [], ap}
-pub use lower.{arith, big_bytes, big_number, block, blocks, cases_eq, cases_lt, drop, drop_at, end_by, false}
-pub use lower.{first_kept, grown, if◌then◌else◌, image_end, inl, inr, length, nat_lt, nil_from_length, onward, pos}
-pub use lower.{refl, rolled, rules, slice_index, start_image_laws, start_of, subst, suc, sym, take, take-append_seam}
-pub use lower.{take_all, take_at, true, widened, zero, ℕ, ◌++◌, ◌+◌, ◌-◌, ◌<◌, ◌^◌, ◌∙◌, ◌∷◌, ◌≡◌, ◌≤◌, ◌⊎◌}
-unfoldable pub use lower.{start_image}
-pub use Rattle.std.proofs.Common.{IfSome, IsSome, add-one, add-zero, add_assoc, append-nil, append_assoc, get_or}
-pub use Rattle.std.proofs.Common.{ne_eqb, zero-add, ◌%◌, ◌*◌, ◌/◌}
+pub use Rattle.std.proofs.Common.{Bool, Err, IfSome, IsSome, List, None, Ok, Option, Result, Some, [], add-one}
+pub use Rattle.std.proofs.Common.{add-zero, add_assoc, ap, append-nil, append_assoc, arith, drop, false, get_or, inl}
+pub use Rattle.std.proofs.Common.{inr, length, ne_eqb, refl, rules, subst, suc, sym, take, true, zero, zero-add, ℕ, ◌%◌}
+pub use Rattle.std.proofs.Common.{◌*◌, ◌++◌, ◌+◌, ◌-◌, ◌/◌, ◌<◌, ◌^◌, ◌∙◌, ◌∷◌, ◌≡◌, ◌≤◌, ◌⊎◌}
 pub use Rattle.std.proofs.KnownBytes.{Appends-nil, Appends-trans, Consumes-nil, Consumes-trans}
-pub use Rattle.std.proofs.Math.Seq.{take-append-add, take-length, take-suc}
+pub use Rattle.std.proofs.Math.Seq.{take-append-add, take-append_seam, take-length, take-suc}
 pub use Rattle.std.proofs.lemmas.Bool.Decides.{leb_tells}
-pub use Rattle.std.proofs.lemmas.List.{ext_get_or, length-append, length-take-le, take-append-drop, take-append-le}
-pub use Rattle.std.proofs.lemmas.List.Elements.{All-head, All-same, All-tail}
+pub use Rattle.std.proofs.lemmas.List.{drop_at, ext_get_or, length-append, length-take-le, nil_from_length}
+pub use Rattle.std.proofs.lemmas.List.{take-append-drop, take-append-le, take_all, take_at}
+pub use Rattle.std.proofs.lemmas.List.Elements.{All-cons, All-head, All-same, All-tail}
 pub use Rattle.std.proofs.lemmas.List.Sums.{sum_by-append, sum_by-cons}
 pub use Rattle.std.proofs.lemmas.Result.{err_from_is_err_and}
 pub use Rattle.std.specs.Fmt.{decimal, digit_glyph, digits_onto, signed_decimal}
 unfoldable pub use Rattle.std.specs.Fmt.{digits}
 pub use Rattle.std.specs.Io.KnownBytes.{Appends, Consumes, IsAtEnd}
 pub use Rattle.std.specs.List.{flat_map}
-pub use Rattle.std.specs.Prelude.{All, IsNone, MatchOption, MatchResult, codes, cond, count_by, map, nat_eq, negsuc}
-pub use Rattle.std.specs.Prelude.{slice_get, ℤ, ◌≢◌}
+pub use Rattle.std.specs.Prelude.{All, IsNone, MatchOption, MatchResult, codes, cond, count_by, if◌then◌else◌, map}
+pub use Rattle.std.specs.Prelude.{nat_eq, nat_lt, negsuc, pos, slice_get, slice_index, ℤ, ◌≢◌}
+pub use Rattle.byteorder.specs.Endian.{big_bytes, big_number}
 pub use Rattle.command_words.proofs.OneCommand.{commands_are_one}
 pub use Rattle.command_words.specs.Words.{CatchUp, Command, Parses, ParsesNone, words_of}
 pub use Rattle.hash_ids.specs.Ids.{network_id_of}
 pub use Rattle.image_store.proofs.OneOpening.{images_same, openings_are_one}
-pub use Rattle.image_store.specs.Calls.{Creates, IsCreateFault, IsRollFault}
-pub use Rattle.image_store.specs.Opening.{HoldsNoStore}
+pub use Rattle.image_store.specs.Calls.{Creates, HoldsEither, IsCreateFault, IsCreated, IsRollFault, IsSettled}
+pub use Rattle.image_store.specs.Calls.{first_kept}
+pub use Rattle.image_store.specs.ImageFiles.{IsImage}
+pub use Rattle.image_store.specs.Opening.{Holds, HoldsNoStore, HoldsNothing, Kept, grown, rolled}
+pub use Rattle.image_store.specs.State.{StoreState}
+pub use Rattle.image_store.specs.gate_journal.Records.{block, blocks}
 pub use Rattle.image_store.specs.gate_journal.declared.fault.StoreFault.{StoreFault}
 pub use Rattle.ledger_types.specs.declared.header.LedgerHeader.{LedgerHeader}
 pub use Rattle.ledger_types.specs.declared.ids.Hash.{Hash}
+pub use Rattle.outside.proofs.Running.{onward, widened}
+pub use Rattle.outside.specs.Disk.{Disk, Image, IsSafe, Runs, Same}
 pub use Rattle.record_stream.proofs.Layouts.{bytes_of}
 pub use Rattle.record_stream.specs.Filling.{Grown}
-pub use Rattle.record_stream.specs.Measured.{record_end}
+pub use Rattle.record_stream.specs.Measured.{end_by, image_end, record_end}
 pub use Rattle.record_stream.specs.Piece.{IsPiece, IsShort}
 pub use Rattle.record_stream.specs.declared.piece.PieceFault.{PieceFault}
 pub use Rattle.replay.specs.ClosingAgain.{AreClosedTo, IsRefusedAt}
@@ -104,10 +106,12 @@ pub use Rattle.worker_merges.specs.WorkerSlots.{HasEnded}
 pub use Rattle.worker_merges.specs.ledger_close.Answers.{FaultIs}
 pub use Rattle.xdr_core.proofs.FormatLaws.{faults_located, mark_laws}
 pub use Rattle.xdr_core.proofs.Numbers.{wide4}
+pub use Rattle.xdr_core.specs.Format.{IsBytes}
 pub use Rattle.xdr_core.specs.Leaves.{bounded, bytes_at, mark_len, mark_word, number_at}
 unfoldable pub use Rattle.xdr_core.specs.Leaves.{mark}
-pub use Rattle.xdr_core.specs.Position.{fault_at, short_at, ◌>>=◌}
+pub use Rattle.xdr_core.specs.Position.{Position, Reading, fault_at, short_at, start_of, ◌>>=◌}
 pub use Rattle.xdr_core.specs.declared.fault.XdrFault.{XdrFault}
 pub use Rattle.xdr_core.specs.declared.fault.XdrKind.{XdrKind}
 pub use Rattle.xdr_core.specs.declared.fault.XdrKind.TheVariants.{BadMark, Short, TooLong}
+unfoldable pub use Rattle.xdr_header.specs.Image.{start_image}
 pub use Rattle.xdr_header.specs.declared.image.StartImage.{StartImage}

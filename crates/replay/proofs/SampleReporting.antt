@@ -117,9 +117,12 @@ did_sample seed ledgers out err (status.BadInput at) after s reported =
     reported_or_refused seed ledgers out err (status.BadInput at) s after reported
 did_sample seed ledgers out err (status.BadImage rule) after s reported =
     reported_or_refused seed ledgers out err (status.BadImage rule) s after reported
-did_sample seed ledgers out err status.Done after s reported = reported_as seed ledgers out err status.Done s after reported
-did_sample seed ledgers out err status.Usage after s reported = reported_as seed ledgers out err status.Usage s after reported
-did_sample seed ledgers out err status.Refused after s reported = reported_as seed ledgers out err status.Refused s after reported
+did_sample seed ledgers out err status.Done after s reported =
+    reported_as seed ledgers out err status.Done s after reported
+did_sample seed ledgers out err status.Usage after s reported =
+    reported_as seed ledgers out err status.Usage s after reported
+did_sample seed ledgers out err status.Refused after s reported =
+    reported_as seed ledgers out err status.Refused s after reported
 did_sample seed ledgers out err status.ReadFault after s reported =
     reported_as seed ledgers out err status.ReadFault s after reported
 did_sample seed ledgers out err status.WriteFault after s reported =
@@ -128,6 +131,7 @@ did_sample seed ledgers out err status.DiskFault after s reported =
     reported_as seed ledgers out err status.DiskFault s after reported
 did_sample seed ledgers out err status.NoMemory after s reported =
     reported_as seed ledgers out err status.NoMemory s after reported
-did_sample seed ledgers out err status.Missing after s reported = reported_as seed ledgers out err status.Missing s after reported
+did_sample seed ledgers out err status.Missing after s reported =
+    reported_as seed ledgers out err status.Missing s after reported
 did_sample seed ledgers out err status.AlreadyThere after s reported =
     reported_as seed ledgers out err status.AlreadyThere s after reported

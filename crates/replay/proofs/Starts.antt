@@ -3,11 +3,12 @@ use Rattle.replay.proofs.Prelude.{◌≡◌, ℕ, ◌^◌, ◌<◌, ◌≤◌, L
 use Rattle.replay.proofs.Prelude.{Result, Ok, Err, refl, sym, ap, subst, ◌∙◌, append_assoc, append-nil, zero-add, arith}
 use Rattle.replay.proofs.Prelude.{inl, inr, Consumes, IsAtEnd, Consumes-trans, Seen, Failed, Received, Grown, end_by}
 use Rattle.replay.proofs.Prelude.{image_end, IsShort, Hash, XdrFault, Short, Position, Reading, start_of, IsBytes}
-use Rattle.replay.proofs.Prelude.{faults_located, StartImage, start_image, start_image_laws, network_id_of, ImageFault}
-use Rattle.replay.proofs.Prelude.{ClosingState, IsJudged, Status, IsCutShort, IsRecordsEnd, IsCatchUpEnd, silent, IsRun}
-use Rattle.replay.proofs.Prelude.{IsStarted, IsOutcomeOf, IsOutcome, AreLinesOf, IsRunPrefix, IsOutputPrefixOf}
-use Rattle.replay.proofs.Prelude.{IsOutputPrefix, Answered, AnsweredTo, AnsweredFrom, Followed, Cut, CaughtUp, IsFaulty}
-use Rattle.replay.proofs.Prelude.{GaveNoImage, IsUncut, IsUnstarted, IsJudgedSo, StartsAt, drop_at}
+use Rattle.replay.proofs.Prelude.{faults_located, StartImage, start_image, network_id_of, ImageFault, ClosingState}
+use Rattle.replay.proofs.Prelude.{IsJudged, Status, IsCutShort, IsRecordsEnd, IsCatchUpEnd, silent, IsRun, IsStarted}
+use Rattle.replay.proofs.Prelude.{IsOutcomeOf, IsOutcome, AreLinesOf, IsRunPrefix, IsOutputPrefixOf, IsOutputPrefix}
+use Rattle.replay.proofs.Prelude.{Answered, AnsweredTo, AnsweredFrom, Followed, Cut, CaughtUp, IsFaulty, GaveNoImage}
+use Rattle.replay.proofs.Prelude.{IsUncut, IsUnstarted, IsJudgedSo, StartsAt, drop_at}
+use Rattle.xdr_header.proofs.ImageLaws.{start_image_laws}
 use Rattle.record_stream.specs.Layouts.{IsTaken}
 use Rattle.stored_outcome.specs.close_rules.declared.image_fault.ImageFault.TheVariants as image_fault
 use Rattle.stored_outcome.specs.run_outcome.declared.status.Status.TheVariants as status
@@ -203,7 +204,8 @@ judged_end : (passphrase : List ℕ) (image : StartImage) (at : ℕ) (ahead : Li
 judged_end passphrase image at ahead input end judged c is started out h =
     silent_end passphrase input out end h (reported_prefix input.before input.now (c.prefix ++ ahead)
     (λ bytes. IsOutcome passphrase bytes (silent end)) c.gave
-    (λ others reported. subst (λ (r : Reading XdrFault StartImage). IsOutcomeOf (network_id_of passphrase) r (silent end))
+    (λ others reported. subst (λ (r : Reading XdrFault StartImage). IsOutcomeOf (network_id_of passphrase) r
+    (silent end))
     (sym (prefix_reading image at ahead others input c))
     (judged, is, started (record { at = at; rest = ahead ++ others }))))
 

@@ -182,13 +182,20 @@ reported_so input out err vol (status.BadImage rule) after b reported =
     refused_as input out err vol (status.BadImage rule) after b
     (record { ahead = λ may. absurd may; failed = λ failed. absurd failed; unbroken = λ un. tt }) reported
 reported_so input out err vol status.Done after b reported = reported_as input out err vol status.Done after b reported
-reported_so input out err vol status.Usage after b reported = reported_as input out err vol status.Usage after b reported
-reported_so input out err vol status.Refused after b reported = reported_as input out err vol status.Refused after b reported
-reported_so input out err vol status.ReadFault after b reported = reported_as input out err vol status.ReadFault after b reported
-reported_so input out err vol status.WriteFault after b reported = reported_as input out err vol status.WriteFault after b reported
-reported_so input out err vol status.DiskFault after b reported = reported_as input out err vol status.DiskFault after b reported
-reported_so input out err vol status.NoMemory after b reported = reported_as input out err vol status.NoMemory after b reported
-reported_so input out err vol status.Missing after b reported = reported_as input out err vol status.Missing after b reported
+reported_so input out err vol status.Usage after b reported =
+    reported_as input out err vol status.Usage after b reported
+reported_so input out err vol status.Refused after b reported =
+    reported_as input out err vol status.Refused after b reported
+reported_so input out err vol status.ReadFault after b reported =
+    reported_as input out err vol status.ReadFault after b reported
+reported_so input out err vol status.WriteFault after b reported =
+    reported_as input out err vol status.WriteFault after b reported
+reported_so input out err vol status.DiskFault after b reported =
+    reported_as input out err vol status.DiskFault after b reported
+reported_so input out err vol status.NoMemory after b reported =
+    reported_as input out err vol status.NoMemory after b reported
+reported_so input out err vol status.Missing after b reported =
+    reported_as input out err vol status.Missing after b reported
 reported_so input out err vol status.AlreadyThere after b reported =
     reported_as input out err vol status.AlreadyThere after b reported
 

@@ -277,7 +277,8 @@ mark_stays : (new others : List ℕ) (now : Option (List ℕ)) (wrong : XdrFault
     → read_mark (start_of new) ≡ Err wrong → (wrong.kind ≡ kind.Short → IsAtEnd now) → now ≡ Some others
     → read_mark (start_of (new ++ others)) ≡ Err wrong
 mark_stays new others now wrong fits e at_end reported = elim (short_or_not wrong.kind) [
-  | inl short ↦ ap (λ (t : List ℕ). read_mark (start_of (new ++ t))) (nothing_after_end now others (at_end short) reported)
+  | inl short ↦ ap (λ (t : List ℕ). read_mark (start_of (new ++ t)))
+      (nothing_after_end now others (at_end short) reported)
       ∙ ap (λ (t : List ℕ). read_mark (start_of t)) (append-nil new) ∙ e
   | inr other ↦ (faults_located (mark_laws max_record_len (omega arith))).stays (start_of new) wrong others fits e other
 ]
@@ -302,7 +303,8 @@ bad_mark s at ahead new input out F wrong grown fits measured at_end some h =
     let e = end_err (read_mark (start_of new)) wrong measured in
     stopped s at ahead input out F (status.BadInput (at + wrong.at)) last
     (reported_prefix input.before input.now grown.given (λ bytes. IsEnd s at (ahead ++ bytes) last) grown.gave
-    (λ others reported. subst (λ (t : List ℕ). IsEnd s at t last) (sym (text_of ahead new grown.given others grown.grown))
+    (λ others reported. subst (λ (t : List ℕ). IsEnd s at t last)
+    (sym (text_of ahead new grown.given others grown.grown))
     (bad_end s at (new ++ others) wrong (omega (arith, some, length-append new others))
     (mark_stays new others input.now wrong fits e at_end reported))))
     (inl (refl, h)) (λ d. absurd cc)
@@ -385,7 +387,8 @@ cut_end out F status.Missing h = absurd h
 cut_end out F status.AlreadyThere h = absurd h
 
 -- a record closes the ledger, and a prefix of its lines was written
-pub cut_answer : (s : ClosingState) (bytes : List ℕ) (c : PreparedClose) (at : ℕ) (others prefix : List ℕ) (end : Status)
+pub cut_answer : (s : ClosingState) (bytes : List ℕ) (c : PreparedClose) (at : ℕ) (others prefix : List ℕ)
+    (end : Status)
     → length bytes ≤ max_record_len → IsClose s bytes (Ok c) → IsCutShort end → IsPrefix prefix (lines_of c)
     → AnswerFrom s at (framed bytes ++ others) prefix end
 cut_answer s bytes c at others prefix end fits closes short f = inr (

@@ -32,7 +32,8 @@ PrefixesAreOfOutcomes = (passphrase input prefix : List ℕ) (o : Outcome) → I
 
 -- each prefix of what records after a state yield is one of the outcome's text
 abbrev pub PrefixesAreOfRuns : Type 0
-PrefixesAreOfRuns = (s : ClosingState) (p : Position) (prefix : List ℕ) (o : Outcome) → IsRunPrefix s p prefix → IsRun s p o
+PrefixesAreOfRuns = (s : ClosingState) (p : Position) (prefix : List ℕ) (o : Outcome) → IsRunPrefix s p prefix
+    → IsRun s p o
     → IsPrefix prefix o.text
 
 -- at every end the output has received a prefix of the outcome's text

@@ -121,7 +121,8 @@ fn serve_beside<R: Threads + Wait + Sync, G: Gate, V: Volume, I: Source, O: Sink
         &mut || -> Served
             requires side { spec.HasSide room.now workers side.now }
             requires works { opened.now.keeper.store.failed ≡ false }
-            requires ready { V.reports → Ready (IsStored opened.now.keeper.store (V.disk vol.now) opened.now.ledger.state)
+            requires ready { V.reports
+                → Ready (IsStored opened.now.keeper.store (V.disk vol.now) opened.now.ledger.state)
                 (V.disk vol.now) opened.now.ledger.state }
             ensures side { IsSideEndOf room.entry.now workers result.side }
             ensures followed { DidFollow (Unit {0}) opened.entry.now.ledger.state 0 []

@@ -46,7 +46,8 @@ fn write_close<K: Keeper, V: Volume, O: Sink>(
     out: &mut O,
 ) -> Option<Status>
     requires works { K.works keeper.old }
-    requires ready { K.stores → V.reports → Ready (K.keeps keeper.old (V.disk vol.old) ledger.now.state) (V.disk vol.old)
+    requires ready { K.stores → V.reports
+        → Ready (K.keeps keeper.old (V.disk vol.old) ledger.now.state) (V.disk vol.old)
         ledger.now.state }
     ensures reported { WroteClose text.now (seen O.taken O.faults out.old out.new)
         (DiskFailed K.stores (V.faults vol.old) (V.faults vol.new)) result }
@@ -86,7 +87,8 @@ fn take_close<C: Crew, K: Keeper, V: Volume, O: Sink>(
     requires closes { IsClose ledger.old.state bytes.now (Ok prepared) }
     requires crew { C.has crew.now side.old }
     requires works { K.works keeper.old }
-    requires ready { K.stores → V.reports → Ready (K.keeps keeper.old (V.disk vol.old) ledger.old.state) (V.disk vol.old)
+    requires ready { K.stores → V.reports
+        → Ready (K.keeps keeper.old (V.disk vol.old) ledger.old.state) (V.disk vol.old)
         ledger.old.state }
     ensures closes { Closes ledger.old.state bytes.now ledger.new.state (seen O.taken O.faults out.old out.new)
         (DiskFailed K.stores (V.faults vol.old) (V.faults vol.new)) result }
@@ -146,7 +148,8 @@ fn close_record<C: Crew, K: Keeper, V: Volume, O: Sink, L: Count>(
     requires short { length text.now ≤ 16777216 }
     requires crew { C.has crew.now side.old }
     requires works { K.works keeper.old }
-    requires ready { K.stores → V.reports → Ready (K.keeps keeper.old (V.disk vol.old) ledger.old.state) (V.disk vol.old)
+    requires ready { K.stores → V.reports
+        → Ready (K.keeps keeper.old (V.disk vol.old) ledger.old.state) (V.disk vol.old)
         ledger.old.state }
     ensures closes { Closes ledger.old.state text.now ledger.new.state (seen O.taken O.faults out.old out.new)
         (DiskFailed K.stores (V.faults vol.old) (V.faults vol.new)) result }
@@ -182,7 +185,8 @@ fn pass_record<C: Crew, K: Keeper, V: Volume, O: Sink, L: Count>(
     requires ends { record_end ahead.old.items ≡ Ok end }
     requires crew { C.has crew.now side.old }
     requires works { K.works keeper.old }
-    requires ready { K.stores → V.reports → Ready (K.keeps keeper.old (V.disk vol.old) ledger.old.state) (V.disk vol.old)
+    requires ready { K.stores → V.reports
+        → Ready (K.keeps keeper.old (V.disk vol.old) ledger.old.state) (V.disk vol.old)
         ledger.old.state }
     ensures passes { Passes ledger.old.state ahead.old.items end ledger.new.state
         (seen O.taken O.faults out.old out.new) (DiskFailed K.stores (V.faults vol.old) (V.faults vol.new)) result }
@@ -248,7 +252,8 @@ fn turn<C: Crew, K: Keeper, V: Volume, I: Source, O: Sink, L: Count>(
     requires offset { at.old ≤ (ledger.old.state.header.ledger_seq + 1) * 2 ^ 64 }
     requires crew { C.has crew.now side.old }
     requires works { K.works keeper.old }
-    requires ready { K.stores → V.reports → Ready (K.keeps keeper.old (V.disk vol.old) ledger.old.state) (V.disk vol.old)
+    requires ready { K.stores → V.reports
+        → Ready (K.keeps keeper.old (V.disk vol.old) ledger.old.state) (V.disk vol.old)
         ledger.old.state }
     ensures turned { Turned (record { state = ledger.old.state; at = at.old; ahead = ahead.old.items })
         (record { state = ledger.new.state; at = at.new; ahead = ahead.new.items })
@@ -294,7 +299,8 @@ pub(crate) fn follow<C: Crew, K: Keeper, V: Volume, I: Source, O: Sink, L: Count
     requires offset { start ≤ 2 ^ 64 }
     requires crew { C.has crew.now side.old }
     requires works { K.works keeper.old }
-    requires ready { K.stores → V.reports → Ready (K.keeps keeper.old (V.disk vol.old) ledger.old.state) (V.disk vol.old)
+    requires ready { K.stores → V.reports
+        → Ready (K.keeps keeper.old (V.disk vol.old) ledger.old.state) (V.disk vol.old)
         ledger.old.state }
     ensures followed { Followed ledger.old.state start ahead.old.items (seen I.left I.faults input.old input.new)
         (seen O.taken O.faults out.old out.new) (DiskFailed K.stores (V.faults vol.old) (V.faults vol.new)) result }

@@ -87,7 +87,8 @@ pub(crate) fn open<V: Volume, L: Count>(
     steps: &mut Steps<L>,
 ) -> Result<Opened, Status>
     ensures works { IfOk result (λ o. o.keeper.store.failed ≡ false) }
-    ensures opens { V.reports → spec.OpensSo (λ o. spec.IsOpened o.records o.ledger.state o.keeper.store (V.disk vol.new))
+    ensures opens { V.reports
+        → spec.OpensSo (λ o. spec.IsOpened o.records o.ledger.state o.keeper.store (V.disk vol.new))
         (V.disk vol.old).reads (V.disk vol.new).reads result }
     ensures runs { Runs Same (V.disk vol.old) (V.disk vol.new) }
     ensures later { V.faults vol.old ≤ V.faults vol.new }

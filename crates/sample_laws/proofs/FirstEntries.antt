@@ -1,11 +1,12 @@
 -- What is in the map of the first accounts: the entries that are made from their numbers, and their lumens.
-use Rattle.sample_laws.proofs.Prelude.{◌≡◌, ◌≢◌, ℕ, zero, suc, ◌+◌, ◌*◌, ◌<◌, ◌≤◌, cond, List, [], ◌∷◌, ◌++◌, length}
-use Rattle.sample_laws.proofs.Prelude.{map, take, get_or, Option, Some, None, ℤ, pos, ◌+ℤ◌, refl, sym, ap, subst, ◌∙◌}
-use Rattle.sample_laws.proofs.Prelude.{arith, ints, length-take-le, AllByRecursion, range_with_len, Less, Equal}
-use Rattle.sample_laws.proofs.Prelude.{Greater, is_eq, codes, get, get-from_entries, find, sha256, length-sha256}
-use Rattle.sample_laws.proofs.Prelude.{LedgerEntry, LedgerKey, key_of, key_cmp, keys_total, keys_exact, EntryMap, put}
-use Rattle.sample_laws.proofs.Prelude.{account_at, account_of, HasAccount, sample_text, key_bytes, account_id}
-use Rattle.sample_laws.proofs.Prelude.{account_entry, ledger_entry, keyed_entry, entries_of, first_entries}
+use Rattle.sample_laws.proofs.Prelude as prelude
+use prelude.{◌≡◌, ◌≢◌, ℕ, zero, suc, ◌+◌, ◌*◌, ◌<◌, ◌≤◌, cond, List, [], ◌∷◌, ◌++◌, length, map, take, get_or, Option}
+use prelude.{Some, None, ℤ, pos, ◌+ℤ◌, refl, sym, ap, subst, ◌∙◌, arith, ints, AllByRecursion, range_with_len, Less}
+use prelude.{Equal, Greater, is_eq, codes, get, get-from_entries, find, length-sha256, LedgerEntry, LedgerKey, key_of}
+use prelude.{key_cmp, keys_total, keys_exact, EntryMap, put, account_at, account_of, HasAccount, sample_text, key_bytes}
+use prelude.{account_id, account_entry, ledger_entry, keyed_entry, entries_of, first_entries}
+use Rattle.std.proofs.lemmas.List.{length-take-le}
+use Rattle.sha2.specs.Sha256.{sha256}
 use Rattle.sample_ledger.specs.ledger_types.declared.asset.Asset.TheVariants as asset
 use Rattle.sample_ledger.specs.ledger_types.declared.key.LedgerKey.TheVariants as key
 use Rattle.legal_rules.specs.entry_sums.Sums.{EachEntry, part, total}

@@ -1,13 +1,14 @@
 -- The first file is that of a bucket, and short.
-use Rattle.sample_laws.proofs.Prelude.{◌≡◌, ℕ, zero, suc, ◌-◌, ◌*◌, ◌<◌, ◌≤◌, List, [], ◌∷◌, ◌++◌, length, map}
-use Rattle.sample_laws.proofs.Prelude.{replicate, Some, None, refl, sym, ap, subst, ◌∙◌, arith, add-one, length-append}
-use Rattle.sample_laws.proofs.Prelude.{AllByRecursion, flat_map, Less, Equal, Greater, entries, by_order, AccountId}
-use Rattle.sample_laws.proofs.Prelude.{LedgerEntry, account_cmp, changed, IsEncodable, HasFile, file_of, empty_pair}
-use Rattle.sample_laws.proofs.Prelude.{account_id, ledger_entry, changes_of, first_bucket, levels_with, as_change}
-use Rattle.sample_laws.proofs.Prelude.{item_encodable, item_record_short, meta_record_short}
+use Rattle.sample_laws.proofs.Prelude as prelude
+use prelude.{◌≡◌, ℕ, zero, suc, ◌-◌, ◌*◌, ◌<◌, ◌≤◌, List, [], ◌∷◌, ◌++◌, length, map, replicate, Some, None, refl, sym}
+use prelude.{ap, subst, ◌∙◌, arith, add-one, length-append, AllByRecursion, flat_map, Less, Equal, Greater, entries}
+use prelude.{by_order, AccountId, LedgerEntry, account_cmp, HasFile, file_of, empty_pair, account_id, ledger_entry}
+use prelude.{changes_of, first_bucket, levels_with, item_encodable, item_record_short, meta_record_short}
+use Rattle.sample_ledger.specs.shared_tree.Rows.{changed}
+use Rattle.sample_ledger.specs.Rows.{as_change}
 use Rattle.std.proofs.lemmas.List.Sums.{sum_by-cons}
 use Rattle.sample_ledger.specs.ledger_types.declared.bucket.BucketEntry.TheVariants as item
-use Rattle.account_laws.specs.bucket_items.MarkedItem.{record_of}
+use Rattle.account_laws.specs.bucket_items.MarkedItem.{record_of, IsEncodable}
 use Rattle.sample_ledger.specs.bucket_levels.Size.{file_total, pair_size}
 use Rattle.sample_ledger.proofs.Rows.{Row, init_record, next_row, no_changes, has_file, file_is}
 

@@ -1,8 +1,9 @@
 -- A ledger closes from the first state of a sample, and the image represents it.
 use Rattle.sample_laws.proofs.Prelude.{◌≡◌, ℕ, [], ◌∷◌, pos, refl, arith, ints, All-from_recursion, length-sha256}
-use Rattle.sample_laws.proofs.Prelude.{key_of, ledger_header, IsPlainAccount, PlainStatesAreLegal, HasFile, Pair}
-use Rattle.sample_laws.proofs.Prelude.{empty_pair, IsEncoded, IsClosingState, first_bucket, first_header, first_image}
-use Rattle.sample_laws.proofs.Prelude.{levels_with, first_entries, first_state, FirstStatesClose, entry_short}
+use Rattle.sample_laws.proofs.Prelude.{key_of, IsPlainAccount, PlainStatesAreLegal, HasFile, Pair, empty_pair}
+use Rattle.sample_laws.proofs.Prelude.{IsEncoded, IsClosingState, first_bucket, first_header, first_image, levels_with}
+use Rattle.sample_laws.proofs.Prelude.{first_entries, first_state, FirstStatesClose, entry_short}
+use Rattle.sample_ledger.specs.xdr_header.Header.{ledger_header}
 use Rattle.account_laws.specs.entry_changes.Encodable.{AreEncodable, IsEntryEncodable}
 use Rattle.legal_rules.specs.Headers.{IsHeaderInRange}
 use Rattle.legal_rules.specs.Legal.{IsLegal}

@@ -1,10 +1,10 @@
 -- The next record of a sample closes its ledger, or is refused since the files would be too long.
-use Rattle.sample_laws.proofs.Prelude.{◌≡◌, ℕ, zero, suc, ◌+◌, ◌*◌, ◌<◌, ◌≤◌, ◌^◌, List, [], Some, None, Result, Ok}
-use Rattle.sample_laws.proofs.Prelude.{Err, refl, sym, ap, subst, ◌∙◌, arith, append-nil, LedgerHeader, close_record}
-use Rattle.sample_laws.proofs.Prelude.{ClosingState, IsClosingState, IsEncoded, ended, record_in, record_fault}
-use Rattle.sample_laws.proofs.Prelude.{ClosesKeepAccounts, MergesNone, account_id, record_of, Progress, HaveClosed}
-use Rattle.sample_laws.proofs.Prelude.{record_bytes, FirstStatesClose, RecordsAreWritten, IsAcceptedOrFull, SamplesGoOn}
-use Rattle.sample_laws.proofs.Prelude.{SamplesClose, first_state}
+use Rattle.sample_laws.proofs.Prelude as prelude
+use prelude.{◌≡◌, ℕ, zero, suc, ◌+◌, ◌*◌, ◌<◌, ◌≤◌, ◌^◌, List, [], Some, None, Result, Ok, Err, refl, sym, ap, subst}
+use prelude.{◌∙◌, arith, append-nil, LedgerHeader, ClosingState, IsClosingState, IsEncoded, ended, record_in}
+use prelude.{record_fault, ClosesKeepAccounts, MergesNone, account_id, record_of, Progress, HaveClosed, record_bytes}
+use prelude.{FirstStatesClose, RecordsAreWritten, IsAcceptedOrFull, SamplesGoOn, SamplesClose, first_state}
+use Rattle.sample_ledger.specs.xdr_header.Records.{close_record}
 use Rattle.legal_rules.specs.xdr_core.declared.fault.XdrFault.{XdrFault}
 use Rattle.legal_rules.specs.xdr_core.Position.{start_of, ◌>>=◌}
 use Rattle.sample_ledger.specs.xdr_header.declared.record.CloseRecord.{CloseRecord}

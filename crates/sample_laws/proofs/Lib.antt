@@ -6,4 +6,4 @@ pub mod FirstStates
 pub mod MergesNone
 pub mod Unrefused
 pub mod GoingOn
-pub mod Prelude
+mod Prelude

@@ -2,7 +2,8 @@
 use Rattle.sample_laws.proofs.Prelude.{◌≡◌, ℕ, zero, suc, ◌+◌, false, List, [], ◌∷◌, map, refl, ◌==◌, ◌||◌, ◌&&◌}
 use Rattle.sample_laws.proofs.Prelude.{All-from_recursion, nat_le, ◌%◌, All, AllByRecursion, range_with_len}
 use Rattle.sample_laws.proofs.Prelude.{LedgerHeader, TransactionEnvelope, is_merge, MergesNone, issuer_turn, drawn_turn}
-use Rattle.sample_laws.proofs.Prelude.{issuer_operations, other_operation, envelope_of, is_claim, if_either}
+use Rattle.sample_laws.proofs.Prelude.{issuer_operations, other_operation, envelope_of, is_claim}
+use Rattle.sample_ledger.proofs.ledger_types_proofs.Booleans.{if_either}
 use Rattle.sample_ledger.specs.op_types.declared.operation.Operation.{Operation}
 use Rattle.sample_ledger.specs.op_types.declared.operation.OperationBody.{OperationBody}
 use Rattle.account_laws.specs.tx_apply.Operations.{operations_of}

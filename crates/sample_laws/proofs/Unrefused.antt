@@ -2,8 +2,9 @@
 use Rattle.sample_laws.proofs.Prelude.{◌≡◌, ℕ, zero, suc, ◌+◌, ◌*◌, ◌<◌, ◌≤◌, Bool, true, false, cond, List, [], ◌∷◌}
 use Rattle.sample_laws.proofs.Prelude.{map, Option, Some, None, refl, ap, ◌∙◌, arith, nat_eq, not, is_some, slice_get}
 use Rattle.sample_laws.proofs.Prelude.{option_map, AllByRecursion, range_with_len, TransactionEnvelope, EntryMap}
-use Rattle.sample_laws.proofs.Prelude.{HasAccount, hash_of_set, ClosingState, record_fault, term_fault, upgrade_fault}
-use Rattle.sample_laws.proofs.Prelude.{set_fault, account_id, envelope_of, record_of}
+use Rattle.sample_laws.proofs.Prelude.{HasAccount, ClosingState, record_fault, term_fault, upgrade_fault, set_fault}
+use Rattle.sample_laws.proofs.Prelude.{account_id, envelope_of, record_of}
+use Rattle.sample_ledger.specs.fee_rules.SetHash.{hash_of_set}
 use Rattle.std.proofs.Common.{if◌then◌else◌, nat_le}
 use Rattle.std.proofs.lemmas.Bool.Decides.{nat_tests}
 use Rattle.std.proofs.lemmas.Slice.Eq.{bytes_eq-Decides}
@@ -46,7 +47,8 @@ terms_pass seed k s few next =
     (if_some_none_from _ (fault.WrongSeq (s.header.ledger_seq + 1) closing.ledger_seq) _ (ap not follows)
     (if_some_none_from _ (fault.WrongPrevious (ledger_hash_of s.header) previous) _ (ap not (same_bytes previous.0))
     (if_some_none_from _ (fault.WrongSetHash (hash_of_set closing.tx_set) digest) _ (ap not (same_bytes digest.0))
-    (if_some_none_from _ (fault.StaleTime s.header.scp_value.close_time closing.scp_value.close_time) None later refl))))
+    (if_some_none_from _
+    (fault.StaleTime s.header.scp_value.close_time closing.scp_value.close_time) None later refl))))
 
 -- ---- its set
 

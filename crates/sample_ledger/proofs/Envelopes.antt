@@ -43,7 +43,8 @@ by_short seed account body below done =
 turn_short : (seed k : ℕ) → IsShortOperation (issuer_turn seed k)
 unfolding issuer_turn
 turn_short seed k =
-    if_either IsShortOperation (k % 10 == 0) _ _ (own_short _ (bodies.claw_back_short seed (1 + k / 10 % 8) (omega arith)))
+    if_either IsShortOperation (k % 10 == 0) _ _
+    (own_short _ (bodies.claw_back_short seed (1 + k / 10 % 8) (omega arith)))
     (if_either IsShortOperation (k % 10 == 5) _ _ (own_short _ (bodies.claimable_short seed))
     (if_either IsShortOperation (is_claim k) _ _ (by_short seed 7 _ (omega arith) (bodies.claim_short seed k))
     (own_short _ (bodies.payment_short seed (1 + k % 8) (spec.usd seed) 1000 (omega arith) (omega arith)

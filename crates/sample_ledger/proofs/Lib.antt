@@ -14,4 +14,4 @@ pub use Rattle.bucket_core.proofs as bucket_core_proofs
 pub use Rattle.bucket_levels.proofs as bucket_levels_proofs
 pub use Rattle.ledger_types.proofs as ledger_types_proofs
 pub use Rattle.xdr_header.proofs as xdr_header_proofs
-pub mod Prelude
+mod Prelude

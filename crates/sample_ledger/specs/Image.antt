@@ -62,4 +62,5 @@ first_header seed = header_with (list_hash (levels_with (first_bucket seed)))
 
 abbrev pub first_image : (seed : ℕ) → StartImage
 first_image seed =
-    record { header = ledger_header.encoding (first_header seed); files = file_of (first_bucket seed) ∷ replicate 21 [] }
+    record
+    { header = ledger_header.encoding (first_header seed); files = file_of (first_bucket seed) ∷ replicate 21 [] }

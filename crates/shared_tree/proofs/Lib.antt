@@ -1,4 +1,4 @@
 pub mod Parts
 pub mod Changed
 pub mod Divided
-pub mod Prelude
+mod Prelude

@@ -2,4 +2,4 @@ pub mod Needs
 pub mod Own
 pub mod Indices
 pub mod Turns
-pub mod Prelude
+mod Prelude

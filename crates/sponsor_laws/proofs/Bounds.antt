@@ -3,7 +3,8 @@ use Rattle.sponsor_laws.proofs.Prelude as prelude
 use prelude.{◌≡◌, ◌≢◌, refl, sym, ap, subst, ◌∙◌, ℕ, ◌+◌, ◌≤◌, Bool, true, false, ◌||◌, [], ◌∷◌, Option, Some, None, Ok}
 use prelude.{arith, if◌then◌else◌, ltb-false, AccountId, EntryMap, Count, SubEntries, Sponsoring, Ctx, account_at}
 use prelude.{HasAccount, Tests, first_fault, unless_fault, unless_first, count_at, count_if, is_full, is_over, is_short}
-use prelude.{payer_of, payer_tests_at, subentry_tests_at, is_same_account, is_this, total, same_account, or_parts}
+use prelude.{payer_of, payer_tests_at, subentry_tests_at, is_same_account, is_this, total, same_account}
+use Rattle.std.proofs.lemmas.Bool.{or_parts}
 use Rattle.sponsor_rules.specs.declared.fault.AddFault.{AddFault}
 use Rattle.sponsor_rules.specs.declared.fault.AddFault.TheVariants.{TooManySubentries, TooManySponsoring}
 use Rattle.sponsor_rules.specs.declared.fault.AddFault.TheVariants.{LowReserve}

@@ -270,7 +270,8 @@ instead_none at other = refl
 
 pub at_one_is_instead : (count other : Count) (k : ℕ) (id i : AccountId) → i ≡ id
     → at_one count k id other i ≡ instead count other k 0
-at_one_is_instead count other k id i same = ap (λ t. instead count other (if t then k else 0) 0) (ap (is_same_account id) same
+at_one_is_instead count other k id i same =
+    ap (λ t. instead count other (if t then k else 0) 0) (ap (is_same_account id) same
     ∙ is_itself id)
 
 pub elsewhere_none : (count other : Count) (k : ℕ) (id i : AccountId) → is_same_account id i ≡ false

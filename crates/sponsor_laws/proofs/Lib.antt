@@ -20,4 +20,4 @@ pub mod Sponsoring
 pub mod Sponsored
 pub use Rattle.sponsor_rules.proofs.entry_slots_proofs
 pub use Rattle.sponsor_rules.proofs as sponsor_rules_proofs
-pub mod Prelude
+mod Prelude

@@ -1,19 +1,18 @@
 -- Names that several proofs of this crate use.
-use Rattle.sponsor_rules.proofs.entry_map_proofs.Prelude as lower
-pub use lower.{Bool, Contains, EntryMap, Equal, Equal-is, Greater, IsKeyed, IsTotalOrder, Less, List, None, Ok, Option}
-pub use lower.{Ordering, Some, T, [], ap, arith, cond, drop, entries, entries_sorted, eq_by_cmp, eq_by_cmp_equiv, erase}
-pub use lower.{false, get, get-entries, get-insert, get-remove, get_or, if_some_at, if_some_from, if◌then◌else◌, inl}
-pub use lower.{inr, is_eq, is_lt, is_sorted, key_cmp, key_of, key_of_body, keys_exact, keys_total, length, map}
-pub use lower.{nil_contains_nothing, nil_from_length, or_parts, put, refl, same_keys, same_map, subst, suc, sym, take}
-pub use lower.{tied_itself, true, zero, ℕ, ◌&&◌, ◌++◌, ◌+◌, ◌-◌, ◌<◌, ◌||◌, ◌∙◌, ◌∷◌, ◌≡◌, ◌≢◌, ◌≤◌, ◌⊎◌}
-pub use Rattle.std.proofs.Common.{nat_eq, nat_lt, slice_index_or, slice_set}
-pub use Rattle.std.proofs.lemmas.List.{length-map, length-set, map-append}
+pub use Rattle.std.proofs.Common.{Bool, Contains, List, None, Ok, Option, Some, T, [], ap, arith, cond, drop, false}
+pub use Rattle.std.proofs.Common.{get_or, inl, inr, length, map, nat_eq, nat_lt, refl, slice_index_or, slice_set, subst}
+pub use Rattle.std.proofs.Common.{suc, sym, take, true, zero, ℕ, ◌&&◌, ◌++◌, ◌+◌, ◌-◌, ◌<◌, ◌||◌, ◌∙◌, ◌∷◌, ◌≡◌, ◌≢◌}
+pub use Rattle.std.proofs.Common.{◌≤◌, ◌⊎◌}
+pub use Rattle.std.proofs.lemmas.List.{length-map, length-set, map-append, nil_from_length}
 pub use Rattle.std.proofs.lemmas.List.Edits.{length-insert, length-remove}
 pub use Rattle.std.proofs.lemmas.List.Sums.{count_by-le-length, get_or-le-sum_by, prefix_len-le-length, sum_by-cons}
 pub use Rattle.std.proofs.lemmas.List.Sums.{sum_by-insert, sum_by-remove, sum_by-set}
-pub use Rattle.std.specs.FinMap.{FinMap, IsAntisymmetric, entries-insert}
+pub use Rattle.std.specs.FinMap.{FinMap, IsAntisymmetric, entries, entries-insert, entries_sorted, get, get-entries}
+pub use Rattle.std.specs.FinMap.{get-insert, get-remove, same_map}
 pub use Rattle.std.specs.List.{count_by, drop-map, insert, position, position_or_len, remove, slice_get, sum_by}
 pub use Rattle.std.specs.List.{take-map}
+pub use Rattle.std.specs.Ordering.{eq_by_cmp, is_eq, is_lt}
+pub use Rattle.std.specs.Prelude.{if◌then◌else◌}
 pub use Rattle.sponsor_laws.specs.Laws.{AddingKeeps, AddingSignerKeeps, AreKept, HaveToExist, IsAddable, IsApart}
 pub use Rattle.sponsor_laws.specs.Laws.{IsBare, IsNewAccount, IsRemovable, MovingKeeps, MovingSignerKeeps, PayerExists}
 pub use Rattle.sponsor_laws.specs.Laws.{RemovingKeeps, RemovingSignerKeeps, SponsoredAtMost, SponsoredEntriesCount}
@@ -24,6 +23,8 @@ pub use Rattle.sponsor_rules.proofs.Ids.{is_itself, same_account}
 pub use Rattle.sponsor_rules.proofs.Keeping.{counts_edited, same_sponsored, same_sponsoring, second_edited}
 pub use Rattle.sponsor_rules.proofs.entry_map_proofs.KeyMaps.{same_itself}
 pub use Rattle.sponsor_rules.proofs.entry_map_proofs.Lookups.{erase_get, erase_there, left_over, put_get, put_there}
+pub use Rattle.sponsor_rules.proofs.ledger_types_proofs.KeyOrdering.{keys_exact, keys_total, same_keys}
+pub use Rattle.sponsor_rules.proofs.ledger_types_proofs.Lists.{if_some_at, if_some_from, nil_contains_nothing}
 pub use Rattle.sponsor_rules.specs.Adding.{map_after_adding_account, map_after_adding_balance, map_after_adding_by}
 pub use Rattle.sponsor_rules.specs.Adding.{map_after_adding_subentry, map_after_counting, own_tests, sponsored_entry}
 pub use Rattle.sponsor_rules.specs.Charge.{charge_of, line_multiplicity, multiplicity, owner_of}
@@ -48,6 +49,7 @@ pub use Rattle.sponsor_rules.specs.Signers.{with_moved_signer, without_counted_s
 pub use Rattle.sponsor_rules.specs.declared.context.Ctx.{Ctx}
 pub use Rattle.sponsor_rules.specs.declared.count.Count.{Count}
 pub use Rattle.sponsor_rules.specs.declared.count.Count.TheVariants.{Sponsored, Sponsoring, SubEntries}
+pub use Rattle.sponsor_rules.specs.entry_map.EntryMap.{EntryMap, IsKeyed, erase, put}
 pub use Rattle.sponsor_rules.specs.entry_slots.AccountExtensions.{second_in, signer_sponsor, sponsored_in}
 pub use Rattle.sponsor_rules.specs.entry_slots.AccountExtensions.{sponsorship_in}
 pub use Rattle.sponsor_rules.specs.entry_slots.Accounts.{HasAccount, account_in, account_of, with_account_in}
@@ -55,6 +57,8 @@ pub use Rattle.sponsor_rules.specs.entry_slots.Accounts.{with_account_of}
 unfoldable pub use Rattle.sponsor_rules.specs.entry_slots.Accounts.{account_at, with_account}
 pub use Rattle.sponsor_rules.specs.entry_slots.EntrySponsor.{sponsor_of, with_sponsor}
 pub use Rattle.sponsor_rules.specs.entry_slots.Tests.{Tests, first_fault, unless_fault, unless_first}
+pub use Rattle.sponsor_rules.specs.ledger_types.KeyOrder.{key_cmp}
+pub use Rattle.sponsor_rules.specs.ledger_types.Keys.{key_of, key_of_body}
 pub use Rattle.sponsor_rules.specs.ledger_types.declared.account.AccountEntry.{AccountEntry}
 pub use Rattle.sponsor_rules.specs.ledger_types.declared.account.AccountEntryExtensionV2.{AccountEntryExtensionV2}
 pub use Rattle.sponsor_rules.specs.ledger_types.declared.claimable_balance.ClaimableBalanceEntry.{ClaimableBalanceEntry}

@@ -1,11 +1,13 @@
 -- Sums over the entries of a map, after an entry is put or taken away, and beside another sum.
 use Rattle.sponsor_laws.proofs.Prelude.{◌≡◌, refl, sym, ap, subst, ◌∙◌, ℕ, ◌+◌, ◌≤◌, Bool, true, false, cond, ◌&&◌, T}
-use Rattle.sponsor_laws.proofs.Prelude.{List, [], ◌∷◌, Option, Some, None, arith, Ordering, Less, Equal, Greater}
-use Rattle.sponsor_laws.proofs.Prelude.{eq_by_cmp, is_eq, is_lt, IsTotalOrder, tied_itself, Equal-is, eq_by_cmp_equiv}
-use Rattle.sponsor_laws.proofs.Prelude.{sum_by, FinMap, get, entries, entries_sorted, entries-insert, get-entries}
-use Rattle.sponsor_laws.proofs.Prelude.{get-insert, get-remove, same_map, IsAntisymmetric, is_sorted, sum_by-cons}
+use Rattle.sponsor_laws.proofs.Prelude.{List, [], ◌∷◌, Option, Some, None, arith, eq_by_cmp, is_eq, is_lt, sum_by}
+use Rattle.sponsor_laws.proofs.Prelude.{FinMap, get, entries, entries_sorted, entries-insert, get-entries, get-insert}
+use Rattle.sponsor_laws.proofs.Prelude.{get-remove, same_map, IsAntisymmetric, sum_by-cons}
+use Rattle.std.specs.declared.cmp.Ordering.{Ordering}
+use Rattle.std.specs.declared.cmp.Ordering.TheVariants.{Less, Equal, Greater}
+use Rattle.std.specs.Cmp.{IsTotalOrder, tied_itself, Equal-is, eq_by_cmp_equiv}
 use Rattle.std.specs.FinMap.{insert, remove}
-use Rattle.std.specs.FinMap.Entries.{find, put, below_all, by_order}
+use Rattle.std.specs.FinMap.Entries.{find, put, below_all, by_order, is_sorted}
 use Rattle.sponsor_rules.proofs.ledger_types_proofs.Booleans.{both_true, first_true, is_lt_Less, second_true}
 
 -- ---- a list in the order of keys

@@ -1,11 +1,14 @@
 -- A map in which an account's entry is put in place of the one that was there.
 use Rattle.sponsor_rules.proofs.Prelude as prelude
 use prelude.{◌≡◌, ◌≢◌, ◌⊎◌, inl, inr, refl, sym, ap, subst, ◌∙◌, ◌≤◌, Bool, true, false, cond, Option, Some, None}
-use prelude.{arith, get, get-insert, get-remove, eq_by_cmp, AccountId, AccountEntry, key_cmp, key_of, keys_total}
-use prelude.{EntryMap, put, erase, account_of, account_at, account_slot_by, account_slot_of, account_slot_at}
-use prelude.{account_of_slot, account_in, entry_of_account, with_account, with_account_in, with_account_of, Count}
-use prelude.{count_if, count_at, KeepsCore, KeepsOtherCounts, RaisesNoCount, IsChanged, IsChangeOf, KeepsOthers}
-use prelude.{RaisesNone, ChangesAtMost, IsLoaded, HasCore, LeavesCore, LeavesOtherCores, same_keys}
+use prelude.{arith, get, get-insert, get-remove, AccountId, AccountEntry, key_of, EntryMap, put, erase, account_of}
+use prelude.{account_at, account_slot_by, account_slot_of, account_slot_at, account_of_slot, account_in}
+use prelude.{entry_of_account, with_account, with_account_in, with_account_of, Count, count_if, count_at, KeepsCore}
+use prelude.{KeepsOtherCounts, RaisesNoCount, IsChanged, IsChangeOf, KeepsOthers, RaisesNone, ChangesAtMost, IsLoaded}
+use prelude.{HasCore, LeavesCore, LeavesOtherCores}
+use Rattle.std.specs.Ordering.{eq_by_cmp}
+use Rattle.ledger_types.specs.KeyOrder.{key_cmp}
+use Rattle.ledger_types.proofs.KeyOrdering.{keys_total, same_keys}
 use Rattle.ledger_types.specs.declared.entry.LedgerEntry.{LedgerEntry}
 use Rattle.ledger_types.specs.declared.entry.LedgerEntryBody.{LedgerEntryBody}
 use Rattle.ledger_types.specs.declared.entry.LedgerEntryBody.TheVariants as body

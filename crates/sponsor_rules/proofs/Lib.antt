@@ -5,4 +5,4 @@ pub mod AccountMaps
 pub use Rattle.reserve_rules.proofs.entry_map_proofs
 pub use Rattle.reserve_rules.proofs.entry_slots_proofs
 pub use Rattle.ledger_types.proofs as ledger_types_proofs
-pub mod Prelude
+mod Prelude

@@ -1,11 +1,13 @@
 -- Names that several proofs of this crate use.
-use Rattle.reserve_rules.proofs.entry_map_proofs.Prelude as lower
-pub use lower.{Bool, EntryMap, List, None, Ok, Option, Some, Undo, ap, arith, cond, eq_by_cmp, erase, false, get}
-pub use lower.{get-insert, get-remove, inl, inr, key_cmp, key_of, keys_total, length, on_ok_weaker, put, refl, rules}
-pub use lower.{same_keys, subst, sym, true, with_current, ℕ, ◌∙◌, ◌≡◌, ◌≢◌, ◌≤◌, ◌⊎◌}
-pub use Rattle.std.proofs.Common.{nat_eq}
+pub use Rattle.std.proofs.Common.{Bool, List, None, Ok, Option, Some, ap, arith, cond, false, inl, inr, length, nat_eq}
+pub use Rattle.std.proofs.Common.{refl, rules, subst, sym, true, ℕ, ◌∙◌, ◌≡◌, ◌≢◌, ◌≤◌, ◌⊎◌}
+pub use Rattle.std.proofs.lemmas.Result.{on_ok_weaker}
+pub use Rattle.std.specs.FinMap.{get, get-insert, get-remove}
+pub use Rattle.ledger_types.specs.Keys.{key_of}
 pub use Rattle.ledger_types.specs.declared.account.AccountEntry.{AccountEntry}
 pub use Rattle.ledger_types.specs.declared.ids.AccountId.{AccountId}
+pub use Rattle.reserve_rules.specs.entry_map.EntryMap.{EntryMap, erase, put}
+pub use Rattle.reserve_rules.specs.entry_map.Undo.{Undo, with_current}
 pub use Rattle.reserve_rules.specs.entry_slots.Accounts.{account_in, account_of, account_of_slot, account_slot_at}
 pub use Rattle.reserve_rules.specs.entry_slots.Accounts.{account_slot_by, account_slot_of, entry_of_account}
 pub use Rattle.reserve_rules.specs.entry_slots.Accounts.{with_account_in, with_account_of}

@@ -1,11 +1,14 @@
 -- A sum over all entries, by what comes after one key after another.
 use Rattle.tally.proofs.Prelude.{◌≡◌, ◌≢◌, refl, sym, ap, ◌∙◌, subst, ℕ, zero, suc, cond, T, arith, List, [], ◌∷◌}
 use Rattle.tally.proofs.Prelude.{length, Option, Some, None, ints, IfSome, ◌+◌, ◌*◌, ◌<◌, ℤ, pos, negsuc, neg_ℤ, ◌+ℤ◌}
-use Rattle.tally.proofs.Prelude.{◌≤ℤ◌, replicate, FitsSigned, w128, Less, Equal, Greater, is_eq, ordering_then}
-use Rattle.tally.proofs.Prelude.{nat_cmp_is, get, entries, entries_sorted, get-entries, is_sorted, key_of, key_of_body}
-use Rattle.tally.proofs.Prelude.{key_cmp, keys_total, EntryMap, IsKeyed, IsLeastAbove, IsNextAfter, Weight, sum_over}
-use Rattle.tally.proofs.Prelude.{total, part, first_key, sum_after}
-use Rattle.std.specs.FinMap.Entries.{find, below_all}
+use Rattle.tally.proofs.Prelude.{◌≤ℤ◌, replicate, FitsSigned, w128, key_of, key_of_body, EntryMap, IsKeyed}
+use Rattle.tally.proofs.Prelude.{IsLeastAbove, IsNextAfter, Weight, sum_over, total, part, first_key, sum_after}
+use Rattle.std.specs.declared.cmp.Ordering.TheVariants.{Less, Equal, Greater}
+use Rattle.std.specs.Ordering.{is_eq, ordering_then}
+use Rattle.std.specs.Cmp.{nat_cmp_is}
+use Rattle.std.specs.FinMap.{get, entries, entries_sorted, get-entries}
+use Rattle.ledger_types.proofs.KeyOrdering.{keys_total}
+use Rattle.std.specs.FinMap.Entries.{find, below_all, is_sorted}
 use Rattle.entry_map.proofs.shared_tree_proofs.Parts.{first, second, less}
 use Rattle.entry_map.proofs.shared_tree_proofs.Changed.{below_less, below_tied}
 use Rattle.ledger_types.specs.declared.entry.LedgerEntry.{LedgerEntry}
@@ -13,7 +16,7 @@ use Rattle.ledger_types.specs.declared.key.LedgerKey.{LedgerKey}
 use Rattle.ledger_types.specs.declared.key.LedgerKey.TheVariants as key
 use Rattle.ledger_types.specs.declared.entry.LedgerEntryBody.{LedgerEntryBody}
 use Rattle.ledger_types.specs.declared.entry.LedgerEntryBody.TheVariants as body
-use Rattle.ledger_types.specs.KeyOrder.{bytes_cmp}
+use Rattle.ledger_types.specs.KeyOrder.{bytes_cmp, key_cmp}
 use Rattle.legal_rules.specs.xdr_core.Leaves.{fixed}
 use Rattle.entry_changes.specs.xdr_entries.Basic.{account_id}
 use Rattle.entry_changes.specs.xdr_entries.Entries.{account_head, account_entry, ledger_entry_body, ledger_entry}
@@ -85,7 +88,8 @@ sum_from f k (x ∷ xs) h ahead = elim (key_cmp k x.0) as (λ r. key_cmp k x.0 �
     → sum_over f (x ∷ xs) ≡ (part f (find key_cmp k (x ∷ xs)) +ℤ sum_over f (above k (x ∷ xs)))) [
       | Less ↦ λ lt. let after = below_less keys_total k x.0 xs lt (first _ _ h) in
           after_none _ _ _
-          (ap (λ o. part f (cond (is_eq o) (Some x.1) (find key_cmp k xs))) lt ∙ ap (part f) (not_found_below k xs after))
+          (ap (λ o. part f (cond (is_eq o) (Some x.1) (find key_cmp k xs))) lt
+          ∙ ap (part f) (not_found_below k xs after))
           (ap (sum_over f) (taken k x xs lt) ∙ ap (λ s. f x.1 +ℤ s) (all_after f k xs after))
       | Equal ↦ λ tied. after_one (f x.1) (sum_over f xs) _ _
           (ap (λ o. part f (cond (is_eq o) (Some x.1) (find key_cmp k xs))) tied)

@@ -125,7 +125,8 @@ giving_takes m keyed k n can q = takes_more m (paying k (neg_ℤ (pos n)) m)
 pub selling_takes : (m : EntryMap) → IsKeyed m → (k : Option LedgerKey) (n : ℤ) → CanBind m k n (pos 0)
     → (q : Option LedgerKey) → most_taken m q ≤ most_taken (binding k n (pos 0) m) q
 selling_takes m keyed k n can q = takes_more m (binding k n (pos 0) m)
-    (binding_relates RoomRises LineRoomRises (λ a. at_most_refl (room a)) (λ t. at_most_refl (line_room t)) m keyed k n (pos 0) can
+    (binding_relates RoomRises LineRoomRises (λ a. at_most_refl (room a)) (λ t. at_most_refl (line_room t)) m keyed k n
+    (pos 0) can
     (λ a. subst (λ (l : Liabilities). room a ≤ℤ (greatest_i64 -ℤ a.balance -ℤ l.buying))
     (sym (stored (risen n (pos 0) (account_liabilities a)) a.ext))
     (room_after_zero greatest_i64 a.balance (account_liabilities a).buying))
@@ -156,7 +157,8 @@ module _ (v : View) (id_pool base : ℕ) (owed : Owed) (sum : ℤ) (m : EntryMap
       let range = (account_legal v id_pool owed sum m id a legal held.1).range.range in (
         a,
         held.1,
-        bound_in_range (pos n) (pos 0) a range (add_natural_nonnegative _ n range.selling) (add_natural_nonnegative _ 0 range.buying)
+        bound_in_range (pos n) (pos 0) a range (add_natural_nonnegative _ n range.selling)
+            (add_natural_nonnegative _ 0 range.buying)
             (fits_after_zero a.balance _ greatest_i64 range.fits),
       )
   can_sell n (Some (key.TrustLine id x)) held le =
@@ -165,7 +167,8 @@ module _ (v : View) (id_pool base : ℕ) (owed : Owed) (sum : ℤ) (m : EntryMap
       let enough : n ≤ at_least_nothing (line_available t) = subst (λ o. n ≤ line_gives o) held.1 le in (
         t,
         held.1,
-        line_in_range (pos n) (pos 0) t range (add_natural_nonnegative _ n range.selling) (add_natural_nonnegative _ 0 range.buying)
+        line_in_range (pos n) (pos 0) t range (add_natural_nonnegative _ n range.selling)
+            (add_natural_nonnegative _ 0 range.buying)
             (elim (within (line_available t) n enough) [
               | inl none ↦ none_sold t.balance (line_liabilities t).selling n range.covered none
               | inr there ↦ sold_covered t.balance (line_liabilities t).selling n there
@@ -182,7 +185,8 @@ module _ (v : View) (id_pool base : ℕ) (owed : Owed) (sum : ℤ) (m : EntryMap
       let room_for : n ≤ at_least_nothing (room a) = subst (λ o. n ≤ account_takes o) held.1 le in (
         a,
         held.1,
-        bound_in_range (pos 0) (pos n) a range (add_natural_nonnegative _ 0 range.selling) (add_natural_nonnegative _ n range.buying)
+        bound_in_range (pos 0) (pos n) a range (add_natural_nonnegative _ 0 range.selling)
+            (add_natural_nonnegative _ n range.buying)
             (elim (within (room a) n room_for) [
               | inl none ↦ none_bought a.balance (account_liabilities a).buying greatest_i64 n range.fits none
               | inr there ↦ bought_fits a.balance (account_liabilities a).buying greatest_i64 n there
@@ -194,7 +198,8 @@ module _ (v : View) (id_pool base : ℕ) (owed : Owed) (sum : ℤ) (m : EntryMap
       let room_for : n ≤ at_least_nothing (line_room t) = subst (λ o. n ≤ line_takes o) held.1 le in (
         t,
         held.1,
-        line_in_range (pos 0) (pos n) t range (add_natural_nonnegative _ 0 range.selling) (add_natural_nonnegative _ n range.buying)
+        line_in_range (pos 0) (pos n) t range (add_natural_nonnegative _ 0 range.selling)
+            (add_natural_nonnegative _ n range.buying)
             (add_zero_at_most _ t.balance range.covered)
             (elim (within (line_room t) n room_for) [
               | inl none ↦ none_bought t.balance (line_liabilities t).buying t.limit n range.fits none

@@ -57,7 +57,8 @@ line_high : (b n buying limit g : ℤ) → ((b +ℤ n) +ℤ buying) ≤ℤ limit
 line_high b n buying limit g fits low most = omega (arith, ints)
 
 pub zero_fits : (x : ℤ) → pos 0 ≤ℤ x → DoesFit x (pos 0)
-zero_fits x low = record { low = subst (λ y. pos 0 ≤ℤ y) (sym (add_zero x)) low; high = λ more. absurd (one_not_at_most_zero more) }
+zero_fits x low = record
+    { low = subst (λ y. pos 0 ≤ℤ y) (sym (add_zero x)) low; high = λ more. absurd (one_not_at_most_zero more) }
 
 sold_within : (b p buying s : ℤ) (n : ℕ) (g : ℤ) → pos 0 ≤ℤ p → (b +ℤ buying) ≤ℤ g → pos 0 ≤ℤ buying
     → pos n ≤ℤ (b -ℤ p -ℤ s) → (s +ℤ pos n) ≤ℤ g

@@ -23,7 +23,8 @@ IsExtended other = Unit {0}
 
 module _ (s t u b c d : ℤ) (selling : (s +ℤ t) ≡ u) (buying : (b +ℤ c) ≡ d) where
   both_risen : (l : Liabilities) → risen t c (risen s b l) ≡ risen u d l
-  both_risen l = λ i. record { buying = add_assoc_to l.buying b c d buying i; selling = add_assoc_to l.selling s t u selling i }
+  both_risen l = λ i. record
+      { buying = add_assoc_to l.buying b c d buying i; selling = add_assoc_to l.selling s t u selling i }
 
   account_twice : (x : Option AccountEntryExtensionV1) → x ≢ None
       → with_liabilities_in (risen t c (liabilities_in (with_liabilities_in (risen s b (liabilities_in x)) x)))

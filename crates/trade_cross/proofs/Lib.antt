@@ -34,4 +34,4 @@ pub use Rattle.legal_rules.proofs.entry_sums_proofs
 pub use Rattle.legal_rules.proofs as legal_rules_proofs
 pub use Rattle.offer_book.proofs as offer_book_proofs
 pub use Rattle.legal_rules.proofs.sponsor_laws_proofs
-pub mod Prelude
+mod Prelude

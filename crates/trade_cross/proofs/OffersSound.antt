@@ -1,13 +1,12 @@
 -- The offers of a legal state are sound: prices of parts of at least 1, and distinct ids.
-use Rattle.trade_cross.proofs.Prelude.{◌≡◌, ◌≢◌, refl, sym, ap, subst, ◌∙◌, Bool, true, false, All, List, [], ◌∷◌}
-use Rattle.trade_cross.proofs.Prelude.{arith, ints, All-nil, All-cons, entries, cons_option, is_eq, int_cmp, ℤ, pos}
-use Rattle.trade_cross.proofs.Prelude.{◌+ℤ◌, ◌≤ℤ◌, map, if◌then◌else◌, OfferEntry, LedgerEntry, LedgerEntryBody}
-use Rattle.trade_cross.proofs.Prelude.{LedgerKey, IsPriced, offer_in, offers_in, AreApart, AreOffersSound, EntryMap}
-use Rattle.trade_cross.proofs.Prelude.{sum_over, total, View, offer_with, offer_with_in, Owed, IsLegalOwing}
-use Rattle.trade_cross.proofs.Prelude.{IsOfferInRange, IsBodyInRange, add_nonnegative, int_cmp_same}
+use Rattle.trade_cross.proofs.Prelude as prelude
+use prelude.{◌≡◌, ◌≢◌, refl, sym, ap, subst, ◌∙◌, Bool, true, false, All, List, [], ◌∷◌, arith, ints, All-nil, All-cons}
+use prelude.{entries, cons_option, is_eq, int_cmp, ℤ, pos, ◌+ℤ◌, ◌≤ℤ◌, map, if◌then◌else◌, OfferEntry, LedgerEntry}
+use prelude.{LedgerEntryBody, LedgerKey, IsPriced, offer_in, offers_in, AreApart, AreOffersSound, EntryMap, sum_over}
+use prelude.{total, View, Owed, IsLegalOwing, IsOfferInRange, IsBodyInRange, add_nonnegative, int_cmp_same}
 use Rattle.std.specs.Prelude.{ℕ}
 use Rattle.ledger_types.specs.declared.entry.LedgerEntryBody.TheVariants as body
-use Rattle.legal_rules.specs.OfferIds.{AreOffersApart}
+use Rattle.legal_rules.specs.OfferIds.{AreOffersApart, offer_with, offer_with_in}
 use Rattle.trade_cross.proofs.Book.{each_offer}
 
 abbrev Pairs : Type 0

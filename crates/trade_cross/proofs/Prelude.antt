@@ -1,44 +1,48 @@
 -- Names that several proofs of this crate use.
-use Rattle.legal_rules.proofs.Prelude as lower
-pub use lower.{All, All-cons, All-head, All-nil, All-tail, AreReservesSettled, Bool, CanBind, CanBindBoth, EntryMap}
-pub use lower.{HoldsMore, Increase, IsBodyInRange, IsEntryLegal, IsFilledOrEmpty, IsInRange, IsKeyed, IsLegalOwing}
-pub use lower.{IsLineInRange, IsOfferInRange, IsOwedRightly, IsPoolInRange, Kind, List, None, Option, Owed, ShareLines}
-pub use lower.{Shares, Some, Sponsored, Sponsoring, Subentries, View, [], account_in, account_liabilities, account_of}
-pub use lower.{acquiring, add_assoc_to, add_change_if, add_natural_nonnegative, add_neg_zero, add_nonnegative, add_zero}
-pub use lower.{add_zero_at_most, and_parts, ap, apart_accounts, arith, asset_cmp, at_most_trans, available}
-pub use lower.{beside_reserves, binding, both_more, bound_account, bound_line, bound_of, cond, eq_by_cmp, erase}
-pub use lower.{erase_elsewhere, erase_get, false, filter, fits_after_zero, get, greatest_i64, held_in, held_of, holder}
-pub use lower.{if◌then◌else◌, in_aggregate, inl, inr, int_cmp, ints, is_eq, is_key, is_same_account, key_cmp, key_of}
-pub use lower.{key_of_body, length, less, liabilities_in, line_in, line_liabilities, line_liabilities_in, line_of}
-pub use lower.{map_after_discounting, map_after_releasing, map_after_removing, map_after_removing_entry, min_balance}
-pub use lower.{natural_nonnegative, neg_ℤ, none_more, nothing_owed, of_asset, of_line, offer_of, offer_with}
-pub use lower.{offer_with_in, one_not_at_most_zero, part, plus, pool_in, pool_of, pos, put, put_elsewhere, put_there}
-pub use lower.{refl, releasing, risen, room, same_account, same_itself, same_keys, sponsor_of, sponsored_in}
-pub use lower.{sponsoring_in, sub_if_zeros, subst, suc, sym, trade_aggregates, true, under_key, weighed}
-pub use lower.{with_account_in, with_account_of, with_less, with_liabilities_in, with_line_in, with_line_liabilities_in}
-pub use lower.{with_line_of, with_offer_in, with_offer_of, with_pool_in, with_pool_of, without_subentry, zero, ℕ, ℤ}
-pub use lower.{◌&&◌, ◌*ℤ◌, ◌++◌, ◌+ℤ◌, ◌+◌, ◌-ℤ◌, ◌-◌, ◌<ℤ◌, ◌<◌, ◌∙◌, ◌∷◌, ◌≡◌, ◌≢◌, ◌≤ℤ◌, ◌≤◌, ◌⊎◌}
-unfoldable pub use lower.{account_at, liabilities, line_at, offer_at, pool_at, total, wheat_stays, with_account}
-unfoldable pub use lower.{with_line, with_offer, with_pool}
-pub use Rattle.std.proofs.Common.{IfOk, OnOk, T, append-nil, append_assoc, rules, ◌%◌}
-pub use Rattle.std.proofs.lemmas.Bool.{eq-eqb, eqb-true, leb-true, ltb-true, or_left, or_right}
-pub use Rattle.std.proofs.lemmas.List.Elements.{All-filter, All-weaker, filter_passes}
-pub use Rattle.std.specs.FinMap.{entries, entries_sorted, get-entries, same_map}
-pub use Rattle.std.specs.List.{cons_option}
-pub use Rattle.std.specs.Prelude.{map, min, nat_eq, nat_le, nat_lt, unsigned_abs}
-pub use Rattle.entry_map.proofs.Lookups.{erase_there}
+pub use Rattle.std.proofs.Common.{All, Bool, IfOk, List, None, OnOk, Option, Some, T, [], ap, append-nil, append_assoc}
+pub use Rattle.std.proofs.Common.{arith, cond, false, inl, inr, length, refl, rules, subst, suc, sym, true, zero, ℕ}
+pub use Rattle.std.proofs.Common.{◌%◌, ◌&&◌, ◌++◌, ◌+◌, ◌-◌, ◌<◌, ◌∙◌, ◌∷◌, ◌≡◌, ◌≢◌, ◌≤◌, ◌⊎◌}
+pub use Rattle.std.proofs.lemmas.Bool.{and_parts, eq-eqb, eqb-true, leb-true, ltb-true, or_left, or_right}
+pub use Rattle.std.proofs.lemmas.Int.{ints}
+pub use Rattle.std.proofs.lemmas.List.Elements.{All-cons, All-filter, All-head, All-nil, All-tail, All-weaker}
+pub use Rattle.std.proofs.lemmas.List.Elements.{filter_passes}
+pub use Rattle.std.specs.FinMap.{entries, entries_sorted, get, get-entries, same_map}
+pub use Rattle.std.specs.List.{cons_option, filter}
+pub use Rattle.std.specs.Ordering.{eq_by_cmp, int_cmp, is_eq}
+pub use Rattle.std.specs.Prelude.{if◌then◌else◌, map, min, nat_eq, nat_le, nat_lt, neg_ℤ, pos, unsigned_abs, ℤ, ◌*ℤ◌}
+pub use Rattle.std.specs.Prelude.{◌+ℤ◌, ◌-ℤ◌, ◌<ℤ◌, ◌≤ℤ◌}
+pub use Rattle.entry_map.proofs.KeyMaps.{same_itself}
+pub use Rattle.entry_map.proofs.Lookups.{erase_elsewhere, erase_get, erase_there, put_elsewhere, put_there}
 pub use Rattle.entry_map.specs.Book.{AreApart, AreOffersSound, head, is_of_pair, offer_in, offers_in, offers_of, ranked}
 unfoldable pub use Rattle.entry_map.specs.Book.{book_in}
+pub use Rattle.entry_map.specs.EntryMap.{EntryMap, erase, put}
 pub use Rattle.entry_map.specs.Undo.{Undo, kept, opened, undone, with_current}
+pub use Rattle.entry_slots.specs.AccountExtensions.{account_liabilities, liabilities_in, sponsored_in, sponsoring_in}
+pub use Rattle.entry_slots.specs.AccountExtensions.{with_liabilities_in}
 pub use Rattle.entry_slots.specs.AccountFacts.{facts_in}
-pub use Rattle.entry_slots.specs.Pools.{entry_of_pool, pool_of_slot, pool_slot_at, pool_slot_by, pool_slot_of}
-pub use Rattle.ledger_types.proofs.Arithmetic.{add_assoc, add_sub_first, add_two_zeros, at_most_add_natural}
-pub use Rattle.ledger_types.proofs.Arithmetic.{at_most_refl, at_most_rest, fits_after_no_natural}
-pub use Rattle.ledger_types.proofs.Arithmetic.{fits_after_sub_natural, fits_within_room, int_cmp_same}
-pub use Rattle.ledger_types.proofs.Arithmetic.{natural_at_most_trans, natural_zero_add, nonnegative_from_natural}
-pub use Rattle.ledger_types.proofs.Arithmetic.{room_after_zero, sub_natural_positive, suc_at_most_suc, suc_minus_one}
+pub use Rattle.entry_slots.specs.Accounts.{account_in, account_of, with_account_in, with_account_of}
+unfoldable pub use Rattle.entry_slots.specs.Accounts.{account_at, with_account}
+pub use Rattle.entry_slots.specs.EntrySponsor.{sponsor_of}
+pub use Rattle.entry_slots.specs.LineExtensions.{line_liabilities, line_liabilities_in, with_line_liabilities_in}
+pub use Rattle.entry_slots.specs.Lines.{line_in, line_of, with_line_in, with_line_of}
+unfoldable pub use Rattle.entry_slots.specs.Lines.{line_at, with_line}
+pub use Rattle.entry_slots.specs.Offers.{offer_of, with_offer_in, with_offer_of}
+unfoldable pub use Rattle.entry_slots.specs.Offers.{offer_at, with_offer}
+pub use Rattle.entry_slots.specs.Pools.{entry_of_pool, pool_in, pool_of, pool_of_slot, pool_slot_at, pool_slot_by}
+pub use Rattle.entry_slots.specs.Pools.{pool_slot_of, with_pool_in, with_pool_of}
+unfoldable pub use Rattle.entry_slots.specs.Pools.{pool_at, with_pool}
+pub use Rattle.ledger_types.proofs.Arithmetic.{add_assoc, add_assoc_to, add_change_if, add_natural_nonnegative}
+pub use Rattle.ledger_types.proofs.Arithmetic.{add_neg_zero, add_nonnegative, add_sub_first, add_two_zeros, add_zero}
+pub use Rattle.ledger_types.proofs.Arithmetic.{add_zero_at_most, at_most_add_natural, at_most_refl, at_most_rest}
+pub use Rattle.ledger_types.proofs.Arithmetic.{at_most_trans, fits_after_no_natural, fits_after_sub_natural}
+pub use Rattle.ledger_types.proofs.Arithmetic.{fits_after_zero, fits_within_room, int_cmp_same, natural_at_most_trans}
+pub use Rattle.ledger_types.proofs.Arithmetic.{natural_nonnegative, natural_zero_add, nonnegative_from_natural}
+pub use Rattle.ledger_types.proofs.Arithmetic.{one_not_at_most_zero, room_after_zero, sub_if_zeros}
+pub use Rattle.ledger_types.proofs.Arithmetic.{sub_natural_positive, suc_at_most_suc, suc_minus_one}
 pub use Rattle.ledger_types.proofs.Arithmetic.{unsigned_abs_natural, unsigned_abs_positive, zero_at_most}
-pub use Rattle.ledger_types.proofs.KeyOrdering.{keys_exact, keys_total, same_assets}
+pub use Rattle.ledger_types.proofs.KeyOrdering.{keys_exact, keys_total, same_assets, same_keys}
+pub use Rattle.ledger_types.specs.KeyOrder.{asset_cmp, key_cmp}
+pub use Rattle.ledger_types.specs.Keys.{key_of, key_of_body}
 pub use Rattle.ledger_types.specs.Prices.{IsPriced}
 pub use Rattle.ledger_types.specs.declared.account.AccountEntry.{AccountEntry}
 pub use Rattle.ledger_types.specs.declared.account.AccountEntryExtensionV1.{AccountEntryExtensionV1}
@@ -72,18 +76,39 @@ pub use Rattle.legal_rules.proofs.OffersKept.{unbound_if, with_offer_body, with_
 pub use Rattle.legal_rules.proofs.Releasing.{bound_in_range, can_release, line_in_range, releasing_legal}
 pub use Rattle.legal_rules.proofs.ReservesLeft.{IsCharged, available_still, no_subentry_core, pays_less}
 pub use Rattle.legal_rules.proofs.Steps.{legal_as}
+pub use Rattle.legal_rules.specs.Aggregates.{Kind, ShareLines, Shares, Sponsored, Sponsoring, Subentries, View}
+pub use Rattle.legal_rules.specs.Binding.{CanBind, CanBindBoth, acquiring, binding, bound_account, bound_line}
+pub use Rattle.legal_rules.specs.Binding.{releasing, risen}
+pub use Rattle.legal_rules.specs.Bounds.{IsFilledOrEmpty}
 pub use Rattle.legal_rules.specs.ChangeLaws.{KeepsParams, in_shares}
-pub use Rattle.legal_rules.specs.Holdings.{more_at}
+pub use Rattle.legal_rules.specs.EntryKeys.{is_key}
+pub use Rattle.legal_rules.specs.EntryLaws.{AreReservesSettled}
+pub use Rattle.legal_rules.specs.Holdings.{HoldsMore, Increase, IsKeyed, both_more, more_at, none_more, under_key}
+pub use Rattle.legal_rules.specs.OfferLaws.{trade_aggregates}
+pub use Rattle.legal_rules.specs.OfferLiabilities.{bound_of}
+pub use Rattle.legal_rules.specs.OneMore.{IsOwedRightly}
+pub use Rattle.legal_rules.specs.Owing.{IsEntryLegal, IsLegalOwing, Owed, beside_reserves, in_aggregate, less}
+pub use Rattle.legal_rules.specs.Owing.{nothing_owed, plus, weighed}
 pub use Rattle.legal_rules.specs.Payments.{paid}
-pub use Rattle.legal_rules.specs.entry_sums.Sums.{sum_over}
+pub use Rattle.legal_rules.specs.Ranges.{IsBodyInRange, IsOfferInRange, IsPoolInRange}
+pub use Rattle.legal_rules.specs.Supply.{held as held_of, held_in, of_asset, of_line}
+pub use Rattle.legal_rules.specs.Trades.{holder}
+pub use Rattle.legal_rules.specs.entry_sums.Sums.{part, sum_over}
+unfoldable pub use Rattle.legal_rules.specs.entry_sums.Sums.{total}
 unfoldable pub use Rattle.offer_book.specs.Book.{best, book}
 pub use Rattle.offer_exchange.specs.Exchange.{Amounts, Bounds, offered, unlimited}
-unfoldable pub use Rattle.offer_exchange.specs.Exchange.{adjusted, exchanged}
+unfoldable pub use Rattle.offer_exchange.specs.Exchange.{adjusted, exchanged, liabilities, wheat_stays}
 pub use Rattle.offer_exchange.specs.declared.rounding.Rounding.{Rounding}
 pub use Rattle.offer_exchange.specs.declared.rounding.Rounding.TheVariants.{Normal, StrictReceive, StrictSend}
 pub use Rattle.pool_math.specs.Pools.{greatest}
 unfoldable pub use Rattle.pool_math.specs.Pools.{given_for, taken_for}
-pub use Rattle.reserve_rules.specs.Reserve.{line_available, line_room}
+pub use Rattle.reserve_rules.specs.Reserve.{IsInRange, IsLineInRange, available, greatest_i64, line_available}
+pub use Rattle.reserve_rules.specs.Reserve.{line_room, min_balance, room}
+pub use Rattle.sponsor_rules.proofs.Ids.{apart_accounts, same_account}
+pub use Rattle.sponsor_rules.specs.Counting.{with_less}
+pub use Rattle.sponsor_rules.specs.Payers.{is_same_account}
+pub use Rattle.sponsor_rules.specs.Paying.{map_after_releasing, without_subentry}
+pub use Rattle.sponsor_rules.specs.Removing.{map_after_discounting, map_after_removing, map_after_removing_entry}
 pub use Rattle.sponsor_rules.specs.declared.context.Ctx.{Ctx}
 pub use Rattle.trade_cross.specs.Accounts.{IsEased, IsHeld, Passes, Related}
 pub use Rattle.trade_cross.specs.Amounts.{DoesBondFit, DoesPaymentFit, DoesReleaseFit, bond, payment}

@@ -128,8 +128,10 @@ module _ (p : Progress) (o : OfferEntry) (plan : Plan) (a : Amounts) (sheep : pl
           sheep_send = left_low p.left.sheep_send plan.sheep sheep_left;
           wheat_receive = left_low p.left.wheat_receive plan.wheat wheat_left;
         };
-        sheep_low = add_nonnegative p.sheep plan.sheep within.sheep_low (nonnegative_from_natural plan.sheep a.sheep sheep);
-        wheat_low = add_nonnegative p.wheat plan.wheat within.wheat_low (nonnegative_from_natural plan.wheat a.wheat wheat);
+        sheep_low = add_nonnegative p.sheep plan.sheep within.sheep_low
+            (nonnegative_from_natural plan.sheep a.sheep sheep);
+        wheat_low = add_nonnegative p.wheat plan.wheat within.wheat_low
+            (nonnegative_from_natural plan.wheat a.wheat wheat);
         sheep = same_sum p.sheep plan.sheep p.left.sheep_send trade.sheep_send within.sheep;
         wheat = same_sum p.wheat plan.wheat p.left.wheat_receive trade.wheat_receive within.wheat;
         sheep_fits = within.sheep_fits;
@@ -198,7 +200,8 @@ module _ (base : ℕ) (trade : Trade) (p : Progress) (m : EntryMap) (crossable :
     pub goes_on : x.stays ≡ false → Advances base trade None p m q x.entries
     goes_on goes =
         let k = some_crossings p.crossings some in (
-          (λ i. following q (crossed base trade (suc_minus_one p.crossings k.0 k.1 i) (left_is p o plan x.amounts moved.sheep
+          (λ i. following q (crossed base trade (suc_minus_one p.crossings k.0 k.1 i)
+              (left_is p o plan x.amounts moved.sheep
               moved.wheat trade within sheep_within wheat_within i) x.entries))
               ∙ sym (all_is k.0 k.1 ∙ ap (λ t. following q (if t then ended x.entries Converted
               else crossed base trade k.0 (left_after left x.amounts) x.entries)) goes),

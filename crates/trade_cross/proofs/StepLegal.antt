@@ -154,7 +154,8 @@ module _ (v : View) (id_pool base : ℕ) (owed : Owed) (right : IsOwedRightly ow
       one = subst (λ a. 1 ≤ a) (sym is) (omega arith)
 
       binds : IsBound n d send receive (adjusted n d send receive)
-      binds = adjusted_bound n d send receive (unsigned_abs_positive o.price.n its_range.n) (unsigned_abs_positive o.price.d its_range.d)
+      binds = adjusted_bound n d send receive (unsigned_abs_positive o.price.n its_range.n)
+          (unsigned_abs_positive o.price.d its_range.d)
           (natural_at_most_trans send (most_given base m (seller_gives_at o)) unlimited
           (min-le_right amount (most_given base m (seller_gives_at o)))
           (given_fits v id_pool base owed_then sum m open_.legal covered_then (seller_gives_at o) open_.gives))
@@ -360,7 +361,8 @@ module _ (v : View) (id_pool base : ℕ) (owed : Owed) (right : IsOwedRightly ow
       pub enough : a.wheat ≤ most_given base r (seller_gives_at o)
       enough = natural_at_most_trans a.wheat b.wheat_send _ in_bounds.wheat_send
           (natural_at_most_trans b.wheat_send (min (unsigned_abs o.amount) (most_given base r (seller_gives_at o))) _
-          (adjusted_sent price_n price_d _ _ (unsigned_abs_positive o.price.n offer_range.n) (unsigned_abs_positive o.price.d offer_range.d))
+          (adjusted_sent price_n price_d _ _ (unsigned_abs_positive o.price.n offer_range.n)
+          (unsigned_abs_positive o.price.d offer_range.d))
           (min-le_right (unsigned_abs o.amount) (most_given base r (seller_gives_at o))))
 
       -- One offer that is crossed keeps the state legal, with what aggregates owe.

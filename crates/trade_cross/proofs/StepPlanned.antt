@@ -143,7 +143,8 @@ module _ (v : View) (id_pool base : ℕ) (owed : Owed) (right : IsOwedRightly ow
       rest_is = is.rest ∙ ap pos rest_then
 
       moved_is : moved_by plan ≡ a
-      moved_is = λ i. record { wheat = unsigned_abs_natural plan.wheat _ wheat_is i; sheep = unsigned_abs_natural plan.sheep _ sheep_is i }
+      moved_is = λ i. record
+          { wheat = unsigned_abs_natural plan.wheat _ wheat_is i; sheep = unsigned_abs_natural plan.sheep _ sheep_is i }
 
       rest_abs : unsigned_abs plan.rest ≡ its_rest
       rest_abs = unsigned_abs_natural plan.rest _ rest_is

@@ -45,7 +45,8 @@ pub fn most_taken<B: Base>(
 ) -> Result<i64, AllocError>
     requires range { IsInRangeAt entries.now.current (location_key id.now location) }
     requires fits { holdings.most_taken entries.now.current (location_key id.now location) ≤ unlimited }
-    ensures { IfOk result (λ most. most ≡ pos (holdings.most_taken entries.now.current (location_key id.now location))) }
+    ensures { IfOk result
+        (λ most. most ≡ pos (holdings.most_taken entries.now.current (location_key id.now location))) }
 {
     most_taken_with(entries, id, location, 0)
 }

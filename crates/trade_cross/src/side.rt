@@ -44,7 +44,8 @@ pub fn most_given_with<B: Base>(
     released: i64,
 ) -> Result<i64, AllocError>
     requires range { spec.IsInRangeAt entries.now.current (location_key id.now location) }
-    requires fits { spec.given_with base_reserve released entries.now.current (location_key id.now location) ≤ unlimited }
+    requires fits { spec.given_with base_reserve released entries.now.current (location_key id.now location)
+        ≤ unlimited }
     ensures { IfOk result (λ most.
         most ≡ pos (spec.given_with base_reserve released entries.now.current (location_key id.now location))) }
 {

@@ -1,8 +1,9 @@
 -- That an id can be drawn, from a set down to each of its operations.
 use Rattle.tx_apply.proofs.Prelude.{◌≡◌, ℕ, zero, suc, ◌+◌, ◌-◌, ◌*◌, ◌^◌, ◌<◌, ◌≤◌, List, [], ◌∷◌, ◌++◌, length}
-use Rattle.tx_apply.proofs.Prelude.{Option, Some, None, arith, length-append, length-map, Ordering, LedgerHeader}
-use Rattle.tx_apply.proofs.Prelude.{TransactionSet, EntryMap, at_rank, at_most_one, first_ranked, turn_cmp}
-use Rattle.tx_apply.proofs.Prelude.{indices_in_order, apply_order_of, AreDrawn, CanDraw}
+use Rattle.tx_apply.proofs.Prelude.{Option, Some, None, arith, length-append, length-map, LedgerHeader, TransactionSet}
+use Rattle.tx_apply.proofs.Prelude.{EntryMap, at_rank, at_most_one, first_ranked, turn_cmp, indices_in_order}
+use Rattle.tx_apply.proofs.Prelude.{apply_order_of, AreDrawn, CanDraw}
+use Rattle.std.specs.declared.cmp.Ordering.{Ordering}
 use Rattle.fee_rules.specs.Queues.{all_queued}
 use Rattle.fee_rules.specs.SetHash.{hash_of_set}
 use Rattle.fee_rules.specs.Turns.{turns_of}

@@ -1,9 +1,10 @@
 -- Operations in their order: each is lawful, and a transaction that is under way before it is under way after it.
 use Rattle.tx_apply.proofs.Prelude.{◌≡◌, ℕ, suc, ◌+◌, List, [], ◌∷◌, length, nat_eq, refl, ap, arith, Option, Some}
 use Rattle.tx_apply.proofs.Prelude.{None, All-cons, AccountId, AccountEntry, Operation, Transaction, EntryMap}
-use Rattle.tx_apply.proofs.Prelude.{account_at, Ctx, AreSponsorshipsSound, Done, IsUnderway, LeavesSettled, AreDrawn}
-use Rattle.tx_apply.proofs.Prelude.{IsFit, IsLawful, AllLawful, none_drawn, AreFit, AreLawful, source_of}
-use Rattle.tx_apply.proofs.Prelude.{source_account, Step, inserted, done_by, done_at, Ran, run, operations_applied}
+use Rattle.tx_apply.proofs.Prelude.{account_at, Ctx, Done, IsUnderway, LeavesSettled, AreDrawn, IsFit, IsLawful}
+use Rattle.tx_apply.proofs.Prelude.{AllLawful, none_drawn, AreFit, AreLawful, source_of, source_account, Step, inserted}
+use Rattle.tx_apply.proofs.Prelude.{done_by, done_at, Ran, run, operations_applied}
+use Rattle.op_laws.specs.legal_rules.Sponsorships.{AreSponsorshipsSound}
 use Rattle.op_types.specs.declared.operation_result.OperationResult.TheVariants.{NoAccount}
 use Rattle.op_types.specs.declared.transaction_result.TransactionOutcome.TheVariants as outcome
 use Rattle.op_laws.proofs.AllOperations.{failed_is_lawful}
@@ -60,7 +61,8 @@ pub record GoesOn (count first : ℕ) (m : EntryMap) (ran : Ran) : Type 0 where
 -- what a lawful operation leaves
 left_by : (ctx : Ctx) (m : EntryMap) (done : Done) → IsLawful ctx m done
     → LeavesSettled done.ctx.id_pool m done.entries done.moves
-left_by ctx m done lawful = record { settled = lawful.legal.settled; supply = lawful.supply; described = lawful.described }
+left_by ctx m done lawful =
+    record { settled = lawful.legal.settled; supply = lawful.supply; described = lawful.described }
 
 pub goes_on : AllLawful → (ctx : Ctx) (source : AccountId) (index : ℕ) (operations : List Operation) (m : EntryMap)
     → AreFit operations → IsUnderway ctx m

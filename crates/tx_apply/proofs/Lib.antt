@@ -23,4 +23,4 @@ pub use Rattle.op_laws.proofs.pool_shares_proofs
 pub use Rattle.op_laws.proofs.sponsor_laws_proofs
 pub use Rattle.sponsor_rules.proofs as sponsor_rules_proofs
 pub use Rattle.op_laws.proofs.trade_cross_proofs
-pub mod Prelude
+mod Prelude

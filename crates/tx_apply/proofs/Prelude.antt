@@ -1,23 +1,21 @@
 -- Names that several proofs of this crate use.
-use Rattle.op_laws.proofs.Prelude as lower
-pub use lower.{All, All-append, All-cons, All-drop, All-nil, All-take, AllLawful, AreDescribed, AreDrawn}
-pub use lower.{AreSponsorshipsSound, Bool, Done, EntryMap, FeePool, HasAccount, Holder, HoldsMore, IsLawful, IsUnderway}
-pub use lower.{LegalSettles, List, Move, None, OfAccount, Option, Ordering, PreauthsSettle, SeqNumsSettle, Some, []}
-pub use lower.{add_assoc, add_nonnegative, add_zero, ap, arith, asset_cmp, cond, drop, false, find, first_fault}
-pub use lower.{for_one, get, get_or, greatest_i64, holding, holds_as, holds_itself, int_eq, int_eq_true, ints, is_eq}
-pub use lower.{is_holder, is_issuer, is_some, length, length-map, location_of, lumens_of, map, nat_eq}
-pub use lower.{natural_nonnegative, none_more, not, refl, subst, suc, sym, take, true, zero, ℕ, ◌&&◌, ◌*◌, ◌++◌, ◌+◌}
-pub use lower.{◌-◌, ◌<◌, ◌^◌, ◌||◌, ◌∙◌, ◌∷◌, ◌≡◌, ◌≢◌, ◌≤◌}
-unfoldable pub use lower.{account_at, gained, issued, total, with_account}
-pub use Rattle.std.proofs.Common.{FitsSigned, IfOk, IsTrue, OnOk, append_assoc, if◌then◌else◌, length-append, min}
-pub use Rattle.std.proofs.Common.{neg_ℤ, negsuc, pos, rules, unsigned_abs, w64, ℤ, ◌+ℤ◌, ◌-ℤ◌, ◌↔◌, ◌≤ℤ◌}
-pub use Rattle.std.proofs.lemmas.Int.{to_z-of_z}
-pub use Rattle.std.proofs.lemmas.List.{append-nil, drop_all, drop_more, take_all, take_more}
-pub use Rattle.std.proofs.lemmas.List.Elements.{All-from_recursion}
+pub use Rattle.std.proofs.Common.{All, Bool, FitsSigned, IfOk, IsTrue, List, None, OnOk, Option, Some, [], ap}
+pub use Rattle.std.proofs.Common.{append_assoc, arith, cond, drop, false, get_or, if◌then◌else◌, is_some, length}
+pub use Rattle.std.proofs.Common.{length-append, map, min, nat_eq, neg_ℤ, negsuc, not, pos, refl, rules, subst, suc}
+pub use Rattle.std.proofs.Common.{sym, take, true, unsigned_abs, w64, zero, ℕ, ℤ, ◌&&◌, ◌*◌, ◌++◌, ◌+ℤ◌, ◌+◌, ◌-ℤ◌, ◌-◌}
+pub use Rattle.std.proofs.Common.{◌<◌, ◌^◌, ◌||◌, ◌↔◌, ◌∙◌, ◌∷◌, ◌≡◌, ◌≢◌, ◌≤ℤ◌, ◌≤◌}
+pub use Rattle.std.proofs.lemmas.Int.{ints, to_z-of_z}
+pub use Rattle.std.proofs.lemmas.List.{append-nil, drop_all, drop_more, length-map, take_all, take_more}
+pub use Rattle.std.proofs.lemmas.List.Elements.{All-append, All-cons, All-drop, All-from_recursion, All-nil, All-take}
 pub use Rattle.std.proofs.lemmas.Option.{get_or_from_slice_get, slice_get-get_or, slice_get_within}
-pub use Rattle.std.specs.List.{flat_map, list_all}
+pub use Rattle.std.specs.List.{find, flat_map, list_all}
+pub use Rattle.std.specs.Ordering.{int_eq, is_eq}
 pub use Rattle.std.specs.Prelude.{slice_get}
+pub use Rattle.entry_map.specs.EntryMap.{EntryMap}
 pub use Rattle.entry_map.specs.Undo.{Undo, with_current}
+pub use Rattle.entry_slots.specs.Accounts.{HasAccount}
+unfoldable pub use Rattle.entry_slots.specs.Accounts.{account_at, with_account}
+pub use Rattle.entry_slots.specs.Tests.{first_fault}
 pub use Rattle.fee_rules.proofs.Encoded.{envelopes_within}
 pub use Rattle.fee_rules.specs.Envelopes.{fee_source_of, not_below_0}
 pub use Rattle.fee_rules.specs.Fees.{fee_charged, set_base_fee}
@@ -25,19 +23,23 @@ pub use Rattle.fee_rules.specs.Ranking.{at_most_one, at_rank}
 unfoldable pub use Rattle.fee_rules.specs.Ranking.{first_ranked}
 pub use Rattle.fee_rules.specs.Turns.{apply_order_of, turn_cmp}
 unfoldable pub use Rattle.fee_rules.specs.Turns.{indices_in_order}
+pub use Rattle.ledger_types.proofs.Arithmetic.{add_assoc, add_nonnegative, add_zero, int_eq_true, natural_nonnegative}
 pub use Rattle.ledger_types.specs.declared.account.AccountEntry.{AccountEntry}
 pub use Rattle.ledger_types.specs.declared.header.LedgerHeader.{LedgerHeader}
 pub use Rattle.ledger_types.specs.declared.ids.AccountId.{AccountId}
 pub use Rattle.ledger_types.specs.declared.ids.Hash.{Hash}
+pub use Rattle.op_form.specs.Done.{Done, FeePool, Holder, Move, OfAccount}
 pub use Rattle.op_laws.proofs.Described.{account_location, described_at, described_itself, described_twice}
 pub use Rattle.op_laws.proofs.Described.{end_describes, gained_twice, more_at}
 pub use Rattle.op_laws.proofs.Issued.{issued_after, lumens_not_issued, none_moved}
 pub use Rattle.op_laws.proofs.Lawful.{none_drawn}
-pub use Rattle.op_laws.specs.Laws.{IsFit}
-pub use Rattle.op_laws.specs.Steps.{AreSignersFew, TransactionLaws}
-pub use Rattle.op_laws.specs.Underway.{IsSettled, LeavesSettled}
+pub use Rattle.op_laws.specs.Laws.{AllLawful, IsFit, IsLawful}
+pub use Rattle.op_laws.specs.Moves.{AreDescribed, holding, is_holder, is_issuer, location_of}
+unfoldable pub use Rattle.op_laws.specs.Moves.{gained, issued}
+pub use Rattle.op_laws.specs.Steps.{AreSignersFew, LegalSettles, PreauthsSettle, SeqNumsSettle, TransactionLaws}
+pub use Rattle.op_laws.specs.Underway.{AreDrawn, IsSettled, IsUnderway, LeavesSettled}
+unfoldable pub use Rattle.op_laws.specs.entry_sums.Sums.{total}
 pub use Rattle.op_laws.specs.legal_rules.Payments.{paid, with_paid, with_seq_num}
-pub use Rattle.op_laws.specs.legal_rules.Supply.{lumens_in}
 pub use Rattle.op_types.specs.declared.operation.Operation.{Operation}
 pub use Rattle.op_types.specs.declared.transaction.FeeBumpTransactionEnvelope.{FeeBumpTransactionEnvelope}
 pub use Rattle.op_types.specs.declared.transaction.Transaction.{Transaction}
@@ -47,6 +49,7 @@ pub use Rattle.op_types.specs.declared.transaction.TransactionV0.{TransactionV0}
 pub use Rattle.op_types.specs.declared.transaction.TransactionV0Envelope.{TransactionV0Envelope}
 pub use Rattle.op_types.specs.declared.transaction.TransactionV1Envelope.{TransactionV1Envelope}
 pub use Rattle.op_types.specs.declared.transaction_result.TransactionOutcome.{TransactionOutcome}
+pub use Rattle.reserve_rules.specs.Reserve.{greatest_i64}
 pub use Rattle.signer_check.specs.Checks.{Checks}
 pub use Rattle.signer_check.specs.Weight.{held}
 pub use Rattle.signer_check.specs.declared.held.HeldSignature.{HeldSignature}

@@ -129,7 +129,8 @@ pub record IsConserved (setting : Setting) (set : TransactionSet) (m : EntryMap)
       ≡ setting.header.total_coins
   pub supply : (x : Asset) → x ≢ asset.Native → total (held x) (set_done setting set m).entries
       ≡ total (held x) m +ℤ issued x (set_done setting set m).moves
-  pub described : AreAllDescribed setting.header.fee_pool m (fee_pool_after setting set m) (set_done setting set m).entries
+  pub described : AreAllDescribed setting.header.fee_pool m (fee_pool_after setting set m)
+      (set_done setting set m).entries
       (moves_of setting set m)
 
 abbrev pub SetsConserve : Type 0

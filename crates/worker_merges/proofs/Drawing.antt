@@ -1,7 +1,8 @@
 -- What drawing and posting one job more leaves.
 use Rattle.worker_merges.proofs.Prelude.{◌≡◌, ℕ, zero, suc, ◌+◌, ◌<◌, ◌≤◌, List, [], ◌∷◌, map, set, true, false, refl}
-use Rattle.worker_merges.proofs.Prelude.{sym, ap, ◌∙◌, subst, arith, inl, inr, cond, Bool, ◌⊎◌, sum_by-cons, Job, drawn}
-use Rattle.worker_merges.proofs.Prelude.{Draws, RoseBy, waiting_in, FoundNoRoom, Became}
+use Rattle.worker_merges.proofs.Prelude.{sym, ap, ◌∙◌, subst, arith, inl, inr, cond, Bool, ◌⊎◌, Job, drawn, Draws}
+use Rattle.worker_merges.proofs.Prelude.{RoseBy, waiting_in, FoundNoRoom, Became}
+use Rattle.std.proofs.lemmas.List.Sums.{sum_by-cons}
 use Rattle.ledger_close.specs.bucket_levels.Pending.{PendingAt, pending_at}
 use Rattle.ledger_close.specs.bucket_levels.Levels.{LevelsAt}
 

@@ -6,4 +6,4 @@ pub use Rattle.ledger_close.proofs.close_laws_proofs
 pub use Rattle.ledger_close.proofs.entry_table_proofs
 pub use Rattle.ledger_close.proofs.image_rules_proofs
 pub use Rattle.ledger_close.proofs as ledger_close_proofs
-pub mod Prelude
+mod Prelude

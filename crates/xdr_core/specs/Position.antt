@@ -51,7 +51,8 @@ with_fault as_fault (Err e) = Err (as_fault e)
 -- What a reader answered, seen by a view, is what reading gives. With a value the reader is after it; with a failure it
 -- is where it was. A failure has a fault of the text as its cause, or none where memory was refused, which says nothing
 -- of the text.
-abbrev pub ReadsBy : {X Y D F : Type 0} → (X → Y) → (D → Option F) → Result X D → Position → Position → Reading F Y → Type 0
+abbrev pub ReadsBy : {X Y D F : Type 0} → (X → Y) → (D → Option F) → Result X D → Position → Position → Reading F Y
+    → Type 0
 ReadsBy view cause (Ok x) old new reading = reading ≡ Ok (view x, new)
 ReadsBy view cause (Err d) old new reading = IfSome (cause d) (λ fault. reading ≡ Err fault) × (new ≡ old)
 

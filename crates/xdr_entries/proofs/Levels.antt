@@ -1,6 +1,7 @@
 -- Predicates of a number of levels.
-use Rattle.xdr_entries.proofs.Prelude.{◌≡◌, ℕ, zero, suc, ◌-◌, ◌<◌, List, ◌++◌, Err, refl, arith, Position, fault_at}
-use Rattle.xdr_entries.proofs.Prelude.{refused, predicate_of, predicate_below}
+use Rattle.xdr_entries.proofs.Prelude.{◌≡◌, ℕ, zero, suc, ◌-◌, ◌<◌, List, ◌++◌, Err, refl, arith, refused, predicate_of}
+use Rattle.xdr_entries.proofs.Prelude.{predicate_below}
+use Rattle.xdr_core.specs.Position.{Position, fault_at}
 use Rattle.xdr_core.specs.declared.fault.XdrKind.TheVariants.{TooDeep}
 use Rattle.ledger_types.specs.declared.predicate.ClaimPredicate.{ClaimPredicate}
 use Rattle.xdr_entries.proofs.PredicateLaws.{predicate_below_laws}

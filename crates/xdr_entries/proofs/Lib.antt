@@ -4,4 +4,4 @@ pub mod PredicateLaws
 pub mod EntryLaws
 pub mod KeyLaws
 pub mod AllLaws
-pub mod Prelude
+mod Prelude

@@ -1,8 +1,9 @@
 -- The laws of predicates.
 use Rattle.xdr_entries.proofs.Prelude as prelude
 use prelude.{ℕ, zero, suc, refl, arith, Laws, i64_laws, empty_laws, too_deep_laws, struct_laws, option_laws, list_laws}
-use prelude.{arm_laws, found, union_laws, Xdr, IsFound, unconditional, and_arm, or_arm, not_arm, before_absolute_time}
+use prelude.{arm_laws, found, union_laws, IsFound, unconditional, and_arm, or_arm, not_arm, before_absolute_time}
 use prelude.{before_relative_time, level_arms, level_part, level, level_fields, predicate_below, claim_predicate}
+use Rattle.xdr_core.specs.Xdr.{Xdr}
 use Rattle.ledger_types.specs.declared.predicate.ClaimPredicate.TheOpen.{ClaimPredicate-F}
 
 module _ {P : Type 0} {below : Xdr P} (law : Laws below) where

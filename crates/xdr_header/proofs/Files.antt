@@ -33,7 +33,8 @@ ends_at prefix len i room p e total lt h so_far =
     let one : with_prefix prefix ((files (len - i) room).read p) ≡ Err e = rw (k, h) refl in
     sym so_far ∙ one
 
-pub is_done : (prefix : List (List ℕ)) (len i room : ℕ) (p : Position) (total : Reading XdrFault (List (List ℕ))) → len ≤ i
+pub is_done : (prefix : List (List ℕ)) (len i room : ℕ) (p : Position) (total : Reading XdrFault (List (List ℕ)))
+    → len ≤ i
     → with_prefix prefix ((files (len - i) room).read p) ≡ total → total ≡ Ok (prefix, p)
 unfolding files
 is_done prefix len i room p total le so_far =

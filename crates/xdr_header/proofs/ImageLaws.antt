@@ -1,10 +1,12 @@
 -- The laws of the formats of files and images.
-use Rattle.xdr_header.proofs.Prelude.{◌≡◌, ℕ, zero, suc, ◌+◌, ◌-◌, ◌^◌, ◌<◌, ◌≤◌, pos, Bool, true, false, cond, ltb}
-use Rattle.xdr_header.proofs.Prelude.{List, [], ◌∷◌, ◌++◌, length, Ok, Err, refl, sym, ap, subst, ◌∙◌, append_assoc}
-use Rattle.xdr_header.proofs.Prelude.{arith, ltb-false, le-ltb, append-nil, XdrFault, Position, Reading, followed}
-use Rattle.xdr_header.proofs.Prelude.{end_of, fault_at, ◌>>=◌, IsBytes, Takes, Encodes, Lawful, u64, bytes_at, Xdr}
-use Rattle.xdr_header.proofs.Prelude.{Laws, mark_laws, ◌&◌, struct_laws, marked_laws, tag_laws, file_at, file, no_files}
-use Rattle.xdr_header.proofs.Prelude.{prefix_and, encode_prefix, onto_prefix, files, image_fields, start_image}
+use Rattle.xdr_header.proofs.Prelude as prelude
+use prelude.{◌≡◌, ℕ, zero, suc, ◌+◌, ◌-◌, ◌^◌, ◌<◌, ◌≤◌, pos, Bool, true, false, cond, ltb, List, [], ◌∷◌, ◌++◌, length}
+use prelude.{Ok, Err, refl, sym, ap, subst, ◌∙◌, append_assoc, arith, append-nil, XdrFault, Position, Reading, followed}
+use prelude.{end_of, fault_at, ◌>>=◌, u64, bytes_at, Laws, mark_laws, ◌&◌, struct_laws, marked_laws, tag_laws, file_at}
+use prelude.{file, no_files, prefix_and, encode_prefix, onto_prefix, files, image_fields, start_image}
+use Rattle.std.proofs.lemmas.Bool.{ltb-false, le-ltb}
+use Rattle.xdr_core.specs.Format.{IsBytes, Takes, Encodes, Lawful}
+use Rattle.xdr_core.specs.Xdr.{Xdr}
 use Rattle.xdr_core.specs.declared.fault.XdrKind.TheVariants.{TooLong}
 use Rattle.xdr_core.proofs.Steps.{bind_ok, guarded_ok, ok_is, Takes-then, end_of_two}
 use Rattle.xdr_core.proofs.LeafLaws.{u64_lawful}

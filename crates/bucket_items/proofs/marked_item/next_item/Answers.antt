@@ -10,7 +10,8 @@ returns-in-Ok-clause-item c = λ e q h.
     let says = item_says old e q h in
     let same : (text, c.mark.new.self) ≡ (says.0, q) = cc (c.in-Ok.ensures, says.1) in
     let entire : entire_at (after_mark old text) ≡ Ok e =
-    subst (λ (t : List ℕ). entire_at (after_mark old t) ≡ Ok e) (sym (ap (λ (x : List ℕ × Position). x.0) same)) says.2 in
+    subst (λ (t : List ℕ). entire_at (after_mark old t) ≡ Ok e)
+    (sym (ap (λ (x : List ℕ × Position). x.0) same)) says.2 in
     takes_shown c.shown.result c.mark.new.self e q text (ap (λ (x : List ℕ × Position). x.1) same)
     (c.shown.ensures (after_mark old text) e refl entire)
 

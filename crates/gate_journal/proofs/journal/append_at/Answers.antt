@@ -17,12 +17,14 @@ returns-clause-ok g c = λ reported records holds_records.
     let end = c.args.end in
     let bytes = c.args.buf.now in
     let following = drop (end + 1 + length (framed bytes)) (old.reads file) in
-    let wrote = c.in-Ok.ensures.written reported (reach (old.reads file) records end holds_records.offset holds_records.holds) in
+    let wrote = c.in-Ok.ensures.written reported
+    (reach (old.reads file) records end holds_records.offset holds_records.holds) in
     let stage = staged_by old mid file end records bytes c.piece.result.now c.piece.ensures.piece holds_records wrote in
     on_ok c.write_and_sync-2.result
     (c.write_and_sync-2.ensures.written reported
     (reach_staged records bytes following (mid.reads file) end holds_records.offset stage))
-    (λ gate. one_more records bytes following end (mid.reads file) _ c.piece.ensures.short holds_records.offset stage gate.here)
+    (λ gate. one_more records bytes following end
+    (mid.reads file) _ c.piece.ensures.short holds_records.offset stage gate.here)
 
 pub returns-clause-written : goal.returns-clause-written
 returns-clause-written g c = λ reported records holds_records.
@@ -33,7 +35,8 @@ returns-clause-written g c = λ reported records holds_records.
     let end = c.args.end in
     let bytes = c.args.buf.now in
     let following = drop (end + 1 + length (framed bytes)) (old.reads file) in
-    let wrote = c.in-Ok.ensures.written reported (reach (old.reads file) records end holds_records.offset holds_records.holds) in
+    let wrote = c.in-Ok.ensures.written reported
+    (reach (old.reads file) records end holds_records.offset holds_records.holds) in
     let stage = staged_by old mid file end records bytes c.piece.result.now c.piece.ensures.piece holds_records wrote in
     on_ok c.write_and_sync-2.result
     (c.write_and_sync-2.ensures.written reported
@@ -49,8 +52,10 @@ returns-clause-runs g c = λ reported records holds_records.
     let end = c.args.end in
     let bytes = c.args.buf.now in
     let following = drop (end + 1 + length (framed bytes)) (old.reads file) in
-    let wrote = c.in-Ok.ensures.written reported (reach (old.reads file) records end holds_records.offset holds_records.holds) in
+    let wrote = c.in-Ok.ensures.written reported
+    (reach (old.reads file) records end holds_records.offset holds_records.holds) in
     let stage = staged_by old mid file end records bytes c.piece.result.now c.piece.ensures.piece holds_records wrote in
-    both_writes old mid new file end records bytes following c.piece.ensures.short holds_records.offset stage c.in-Ok.ensures.safe
+    both_writes old mid new file end records bytes following c.piece.ensures.short holds_records.offset stage
+    c.in-Ok.ensures.safe
     (first_write old mid file end (length c.piece.result.now) records bytes holds_records c.write_and_sync.ensures.runs)
     c.write_and_sync-2.ensures.runs

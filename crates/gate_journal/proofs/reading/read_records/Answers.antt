@@ -34,7 +34,8 @@ returns-in-Err-clause-reported g c = λ reported.
     let end = c.loop-fault.end in
     let same = ap (λ (f : Image). drop end (f c.args.file)) c.loop-fault.invariant.stays.reads in
     read_broken c.args.file file c.loop-fault.records end c.in-Err.fault (c.loop-fault.invariant.read reported)
-    (subst (λ (rest : List ℕ). ReportsBroken c.args.file end rest c.in-Err.fault) same (c.in-Err.ensures.reported reported))
+    (subst (λ (rest : List ℕ). ReportsBroken c.args.file end rest c.in-Err.fault) same
+    (c.in-Err.ensures.reported reported))
 
 pub returns-in-Err-clause-stays : goal.returns-in-Err-clause-stays
 returns-in-Err-clause-stays g c =

@@ -46,5 +46,6 @@ pub returns-clause-reported : goal.returns-clause-reported
 returns-clause-reported g c = λ reported.
     let file = (g.V.Volume.disk c.args.vol.now).reads c.args.file in
     let head = c.read_exact.new.buf in
-    head_is_there (drop c.args.at file) head c.number-count.result (c.requires.opened reported) c.number-count.ensures.encoded
+    head_is_there (drop c.args.at file) head c.number-count.result
+    (c.requires.opened reported) c.number-count.ensures.encoded
     (prefix c.args.at head file c.read_exact.auto.buf (c.in-Ok.ensures.bytes reported))

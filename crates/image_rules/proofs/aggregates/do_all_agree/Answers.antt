@@ -1,6 +1,7 @@
 use Rattle.image_rules.proofs.Prelude.{refl, arith}
 use Rattle.image_rules.proofs.Listed.{holds_more, holds_of_all}
-use Rattle.image_rules.proofs.Aggregated.{IsRightKeyed, aggregated_of_right, right_of_aggregated, right_of_answer, answer_of_right}
+use Rattle.image_rules.proofs.Aggregated.{IsRightKeyed, aggregated_of_right, right_of_aggregated, right_of_answer}
+use Rattle.image_rules.proofs.Aggregated.{answer_of_right}
 use Rattle.image_rules.proofs.aggregates.do_all_agree.Goals as goal
 
 pub returns-then-not-agrees : goal.returns-then-not-agrees
@@ -11,7 +12,8 @@ returns-then-not-agrees c =
       λ aggregated.
           let holds = answer_of_right c.args.aggregate m c.args.tally.now c.loop-index.index e c.agrees.result
           c.requires.counted c.entry.ensures.keyed c.entry.ensures.entry c.agrees.ensures
-          (right_of_aggregated c.args.aggregate m c.loop-index.index e c.entry.ensures.keyed c.entry.ensures.entry aggregated) in cc,
+          (right_of_aggregated c.args.aggregate m c.loop-index.index e c.entry.ensures.keyed c.entry.ensures.entry
+          aggregated) in cc,
     )
 
 pub loop-index-preserved : goal.loop-index-preserved

@@ -1,4 +1,8 @@
-use Rattle.op_account.proofs.Prelude.{◌≡◌, ◌≢◌, ap, subst, sym, Some, key_of, EntryMap, Undo, account_at}
+use Rattle.std.proofs.Common.{◌≡◌, ◌≢◌, ap, subst, sym, Some}
+use Rattle.ledger_types.specs.Keys.{key_of}
+use Rattle.entry_map.specs.EntryMap.{EntryMap}
+use Rattle.entry_map.specs.Undo.{Undo}
+use Rattle.entry_slots.specs.Accounts.{account_at}
 use Rattle.ledger_types.specs.declared.key.LedgerKey.TheVariants as key
 use Rattle.sponsor_rules.proofs.Ids.{apart_accounts}
 use Rattle.op_form.proofs.Ranges.{range_kept}

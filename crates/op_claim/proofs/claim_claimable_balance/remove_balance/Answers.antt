@@ -1,4 +1,5 @@
-use Rattle.op_claim.proofs.Prelude.{sym, subst, on_ok_weaker, BalancesAreInRange}
+use Rattle.op_claim.proofs.Prelude.{sym, subst, BalancesAreInRange}
+use Rattle.std.proofs.lemmas.Result.{on_ok_weaker}
 use Rattle.ledger_types.specs.declared.key.LedgerKey.TheVariants as key
 use Rattle.op_claim.proofs.Removing.{balances_removed}
 use Rattle.op_claim.proofs.claim_claimable_balance.remove_balance.Goals as goal

@@ -1,4 +1,5 @@
-use Rattle.probe.proofs.Prelude.{sym, subst, map, [], eq_by_cmp, key_of, key_cmp}
+use Rattle.probe.proofs.Prelude.{sym, subst, map, [], key_of, key_cmp}
+use Rattle.std.specs.Ordering.{eq_by_cmp}
 use Rattle.std.specs.List.{IsDistinct}
 use Rattle.probe.proofs.ready.no_entries.Goals as goal
 

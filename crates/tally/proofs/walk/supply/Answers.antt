@@ -35,7 +35,8 @@ loop-preserved g c =
     ap (λ x. to_z w128 (of_z w128 (s +ℤ x))) (to_z-of_z w128 more fits)
     ∙ to_z-of_z w128 (s +ℤ more)
     (sum_fits s more c.loop.counter c.loop-test.true goes.1 goes.2 holds.low holds.high) in (
-      moved_sum_goes_on s more _ _ _ _ _ sum_is goes.0 (next ∙ ap (λ x. f c.in-Some.entry +ℤ x) (sym moved)) holds.value,
+      moved_sum_goes_on s more _ _ _ _ _ sum_is goes.0
+          (next ∙ ap (λ x. f c.in-Some.entry +ℤ x) (sym moved)) holds.value,
       still_low s more _ c.loop.counter sum_is goes.1 holds.low,
       still_high s more _ c.loop.counter sum_is goes.2 holds.high,
     )

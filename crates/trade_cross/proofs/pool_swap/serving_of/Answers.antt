@@ -28,7 +28,8 @@ returns-in-None g c =
     of_pair c.args.ctx.now c.args.trade.now c.args.entries.now.current c.requires.enabled c.args.slot.pool
     (pool_loaded c.args.entries.now.current (pool_of_pair c.args.trade.now) c.args.slot c.requires.loaded)
     (sym c.has_pair.ensures ∙ c.if-not-has_pair.false)
-    ∙ none_reported (sheep_reserve c.args.trade.now c.args.slot.pool) (wheat_reserve c.args.trade.now c.args.slot.pool) _
+    ∙ none_reported (sheep_reserve c.args.trade.now c.args.slot.pool)
+    (wheat_reserve c.args.trade.now c.args.slot.pool) _
     c.in-None.ensures
 
 pub returns-in-Some : goal.returns-in-Some

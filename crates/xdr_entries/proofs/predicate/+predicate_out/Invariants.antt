@@ -1,4 +1,5 @@
-use Rattle.xdr_entries.proofs.Prelude.{◌≡◌, ◌++◌, drop, flat_map, AllByRecursion, predicate_below}
+use Rattle.xdr_entries.proofs.Prelude.{◌≡◌, ◌++◌, drop, predicate_below}
+use Rattle.std.specs.List.{flat_map, AllByRecursion}
 use Rattle.xdr_entries.proofs.predicate.+predicate_out.Given as goal
 
 -- the parts left are put after those that were written

@@ -9,7 +9,8 @@ pub returns-in_err-next-clause-list : goal.returns-in_err-next-clause-list
 returns-in_err-next-clause-list c offers is sound narrow priced =
     c.from_residual.ensures
     ∙ none_next c.args.self.now offers (λ p. ap (λ s. get s p) is ∙ get-index_of offers p) sound narrow
-    c.args.selling.now c.args.buying.now c.args.position (ranked_position c.args.position priced c.start_of.ensures.narrow)
+    c.args.selling.now c.args.buying.now c.args.position
+    (ranked_position c.args.position priced c.start_of.ensures.narrow)
     (subst (IsLastOfPair c.args.self.now) c.start_of.ensures.value c.in_err-next.ensures)
 
 pub returns-in_err-next-clause-map : goal.returns-in_err-next-clause-map
@@ -24,7 +25,8 @@ pub returns-clause-list : goal.returns-clause-list
 returns-clause-list c offers is sound narrow priced =
     ap Some (c.offer_at.ensures ∙ (λ i. offer_with (c.key.ensures i) (c.value.ensures i)))
     ∙ some_next c.args.self.now offers (λ p. ap (λ s. get s p) is ∙ get-index_of offers p) sound narrow
-    c.args.selling.now c.args.buying.now c.args.position (ranked_position c.args.position priced c.start_of.ensures.narrow)
+    c.args.selling.now c.args.buying.now c.args.position
+    (ranked_position c.args.position priced c.start_of.ensures.narrow)
     c.in_ok-next.next.now.0 c.in_ok-next.next.now.1
     (subst (λ start. IsNextOfPair c.args.self.now start c.in_ok-next.next.now.0 c.in_ok-next.next.now.1)
     c.start_of.ensures.value c.in_ok-next.ensures)

@@ -1,6 +1,7 @@
 -- What a clause says of a counted queue and of its seats.
-use Rattle.std.specs.Prelude.{◌≡◌, ℕ, ◌+◌, List, [], ◌∷◌, ◌++◌, length, map}
+use Rattle.std.specs.Prelude.{◌≡◌, ℕ, ◌+◌, List, [], ◌∷◌, ◌++◌, length}
 use Rattle.crossbeam_queue.specs.Passes as passes
+use Rattle.counted_queue.specs.Histories.{firsts}
 use Rattle.counted_queue.specs.declared.queue.CountedQueue.{CountedQueue}
 use Rattle.counted_queue.specs.declared.seat.Seat.{Seat}
 
@@ -23,7 +24,7 @@ module _ {T V : Type 0} where
 
   -- the values that it pushed in vain, since there was no slot for them
   abbrev pub refused_of : Seat T V → List T
-  refused_of seat = map (λ (x : T × Unit {0}). x.0) seat.refused.items
+  refused_of seat = firsts seat.refused.items
 
   pub record HasCountedNone (seat : Seat T V) : Type 0 where
     pub empty_looks : empty_looks_of seat ≡ 0

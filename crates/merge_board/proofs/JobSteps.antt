@@ -3,9 +3,11 @@ use Rattle.merge_board.proofs.Prelude as prelude
 use prelude.{◌≡◌, ℕ, zero, suc, ◌+◌, ◌-◌, ◌<◌, ◌≤◌, ◌^◌, true, true≢false, List, [], ◌∷◌, ◌++◌, length, set, sym, refl}
 use prelude.{ap, ◌∙◌, ⊎_elim, length-append, arith, sum_by_push, some, some-ne-none, Pushes, Pops, Forks, Merges}
 use prelude.{Learns, at_set, Job, AllByRecursion, first_hand, new_hand, spent_hand, hand_with, drawn, TakesJob, Hand}
+use prelude.{numbers_of, subst}
 use lib.ListN.{get_elem?}
-use Rattle.merge_board.specs.JobOrder.{NumbersAfter, Waiting, WaitingAfter, FitsHand, JobsInOrder}
-use Rattle.merge_board.proofs.Lists.{every_map, every_snoc, rising_snoc}
+use Rattle.merge_board.specs.JobOrder.{NumbersAfter, FitsHand, JobsInOrder}
+use Rattle.merge_board.proofs.Lists.{every_map, every_snoc}
+use Rattle.merge_board.proofs.Working.{numbers_snoc, rise_more}
 use Rattle.merge_board.proofs.Views.{each_set, each_snoc, sum_set, at_le, entire}
 
 abbrev parts_of : Hand → ℕ
@@ -69,15 +71,15 @@ posts n pass v job may is fits jobs views room h at =
 pub takes : (pass : ℕ) (v : Hand) → 0 < v.parts → Pops JobsInOrder pass v (TakesJob v)
 takes pass v some_part job jobs views h at =
     let n = job.number in
-    let w : Hand = record v { taken = v.taken ++ n ∷ [] } in
+    let w : Hand = record v { taken = v.taken ++ job ∷ [] } in
     let mine : FitsHand h.p h.t pass v = h.each pass v at in
     let is : n ≡ h.t + 1 = h.numbers.0 in
     let count = h.count in
     let countable = h.countable in
     let most = at_le drawn views pass v at in
     let in_all = h.drawn_in_all in
-    let before : AllByRecursion (λ m. m < n) v.taken =
-    every_map (λ m. m ≤ h.t) (λ m. m < n) v.taken (λ m b. omega arith) mine.below in (
+    let before : AllByRecursion (λ m. m < n) (numbers_of v.taken) =
+    every_map (λ m. m ≤ h.t) (λ m. m < n) (numbers_of v.taken) (λ m b. omega arith) mine.below in (
       w,
       record {
         p = h.p;
@@ -85,18 +87,20 @@ takes pass v some_part job jobs views h at =
         count = omega arith;
         numbers = h.numbers.1;
         countable = h.countable;
-        drawn_in_all = (let s = sum_set drawn views pass v w at in omega (arith, length-append v.taken (n ∷ [])));
+        drawn_in_all = (let s = sum_set drawn views pass v w at in omega (arith, length-append v.taken (job ∷ [])));
         parts_in_all = (let s = sum_set parts_of views pass v w at in let d = h.parts_in_all in omega arith);
         each = each_set (FitsHand h.p (h.t + 1)) views pass w (record {
           poster = mine.poster;
-          rising = rising_snoc v.taken n mine.rising before;
-          below = every_snoc (λ m. m ≤ h.t + 1) v.taken n
-              (every_map (λ m. m ≤ h.t) (λ m. m ≤ h.t + 1) v.taken (λ m b. omega arith) mine.below) (omega arith);
+          rising = rise_more v.taken job mine.rising before;
+          below = subst (AllByRecursion (λ m. m ≤ h.t + 1)) (sym (numbers_snoc v.taken job))
+              (every_snoc (λ m. m ≤ h.t + 1) (numbers_of v.taken) n
+              (every_map (λ m. m ≤ h.t) (λ m. m ≤ h.t + 1) (numbers_of v.taken) (λ m b. omega arith) mine.below)
+              (omega arith));
           idle = λ e. absurd (omega arith);
         }) (λ j u other e. let theirs = h.each j u e in record {
           poster = theirs.poster;
           rising = theirs.rising;
-          below = every_map (λ m. m ≤ h.t) (λ m. m ≤ h.t + 1) u.taken (λ m b. omega arith) theirs.below;
+          below = every_map (λ m. m ≤ h.t) (λ m. m ≤ h.t + 1) (numbers_of u.taken) (λ m b. omega arith) theirs.below;
           idle = theirs.idle;
         });
       },
@@ -155,13 +159,9 @@ joins pass v other u jobs views h at two at' =
           }) (λ j w other e. h.each j w e) j w e);
     }
 
-pub waits : (pass : ℕ) (v : Hand) → v.posts ≡ true → Learns JobsInOrder pass v (λ jobs. Waiting v.posted jobs)
-waits pass v may jobs views h at = (h.t, h.count ∙ sym ((h.each pass v at).poster may).1, h.numbers)
-
-pub after : (pass : ℕ) (v : Hand) → Learns JobsInOrder pass v (λ jobs. WaitingAfter v.taken jobs)
-after pass v jobs views h at =
-    let most = at_le drawn views pass v at in
-    let in_all = h.drawn_in_all in (h.t, h.numbers, (h.each pass v at).below, omega arith)
+pub waits : (pass : ℕ) (v : Hand) → v.posts ≡ true → Learns JobsInOrder pass v (λ jobs. length jobs ≤ v.posted)
+waits pass v may jobs views h at =
+    let count = h.count in let p = ((h.each pass v at).poster may).1 in omega arith
 
 pub counts : (pass : ℕ) (v : Hand) → v.posts ≡ true
     → Learns JobsInOrder pass v (λ jobs. (drawn v ≤ v.posted) × (v.posted < 2 ^ 64))

@@ -4,7 +4,7 @@ use prelude.{◌≡◌, ◌≢◌, ℕ, zero, suc, ◌+◌, ◌-◌, ◌<◌, �
 use prelude.{map, length, set, sym, refl, ap, ◌∙◌, subst, ⊎_elim, append_assoc, length-append, arith, AllByRecursion}
 use prelude.{filter, map-append, append-nil, sum_by_push, some, some-injective, some-ne-none, Pushes, Pops, Forks}
 use prelude.{Merges, Learns, at_set, at_longer, at_last, first_log, new_log, spent_log, log_with, known_of}
-use prelude.{pushed_count, outs_of, QueuedAfter, Accounts, FitsLog, OutsInOrder, Sent, Known, Log}
+use prelude.{pushed_count, outs_of, Accounts, FitsLog, OutsInOrder, Sent, Known, Log}
 use Rattle.std.proofs.lemmas.Bool.{eq-eqb, ne_eqb}
 use Rattle.std.proofs.lemmas.List.Elements.{filter-append}
 use lib.ListN.{get_elem?}
@@ -255,11 +255,6 @@ joins pass v other u may theirs items views h at two at' =
     }
 
 -- ---- what a pass learns
-
-pub queued : (pass : ℕ) (v : Log) → v.pushes ≡ true
-    → Learns OutsInOrder pass v (λ items. QueuedAfter v.worker v.pushed items)
-queued pass v may items views h at =
-    (h.got, ap (outs_of v.worker) (sym h.entire) ∙ ((h.each pass v at).worker may).1)
 
 pub accounts : (pass : ℕ) (v : Log) → v.collects ≡ true → Learns OutsInOrder pass v (Accounts v)
 accounts pass v may items views h at =

@@ -8,15 +8,15 @@ pub use Rattle.std.specs.List.{AllByRecursion, filter, sum_by}
 pub use Rattle.bucket_merge.specs.Job.{Job}
 pub use Rattle.crossbeam_queue.proofs.Lists.{at_last, at_longer, at_set}
 pub use Rattle.crossbeam_queue.specs.Fifo.{Forks, Held, Learns, Merges, Pops, Pushes}
-pub use Rattle.crossbeam_queue.specs.Passes.{IsPassOf, view}
-pub use Rattle.merge_board.specs.Hands.{TakesJob, drawn, first_hand, hand_with, new_hand, spent_hand}
+pub use Rattle.counted_queue.specs.Seats.{IsSeatOf, view}
+pub use Rattle.merge_board.specs.Hands.{TakesJob, drawn, first_hand, hand_with, new_hand, numbers_of, spent_hand}
 pub use Rattle.merge_board.specs.Lists.{Has, IsRising}
 pub use Rattle.merge_board.specs.Logs.{first_log, known_of, log_with, new_log, pushed_count, spent_log}
-pub use Rattle.merge_board.specs.OutOrder.{Accounts, FitsLog, OutsInOrder, QueuedAfter, outs_of}
+pub use Rattle.merge_board.specs.OutOrder.{Accounts, FitsLog, OutsInOrder, outs_of}
 pub use Rattle.merge_board.specs.Parts.{AreNumbered, IsWorkerEndOf, IsWorkerOf, KeepsOrder, end_number, number_of}
 pub use Rattle.merge_board.specs.Parts.{pushed_by}
 pub use Rattle.merge_board.specs.Settling.{AreTakenIn, IsDrained, end_known}
-pub use Rattle.merge_board.specs.Work.{AreDealt, FoundFull, IsAtWork, IsDealt, MetFull, numbers_of}
+pub use Rattle.merge_board.specs.Work.{AreApart, AreDealt, HasInHand, IsAtWork, IsDealt}
 pub use Rattle.merge_board.specs.declared.hand.Hand.{Hand}
 pub use Rattle.merge_board.specs.declared.log.Known.{Known}
 pub use Rattle.merge_board.specs.declared.log.Log.{Log}

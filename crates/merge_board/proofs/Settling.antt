@@ -30,7 +30,7 @@ none_taken_in all hand log posts job_parts none_drawn collects out_parts none_pu
 
 pub one_taken_in : (all rest old_rest : List WorkerEnd) (end : WorkerEnd) (hand0 hand : Hand) (log0 log : Log)
     (taken pushed : ℕ) → AreTakenIn all old_rest hand0 hand log0 log taken pushed → old_rest ≡ rest ++ end ∷ []
-    → AreTakenIn all rest hand0 (hand_with hand (view end.passes.jobs)) log0 (log_with log (view end.passes.outs))
+    → AreTakenIn all rest hand0 (hand_with hand (view end.seats.jobs)) log0 (log_with log (view end.seats.outs))
     (taken + end.taken) (pushed + end.pushed)
 one_taken_in all rest old_rest end hand0 hand log0 log taken pushed h is =
     let long : length old_rest ≡ length rest + 1 = ap length is ∙ length-append rest (end ∷ []) in

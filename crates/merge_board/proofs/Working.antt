@@ -1,15 +1,14 @@
 -- What a worker's steps keep.
-use Rattle.merge_board.proofs.Prelude.{◌≡◌, ◌≢◌, ℕ, ◌<◌, List, [], ◌∷◌, ◌++◌, sym, ap, ◌∙◌, subst, arith, append_assoc}
-use Rattle.merge_board.proofs.Prelude.{map-append, Job, AllByRecursion, IsRising, Has, new_hand, new_log, numbers_of}
-use Rattle.merge_board.proofs.Prelude.{FoundFull, MetFull, AreDealt, Hand, Log}
-use Rattle.std.proofs.Common.{append-nil}
+use Rattle.merge_board.proofs.Prelude.{◌≡◌, ◌≢◌, ℕ, ◌<◌, List, [], ◌∷◌, ◌++◌, sym, ap, ◌∙◌, subst, arith, inl, inr}
+use Rattle.merge_board.proofs.Prelude.{⊎_elim, map-append, Job, AllByRecursion, IsRising, Has, new_hand, new_log}
+use Rattle.merge_board.proofs.Prelude.{numbers_of, AreApart, AreDealt, Hand, Log}
 use Rattle.merge_board.proofs.Lists.{every_map, every_both, every_snoc, every_has, has_longer, rising_snoc}
 
 -- a worker's view of the jobs, one job later
-pub hand_grown : (v w : Hand) (n : ℕ) → v ≡ record new_hand { taken = v.taken }
-    → w ≡ record v { taken = v.taken ++ n ∷ [] } → w ≡ record new_hand { taken = w.taken }
-hand_grown v w n shape grown =
-    grown ∙ ap (λ (x : Hand). record x { taken = v.taken ++ n ∷ [] }) shape
+pub hand_grown : (v w : Hand) (job : Job) → v ≡ record new_hand { taken = v.taken }
+    → w ≡ record v { taken = v.taken ++ job ∷ [] } → w ≡ record new_hand { taken = w.taken }
+hand_grown v w job shape grown =
+    grown ∙ ap (λ (x : Hand). record x { taken = v.taken ++ job ∷ [] }) shape
     ∙ ap (λ (x : Hand). record new_hand { taken = x.taken }) (sym grown)
 
 -- its view of the outcomes, one outcome later
@@ -19,91 +18,116 @@ log_grown worker v w out shape grown =
     grown ∙ ap (λ (x : Log). record x { pushed = v.pushed ++ out ∷ [] }) shape
     ∙ ap (λ (x : Log). record (new_log worker) { pushed = x.pushed }) (sym grown)
 
--- what is above all numbers that were taken is above those of the outcomes
-pub below_all : (n : ℕ) (taken numbers : List ℕ) → AllByRecursion (λ m. m < n) taken
-    → AllByRecursion (Has taken) numbers
-    → AllByRecursion (λ m. m < n) numbers
-below_all n taken numbers above among =
-    every_map (Has taken) (λ m. m < n) numbers (λ m i. every_has (λ k. k < n) taken m above i) among
-
-numbers_snoc : (jobs : List Job) (job : Job) → numbers_of (jobs ++ job ∷ []) ≡ numbers_of jobs ++ job.number ∷ []
+pub numbers_snoc : (jobs : List Job) (job : Job) → numbers_of (jobs ++ job ∷ []) ≡ numbers_of jobs ++ job.number ∷ []
 numbers_snoc jobs job = map-append (λ (j : Job). j.number) jobs (job ∷ [])
 
-pub took : (worker n : ℕ) (taken : List ℕ) (pushed left : List Job) → AreDealt worker taken pushed left
-    → AllByRecursion (λ m. m < n) taken → AreDealt worker (taken ++ n ∷ []) pushed left
-took worker n taken pushed left h above = record {
-  rising = rising_snoc taken n h.rising above;
+number_has : (jobs : List Job) (job : Job) → Has jobs job → Has (numbers_of jobs) job.number
+number_has [] job i = absurd i
+number_has (first ∷ others) job i =
+    ⊎_elim (λ (e : first ≡ job). inl (ap (λ (j : Job). j.number) e))
+    (λ (r : Has others job). inr (number_has others job r)) i
+
+-- what is above the numbers of all jobs that were taken is above those of any of them
+pub below_all : (n : ℕ) (taken some : List Job) → AllByRecursion (λ m. m < n) (numbers_of taken)
+    → AllByRecursion (Has taken) some → AllByRecursion (λ m. m < n) (numbers_of some)
+below_all n taken [] above among = tt
+below_all n taken (first ∷ others) above among = (
+  every_has (λ m. m < n) (numbers_of taken) first.number above (number_has taken first among.0),
+  below_all n taken others above among.1,
+)
+
+pub rise_more : (jobs : List Job) (job : Job) → IsRising (numbers_of jobs)
+    → AllByRecursion (λ m. m < job.number) (numbers_of jobs) → IsRising (numbers_of (jobs ++ job ∷ []))
+rise_more jobs job rise above =
+    subst IsRising (sym (numbers_snoc jobs job)) (rising_snoc (numbers_of jobs) job.number rise above)
+
+-- a job with a number above all of both lists joins the first, or the second
+apart_first : (xs ys : List Job) (job : Job) → AreApart xs ys → AllByRecursion (λ m. m < job.number) (numbers_of ys)
+    → AreApart (xs ++ job ∷ []) ys
+apart_first xs ys job apart above =
+    subst (AllByRecursion (λ p. AllByRecursion (λ m. p ≢ m) (numbers_of ys))) (sym (numbers_snoc xs job))
+    (every_snoc (λ p. AllByRecursion (λ m. p ≢ m) (numbers_of ys)) (numbers_of xs) job.number apart
+    (every_map (λ m. m < job.number) (λ m. job.number ≢ m) (numbers_of ys) (λ m below e. omega arith) above))
+
+apart_second : (xs ys : List Job) (job : Job) → AreApart xs ys → AllByRecursion (λ m. m < job.number) (numbers_of xs)
+    → AreApart xs (ys ++ job ∷ [])
+apart_second xs ys job apart above =
+    subst (λ (zs : List ℕ). AllByRecursion (λ p. AllByRecursion (λ m. p ≢ m) zs) (numbers_of xs))
+    (sym (numbers_snoc ys job))
+    (every_both (λ p. AllByRecursion (λ m. p ≢ m) (numbers_of ys)) (λ p. p < job.number)
+    (λ p. AllByRecursion (λ m. p ≢ m) (numbers_of ys ++ job.number ∷ [])) (numbers_of xs)
+    (λ p old below. every_snoc (λ m. p ≢ m) (numbers_of ys) job.number old (λ e. omega arith)) apart above)
+
+among_more : (taken some : List Job) (job : Job) → AllByRecursion (Has taken) some
+    → AllByRecursion (Has (taken ++ job ∷ [])) some
+among_more taken some job among =
+    every_map (Has taken) (Has (taken ++ job ∷ [])) some (λ m. has_longer taken (job ∷ []) m) among
+
+pub took : (job : Job) (taken pushed left given_up : List Job) → AreDealt taken pushed left given_up
+    → AllByRecursion (λ m. m < job.number) (numbers_of taken) → AreDealt (taken ++ job ∷ []) pushed left given_up
+took job taken pushed left given_up h above = record {
+  rising = rise_more taken job h.rising above;
   pushed_rise = h.pushed_rise;
   left_rise = h.left_rise;
-  pushed_taken = every_map (Has taken) (Has (taken ++ n ∷ [])) (numbers_of pushed) (λ m. has_longer taken (n ∷ []) m)
-      h.pushed_taken;
-  left_taken = every_map (Has taken) (Has (taken ++ n ∷ [])) (numbers_of left) (λ m. has_longer taken (n ∷ []) m)
-      h.left_taken;
-  apart = h.apart;
-  met_full = h.met_full;
+  given_up_rise = h.given_up_rise;
+  pushed_taken = among_more taken pushed job h.pushed_taken;
+  left_taken = among_more taken left job h.left_taken;
+  given_up_taken = among_more taken given_up job h.given_up_taken;
+  pushed_left = h.pushed_left;
+  pushed_given_up = h.pushed_given_up;
+  left_given_up = h.left_given_up;
 }
 
--- an outcome more is pushed, after all that found no slot
-met_later : (worker : ℕ) (out : Job) (pushed left : List Job) → AllByRecursion (MetFull worker pushed) left
+pub pushed_one : (out : Job) (taken pushed left given_up : List Job) → AreDealt taken pushed left given_up
+    → Has taken out → AllByRecursion (λ m. m < out.number) (numbers_of pushed)
     → AllByRecursion (λ m. m < out.number) (numbers_of left)
-    → AllByRecursion (MetFull worker (pushed ++ out ∷ [])) left
-met_later worker out pushed [] met above = tt
-met_later worker out pushed (first ∷ others) met above =
-    let was = met.0 in (
-      record {
-        before = was.before;
-        after = was.after ++ out ∷ [];
-        pushed_is = ap (λ (xs : List Job). xs ++ out ∷ []) was.pushed_is
-            ∙ append_assoc was.before was.after (out ∷ []);
-        lower = was.lower;
-        higher = subst (AllByRecursion (λ n. first.number < n)) (sym (numbers_snoc was.after out))
-            (every_snoc (λ n. first.number < n) (numbers_of was.after) out.number was.higher above.0);
-        full = was.full;
-      },
-      met_later worker out pushed others met.1 above.1,
-    )
+    → AllByRecursion (λ m. m < out.number) (numbers_of given_up)
+    → AreDealt taken (pushed ++ out ∷ []) left given_up
+pushed_one out taken pushed left given_up h among above_pushed above_left above_given_up = record {
+  rising = h.rising;
+  pushed_rise = rise_more pushed out h.pushed_rise above_pushed;
+  left_rise = h.left_rise;
+  given_up_rise = h.given_up_rise;
+  pushed_taken = every_snoc (Has taken) pushed out h.pushed_taken among;
+  left_taken = h.left_taken;
+  given_up_taken = h.given_up_taken;
+  pushed_left = apart_first pushed left out h.pushed_left above_left;
+  pushed_given_up = apart_first pushed given_up out h.pushed_given_up above_given_up;
+  left_given_up = h.left_given_up;
+}
 
-pub pushed_one : (worker : ℕ) (out : Job) (taken : List ℕ) (pushed left : List Job) → AreDealt worker taken pushed left
-    → Has taken out.number → AllByRecursion (λ m. m < out.number) (numbers_of pushed)
-    → AllByRecursion (λ m. m < out.number) (numbers_of left) → AreDealt worker taken (pushed ++ out ∷ []) left
-pushed_one worker out taken pushed left h among above_pushed above_left =
-    let n = out.number in
-    let more = sym (numbers_snoc pushed out) in record {
-      rising = h.rising;
-      pushed_rise = subst IsRising more (rising_snoc (numbers_of pushed) n h.pushed_rise above_pushed);
-      left_rise = h.left_rise;
-      pushed_taken = subst (AllByRecursion (Has taken)) more
-          (every_snoc (Has taken) (numbers_of pushed) n h.pushed_taken among);
-      left_taken = h.left_taken;
-      apart = subst (AllByRecursion (λ p. AllByRecursion (λ m. p ≢ m) (numbers_of left))) more
-          (every_snoc (λ p. AllByRecursion (λ m. p ≢ m) (numbers_of left)) (numbers_of pushed) n h.apart
-          (every_map (λ m. m < n) (λ m. n ≢ m) (numbers_of left) (λ m below e. omega arith) above_left));
-      met_full = met_later worker out pushed left h.met_full above_left;
-    }
+pub left_one : (out : Job) (taken pushed left given_up : List Job) → AreDealt taken pushed left given_up
+    → Has taken out → AllByRecursion (λ m. m < out.number) (numbers_of pushed)
+    → AllByRecursion (λ m. m < out.number) (numbers_of left)
+    → AllByRecursion (λ m. m < out.number) (numbers_of given_up)
+    → AreDealt taken pushed (left ++ out ∷ []) given_up
+left_one out taken pushed left given_up h among above_pushed above_left above_given_up = record {
+  rising = h.rising;
+  pushed_rise = h.pushed_rise;
+  left_rise = rise_more left out h.left_rise above_left;
+  given_up_rise = h.given_up_rise;
+  pushed_taken = h.pushed_taken;
+  left_taken = every_snoc (Has taken) left out h.left_taken among;
+  given_up_taken = h.given_up_taken;
+  pushed_left = apart_second pushed left out h.pushed_left above_pushed;
+  pushed_given_up = h.pushed_given_up;
+  left_given_up = apart_first left given_up out h.left_given_up above_given_up;
+}
 
-pub left_one : (worker : ℕ) (out : Job) (taken : List ℕ) (pushed left : List Job) → AreDealt worker taken pushed left
-    → Has taken out.number → AllByRecursion (λ m. m < out.number) (numbers_of pushed)
-    → AllByRecursion (λ m. m < out.number) (numbers_of left) → FoundFull worker pushed
-    → AreDealt worker taken pushed (left ++ out ∷ [])
-left_one worker out taken pushed left h among above_pushed above_left full =
-    let n = out.number in
-    let more = sym (numbers_snoc left out) in record {
-      rising = h.rising;
-      pushed_rise = h.pushed_rise;
-      left_rise = subst IsRising more (rising_snoc (numbers_of left) n h.left_rise above_left);
-      pushed_taken = h.pushed_taken;
-      left_taken = subst (AllByRecursion (Has taken)) more
-          (every_snoc (Has taken) (numbers_of left) n h.left_taken among);
-      apart = subst (λ (xs : List ℕ). AllByRecursion (λ p. AllByRecursion (λ m. p ≢ m) xs) (numbers_of pushed)) more
-          (every_both (λ p. AllByRecursion (λ m. p ≢ m) (numbers_of left)) (λ p. p < n)
-          (λ p. AllByRecursion (λ m. p ≢ m) (numbers_of left ++ n ∷ [])) (numbers_of pushed)
-          (λ p old below. every_snoc (λ m. p ≢ m) (numbers_of left) n old (λ e. omega arith)) h.apart above_pushed);
-      met_full = every_snoc (MetFull worker pushed) left out h.met_full (record {
-        before = pushed;
-        after = [];
-        pushed_is = sym (append-nil pushed);
-        lower = above_pushed;
-        higher = tt;
-        full = full;
-      });
-    }
+pub gave_up_one : (job : Job) (taken pushed left given_up : List Job) → AreDealt taken pushed left given_up
+    → Has taken job → AllByRecursion (λ m. m < job.number) (numbers_of pushed)
+    → AllByRecursion (λ m. m < job.number) (numbers_of left)
+    → AllByRecursion (λ m. m < job.number) (numbers_of given_up)
+    → AreDealt taken pushed left (given_up ++ job ∷ [])
+gave_up_one job taken pushed left given_up h among above_pushed above_left above_given_up = record {
+  rising = h.rising;
+  pushed_rise = h.pushed_rise;
+  left_rise = h.left_rise;
+  given_up_rise = rise_more given_up job h.given_up_rise above_given_up;
+  pushed_taken = h.pushed_taken;
+  left_taken = h.left_taken;
+  given_up_taken = every_snoc (Has taken) given_up job h.given_up_taken among;
+  pushed_left = h.pushed_left;
+  pushed_given_up = apart_second pushed given_up job h.pushed_given_up above_pushed;
+  left_given_up = apart_second left given_up job h.left_given_up above_left;
+}

@@ -1,5 +1,5 @@
--- What a pass of the job queue knows, and how a step changes that.
-use Rattle.std.specs.Prelude.{◌≡◌, ℕ, ◌+◌, ◌<◌, ◌^◌, true, false, [], ◌∷◌, ◌++◌, length}
+-- What is known by a pass of the job queue, and how a step changes that.
+use Rattle.std.specs.Prelude.{◌≡◌, ℕ, ◌+◌, ◌<◌, ◌^◌, true, false, List, [], ◌∷◌, ◌++◌, length, map}
 use Rattle.bucket_merge.specs.Job.{Job}
 use Rattle.std.specs.List.{AllByRecursion}
 use Rattle.merge_board.specs.declared.hand.Hand.{Hand}
@@ -23,8 +23,12 @@ drawn v = length v.taken + v.absorbed
 abbrev pub hand_with : Hand → Hand → Hand
 hand_with v u = record v { parts = v.parts + u.parts; absorbed = v.absorbed + drawn u }
 
--- The job's number comes after all numbers that were taken before. The last part lets a worker count what it takes.
+abbrev pub numbers_of : List Job → List ℕ
+numbers_of jobs = map (λ (job : Job). job.number) jobs
+
+-- The job's number comes after the numbers of all jobs that were taken before. The last part lets a worker count what it
+-- takes.
 abbrev pub TakesJob : Hand → Job → Hand → Type 0
 TakesJob v job w =
-    (w ≡ record v { taken = v.taken ++ job.number ∷ [] }) × AllByRecursion (λ n. n < job.number) v.taken
+    (w ≡ record v { taken = v.taken ++ job ∷ [] }) × AllByRecursion (λ n. n < job.number) (numbers_of v.taken)
     × (length v.taken + 1 < 2 ^ 64)

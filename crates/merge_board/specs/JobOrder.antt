@@ -5,7 +5,7 @@ use mathlib.Core.Option.{some}
 use lib.ListN.{get_elem?}
 use Rattle.bucket_merge.specs.Job.{Job}
 use Rattle.merge_board.specs.Lists.{IsRising}
-use Rattle.merge_board.specs.Hands.{drawn}
+use Rattle.merge_board.specs.Hands.{drawn, numbers_of}
 use Rattle.merge_board.specs.declared.hand.Hand.{Hand}
 
 -- the numbers t + 1, t + 2, and so on
@@ -13,20 +13,11 @@ abbrev pub NumbersAfter : ℕ → List Job → Type 0
 NumbersAfter t [] = Unit {0}
 NumbersAfter t (job ∷ jobs) = (job.number ≡ t + 1) × NumbersAfter (t + 1) jobs
 
--- of the p jobs that were posted, those after the first t
-abbrev pub Waiting : ℕ → List Job → Type 0
-Waiting p jobs = (t : ℕ) × (t + length jobs ≡ p) × NumbersAfter t jobs
-
--- the jobs after the first t, among which is each that was taken
-abbrev pub WaitingAfter : List ℕ → List Job → Type 0
-WaitingAfter taken jobs =
-    (t : ℕ) × NumbersAfter t jobs × AllByRecursion (λ n. n ≤ t) taken × (length taken ≤ t)
-
 -- what holds of a pass where p jobs were posted and t were taken
 pub record FitsHand (p t pass : ℕ) (v : Hand) : Type 0 where
   pub poster : v.posts ≡ true → (pass ≡ 0) × (v.posted ≡ p)
-  pub rising : IsRising v.taken
-  pub below : AllByRecursion (λ n. n ≤ t) v.taken
+  pub rising : IsRising (numbers_of v.taken)
+  pub below : AllByRecursion (λ n. n ≤ t) (numbers_of v.taken)
   -- a pass that was taken in knows nothing any more
   pub idle : v.parts ≡ 0 → drawn v ≡ 0
 

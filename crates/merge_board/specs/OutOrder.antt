@@ -14,10 +14,6 @@ use Rattle.merge_board.specs.declared.log.Log.{Log}
 abbrev pub outs_of : ℕ → List Sent → List Job
 outs_of worker sent = map (λ (s : Sent). s.out) (filter (λ (s : Sent). s.worker == worker) sent)
 
--- what was sent is what the queue holds after what was collected, and a worker's outcomes in it are what it pushed
-abbrev pub QueuedAfter : ℕ → List Job → List Sent → Type 0
-QueuedAfter worker pushed items = (got : List Sent) × (outs_of worker (got ++ items) ≡ pushed)
-
 -- What was collected, and then what the queue holds, has of each worker that has ended what it pushed. Where all have
 -- ended, there is nothing else in it.
 pub record Accounts (v : Log) (items : List Sent) : Type 0 where

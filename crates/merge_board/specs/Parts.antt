@@ -1,10 +1,10 @@
 -- What is known of the parts of a room.
-use Rattle.std.specs.Prelude.{◌≡◌, ℕ, ◌+◌, ◌%◌, ◌^◌, List, [], ◌∷◌, ◌++◌, length, map}
-use Rattle.crossbeam_queue.specs.Fifo.{Held}
-use Rattle.crossbeam_queue.specs.Passes.{view, IsPassOf}
+use Rattle.std.specs.Prelude.{◌≡◌, ℕ, ◌+◌, List, [], ◌∷◌, ◌++◌, length, map}
+use Rattle.counted_queue.specs.Seats as seats
+use seats.{view, IsSeatOf}
 use Rattle.bucket_merge.specs.Job.{Job}
 use Rattle.std.specs.List.{AllByRecursion}
-use Rattle.merge_board.specs.OutOrder.{outs_of, Accounts}
+use Rattle.merge_board.specs.OutOrder.{outs_of}
 use Rattle.merge_board.specs.declared.log.Sent.{Sent}
 use Rattle.merge_board.specs.declared.parts.Parts.{Parts}
 use Rattle.merge_board.specs.declared.parts.Room.{Room}
@@ -19,80 +19,92 @@ use Rattle.merge_board.specs.declared.parts.CollectorEnd.{CollectorEnd}
 
 -- how many jobs the board has posted
 abbrev pub posted_by : Board → ℕ
-posted_by board = (view board.pass).posted
+posted_by board = (view board.seat).posted
 
 abbrev pub posted_in_all : BoardEnd → ℕ
-posted_in_all end = (view end.pass).posted
+posted_in_all end = (view end.seat).posted
 
--- how many jobs came back to it, modulo 2^64
+-- how many jobs came back to it: one for each answer of the queue that it was full
 abbrev pub returned_to : Board → ℕ
-returned_to board = board.returned
+returned_to board = length (seats.refused_of board.seat)
 
--- how often the collector found no outcome, modulo 2^64
+-- how often the collector found no outcome: once for each answer of the queue that it was empty
 abbrev pub empty_looks_of : Collector → ℕ
-empty_looks_of collector = collector.empty_looks
-
--- a count that has risen by n, modulo 2^64
-abbrev pub RoseBy : (n was now : ℕ) → Type 0
-RoseBy n was now = now % 2 ^ 64 ≡ (was + n) % 2 ^ 64
+empty_looks_of collector = seats.empty_looks_of collector.seat
 
 -- a worker's number among the workers of its room
 abbrev pub number_of : Worker → ℕ
-number_of worker = worker.passes.number
+number_of worker = worker.seats.number
 
 abbrev pub end_number : WorkerEnd → ℕ
-end_number end = end.passes.number
+end_number end = end.seats.number
 
--- the numbers of the jobs that a worker took
-abbrev pub taken_by : WorkerEnd → List ℕ
-taken_by end = (view end.passes.jobs).taken
+-- the jobs that a worker took
+abbrev pub taken_by : WorkerEnd → List Job
+taken_by end = (view end.seats.jobs).taken
 
 -- the outcomes that a worker pushed
 abbrev pub pushed_by : WorkerEnd → List Job
-pushed_by end = (view end.passes.outs).pushed
+pushed_by end = (view end.seats.outs).pushed
+
+-- the outcomes that it pushed in vain, one for each answer of the queue that it was full
+abbrev pub refused_of : WorkerEnd → List Job
+refused_of end = map (λ (s : Sent). s.out) (seats.refused_of end.seats.outs)
+
+-- the jobs that it gave up, one for each merge that was handed back since memory was refused to it
+abbrev pub given_up_by : WorkerEnd → List Job
+given_up_by end = end.seats.given_up
+
+-- how often it found no job: once for each answer of the queue that it was empty
+abbrev pub looks_of : WorkerEnd → ℕ
+looks_of end = seats.empty_looks_of end.seats.jobs
+
+-- how many of these looks were begun after the closing mark was set
+abbrev pub last_looks_of : WorkerEnd → ℕ
+last_looks_of end = seats.last_looks_of end.seats.jobs
 
 -- the outcomes that were collected, with their workers
 abbrev pub collected_by : Collector → List Sent
-collected_by collector = (view collector.pass).got
+collected_by collector = (view collector.seat).got
 
 abbrev pub collected_in_all : CollectorEnd → List Sent
-collected_in_all end = (view end.pass).got
+collected_in_all end = (view end.seat).got
 
 -- ---- parts of one room
 
--- the passes are of this room's queues
+-- the seats are at this room's queues
 abbrev pub IsBoardIn : Room → Board → Type 0
-IsBoardIn room board = IsPassOf room.jobs board.pass
+IsBoardIn room board = IsSeatOf room.jobs board.seat
 
 abbrev pub IsBoardEndIn : Room → BoardEnd → Type 0
-IsBoardEndIn room end = IsPassOf room.jobs end.pass
+IsBoardEndIn room end = IsSeatOf room.jobs end.seat
 
 abbrev pub IsCollectorIn : Room → Collector → Type 0
-IsCollectorIn room collector = IsPassOf room.outs collector.pass
+IsCollectorIn room collector = IsSeatOf room.outs collector.seat
 
 abbrev pub IsCollectorEndIn : Room → CollectorEnd → Type 0
-IsCollectorEndIn room end = IsPassOf room.outs end.pass
+IsCollectorEndIn room end = IsSeatOf room.outs end.seat
 
 pub record IsWorkerOf (room : Room) (worker : Worker) : Type 0 where
-  pub jobs : IsPassOf room.jobs worker.passes.jobs
-  pub outs : IsPassOf room.outs worker.passes.outs
+  pub jobs : IsSeatOf room.jobs worker.seats.jobs
+  pub outs : IsSeatOf room.outs worker.seats.outs
 
 pub record IsWorkerEndOf (room : Room) (end : WorkerEnd) : Type 0 where
-  pub jobs : IsPassOf room.jobs end.passes.jobs
-  pub outs : IsPassOf room.outs end.passes.outs
+  pub jobs : IsSeatOf room.jobs end.seats.jobs
+  pub outs : IsSeatOf room.outs end.seats.outs
 
 -- Of sixteen parts of a queue each worker has one, and these have the others. So they say how many workers there are.
 abbrev pub board_parts : Board → ℕ
-board_parts board = (view board.pass).parts
+board_parts board = (view board.seat).parts
 
 abbrev pub board_end_parts : BoardEnd → ℕ
-board_end_parts end = (view end.pass).parts
+board_end_parts end = (view end.seat).parts
 
 abbrev pub collector_parts : Collector → ℕ
-collector_parts collector = (view collector.pass).parts
+collector_parts collector = (view collector.seat).parts
 
 abbrev pub collector_end_parts : CollectorEnd → ℕ
-collector_end_parts end = (view end.pass).parts
+collector_end_parts end = (view end.seat).parts
 
 -- ---- what is made and what is settled
 
@@ -131,7 +143,3 @@ pub record KeepsOrder (got : List Sent) (queued : List Job) (ends : List WorkerE
 -- the list has grown by this outcome, of some worker
 abbrev pub Grew : List Sent → Job → List Sent → Type 0
 Grew old out new = (worker : ℕ) × (new ≡ old ++ record { worker = worker; out = out } ∷ [])
-
--- At one moment no outcome waited, after those that were collected.
-abbrev pub FoundNoOut : Collector → Type 0
-FoundNoOut collector = Held 0 (Accounts (view collector.pass))

@@ -1,7 +1,7 @@
 -- What is known while a room is settled.
 use Rattle.std.specs.Prelude.{◌≡◌, ℕ, ◌+◌, ◌≤◌, true, List, ◌++◌, length, map}
 use Rattle.std.specs.List.{sum_by}
-use Rattle.crossbeam_queue.specs.Passes.{view}
+use Rattle.counted_queue.specs.Seats.{view}
 use Rattle.bucket_merge.specs.Job.{Job}
 use Rattle.merge_board.specs.Hands.{drawn}
 use Rattle.merge_board.specs.Logs.{pushed_count, known_of}
@@ -13,7 +13,7 @@ use Rattle.merge_board.specs.declared.parts.WorkerEnd.{WorkerEnd}
 
 -- what is known of a worker whose pass was taken in
 abbrev pub end_known : WorkerEnd → Known
-end_known end = known_of (view end.passes.outs)
+end_known end = known_of (view end.seats.outs)
 
 -- Of all workers' passes those of `rest` are not yet taken in. The board's pass knows how many jobs the others took,
 -- and the collector's what they pushed.

@@ -2,93 +2,86 @@
 use Rattle.std.specs.Prelude.{◌≡◌, ◌≢◌, ◌⊎◌, ℕ, ◌+◌, ◌<◌, ◌≤◌, List, [], ◌∷◌, ◌++◌, length, map, vec_len}
 use Rattle.std.specs.Prelude.{vec_capacity, Option, MatchOption}
 use Rattle.std.specs.declared.sync.OnceToken.{OnceToken}
-use Rattle.crossbeam_queue.specs.Fifo.{Held}
-use Rattle.crossbeam_queue.specs.Passes.{view, IsPassOf}
+use Rattle.counted_queue.specs.Seats as seats
+use seats.{view, mark_of, IsSeatOf}
 use Rattle.bucket_merge.specs.Job.{Job}
 use Rattle.std.specs.List.{AllByRecursion}
 use Rattle.merge_board.specs.Lists.{IsRising, Has}
-use Rattle.merge_board.specs.Hands.{new_hand}
-use Rattle.merge_board.specs.JobOrder.{WaitingAfter}
+use Rattle.merge_board.specs.Hands.{new_hand, numbers_of}
 use Rattle.merge_board.specs.Logs.{new_log}
-use Rattle.merge_board.specs.OutOrder.{QueuedAfter}
+use Rattle.merge_board.specs.Parts.{taken_by, pushed_by, given_up_by, refused_of, last_looks_of}
 use Rattle.merge_board.specs.declared.desk.Desk.{Desk}
 use Rattle.merge_board.specs.declared.log.Sent.{Sent}
 use Rattle.merge_board.specs.declared.parts.Room.{Room}
 use Rattle.merge_board.specs.declared.parts.WorkerEnd.{WorkerEnd}
 
-abbrev pub numbers_of : List Job → List ℕ
-numbers_of jobs = map (λ (job : Job). job.number) jobs
+-- no number is in both
+abbrev pub AreApart : List Job → List Job → Type 0
+AreApart xs ys = AllByRecursion (λ n. AllByRecursion (λ m. n ≢ m) (numbers_of ys)) (numbers_of xs)
 
--- At one moment there was no free slot in the done queue, and up to then the worker had pushed just these.
-abbrev pub FoundFull : ℕ → List Job → Type 0
-FoundFull worker pushed = Held 64 (λ (items : List Sent). QueuedAfter worker pushed items)
-
--- At one moment no job waited, and up to then the worker had taken just these.
-abbrev pub FoundNone : List ℕ → Type 0
-FoundNone taken = Held 0 (λ (jobs : List Job). WaitingAfter taken jobs)
-
--- the outcome found no slot, when the worker had pushed just those of its outcomes that have lower numbers
-pub record MetFull (worker : ℕ) (pushed : List Job) (out : Job) : Type 0 where
-  pub before : List Job
-  pub after : List Job
-  pub pushed_is : pushed ≡ before ++ after
-  pub lower : AllByRecursion (λ n. n < out.number) (numbers_of before)
-  pub higher : AllByRecursion (λ n. out.number < n) (numbers_of after)
-  pub full : FoundFull worker before
-
--- How the numbers that a worker took relate to those of the outcomes that it pushed and of those that it has left: they
--- rise, and no number is in both.
-pub record AreDealt (worker : ℕ) (taken : List ℕ) (pushed left : List Job) : Type 0 where
-  pub rising : IsRising taken
+-- How the jobs that a worker took relate to the outcomes that it pushed, to those that it has left and to the merges that
+-- it gave up: these are jobs that it took, their numbers rise, and no number is in two of the three.
+pub record AreDealt (taken pushed left given_up : List Job) : Type 0 where
+  pub rising : IsRising (numbers_of taken)
   pub pushed_rise : IsRising (numbers_of pushed)
   pub left_rise : IsRising (numbers_of left)
-  pub pushed_taken : AllByRecursion (Has taken) (numbers_of pushed)
-  pub left_taken : AllByRecursion (Has taken) (numbers_of left)
-  pub apart : AllByRecursion (λ n. AllByRecursion (λ m. n ≢ m) (numbers_of left)) (numbers_of pushed)
-  pub met_full : AllByRecursion (MetFull worker pushed) left
+  pub given_up_rise : IsRising (numbers_of given_up)
+  pub pushed_taken : AllByRecursion (Has taken) pushed
+  pub left_taken : AllByRecursion (Has taken) left
+  pub given_up_taken : AllByRecursion (Has taken) given_up
+  pub pushed_left : AreApart pushed left
+  pub pushed_given_up : AreApart pushed given_up
+  pub left_given_up : AreApart left given_up
 
 -- a worker of this room, which has as many jobs in hand as `held`
 pub record IsAtWork (room : Room) (held : ℕ) (desk : Desk) : Type 0 where
-  pub jobs : IsPassOf room.jobs desk.passes.jobs
-  pub outs : IsPassOf room.outs desk.passes.outs
-  pub hand : view desk.passes.jobs ≡ record new_hand { taken = (view desk.passes.jobs).taken }
-  pub log : view desk.passes.outs ≡ record (new_log desk.passes.number) { pushed = (view desk.passes.outs).pushed }
-  pub taken : length (view desk.passes.jobs).taken ≡ desk.taken
-  pub pushed : length (view desk.passes.outs).pushed ≡ desk.pushed
-  pub accounted : desk.taken ≡ desk.pushed + desk.given_up + vec_len desk.left + held
+  pub jobs : IsSeatOf room.jobs desk.seats.jobs
+  pub outs : IsSeatOf room.outs desk.seats.outs
+  pub hand : view desk.seats.jobs ≡ record new_hand { taken = (view desk.seats.jobs).taken }
+  pub log : view desk.seats.outs ≡ record (new_log desk.seats.number) { pushed = (view desk.seats.outs).pushed }
+  pub taken : length (view desk.seats.jobs).taken ≡ desk.taken
+  pub pushed : length (view desk.seats.outs).pushed ≡ desk.pushed
+  pub accounted : desk.taken ≡ desk.pushed + length desk.seats.given_up + vec_len desk.left + held
+  -- left is just what found no slot
+  pub left : desk.left.items ≡ map (λ (s : Sent). s.out) (seats.refused_of desk.seats.outs)
   pub slots : 64 ≤ vec_capacity desk.left
 
 abbrev pub IsDealt : Desk → Type 0
-IsDealt desk = AreDealt desk.passes.number (view desk.passes.jobs).taken (view desk.passes.outs).pushed desk.left.items
+IsDealt desk =
+    AreDealt (view desk.seats.jobs).taken (view desk.seats.outs).pushed desk.left.items desk.seats.given_up
 
--- The job was taken last: its number is above those of all outcomes so far.
+-- The job was taken last: its number is above those of all that became of the others.
 pub record HasInHand (desk : Desk) (job : Job) : Type 0 where
   pub dealt : IsDealt desk
-  pub taken : Has (view desk.passes.jobs).taken job.number
-  pub above_pushed : AllByRecursion (λ n. n < job.number) (numbers_of (view desk.passes.outs).pushed)
+  pub taken : Has (view desk.seats.jobs).taken job
+  pub above_pushed : AllByRecursion (λ n. n < job.number) (numbers_of (view desk.seats.outs).pushed)
   pub above_left : AllByRecursion (λ n. n < job.number) (numbers_of desk.left.items)
+  pub above_given_up : AllByRecursion (λ n. n < job.number) (numbers_of desk.seats.given_up)
 
 -- The outcome was pushed, or it is left because there was no slot for it.
 abbrev pub IsHandedOut : Desk → Job → Desk → Type 0
 IsHandedOut old out new =
-    (((view new.passes.outs).pushed ≡ (view old.passes.outs).pushed ++ out ∷ []) × (new.left.items ≡ old.left.items))
-    ⊎ (((view new.passes.outs).pushed ≡ (view old.passes.outs).pushed)
-    × (new.left.items ≡ old.left.items ++ out ∷ [])
-    × FoundFull old.passes.number (view old.passes.outs).pushed)
+    (((view new.seats.outs).pushed ≡ (view old.seats.outs).pushed ++ out ∷ []) × (new.left.items ≡ old.left.items))
+    ⊎ (((view new.seats.outs).pushed ≡ (view old.seats.outs).pushed)
+    × (new.left.items ≡ old.left.items ++ out ∷ []))
 
--- Why a worker stops: it has left 64 outcomes, or the token shows that the closing mark was set, and no job waited.
+-- Why a worker stops: it has left 64 outcomes, or the token shows that the closing mark was set, and a look that was
+-- begun after that found no job.
 abbrev pub StopsFor : Room → Desk → Option (OnceToken (Unit {0})) → Type 0
 StopsFor room desk last = MatchOption last (vec_len desk.left ≡ 64)
-    (λ token. (token.of ≡ room.closed.id) × FoundNone (view desk.passes.jobs).taken)
+    (λ token. (token.of ≡ mark_of room.jobs) × (1 ≤ seats.last_looks_of desk.seats.jobs))
 
 -- what is known of a worker that has ended
 pub record HasWorked (end : WorkerEnd) : Type 0 where
   pub accounted : end.taken ≡ end.pushed + end.given_up + vec_len end.left
-  pub taken : length (view end.passes.jobs).taken ≡ end.taken
-  pub pushed : length (view end.passes.outs).pushed ≡ end.pushed
-  pub dealt : AreDealt end.passes.number (view end.passes.jobs).taken (view end.passes.outs).pushed end.left.items
+  pub taken : length (taken_by end) ≡ end.taken
+  pub pushed : length (pushed_by end) ≡ end.pushed
+  pub given_up : length (given_up_by end) ≡ end.given_up
+  -- left is just what it pushed in vain
+  pub left : end.left.items ≡ refused_of end
+  pub dealt : AreDealt (taken_by end) (pushed_by end) end.left.items (given_up_by end)
 
 -- why a worker ended
 abbrev pub EndsFor : Room → WorkerEnd → Option (OnceToken (Unit {0})) → Type 0
 EndsFor room end last = MatchOption last (vec_len end.left ≡ 64)
-    (λ token. (token.of ≡ room.closed.id) × FoundNone (view end.passes.jobs).taken)
+    (λ token. (token.of ≡ mark_of room.jobs) × (1 ≤ last_looks_of end))

@@ -1,10 +1,9 @@
 //! How jobs are posted, and how the board is closed.
 
-ghost use Rattle.std.specs.Prelude.{◌≡◌, ◌+◌, IfOk, IfErr};
-ghost use Rattle.crossbeam_queue.specs.Fifo.{Held};
-ghost use Rattle.merge_board.specs.JobOrder.{Waiting};
+ghost use Rattle.std.specs.Prelude.{◌≡◌, ◌+◌, ◌≤◌, IfOk, IfErr};
+ghost use Rattle.counted_queue.specs.Seats.{mark_of};
 ghost use Rattle.merge_board.specs.Parts.{IsBoardIn, IsBoardEndIn, board_parts, board_end_parts, posted_by};
-ghost use Rattle.merge_board.specs.Parts.{posted_in_all, returned_to, RoseBy};
+ghost use Rattle.merge_board.specs.Parts.{posted_in_all, returned_to};
 
 use crate::hand::Posts;
 use crate::parts::{Board, BoardEnd, Room};
@@ -33,23 +32,20 @@ impl Board {
         ensures number { IfOk result (λ number. (number ≡ posted_by self.old + 1) × (posted_by self.new ≡ number)) }
         ensures back { IfErr result (λ back. (back ≡ job) × (posted_by self.new ≡ posted_by self.old)) }
         ensures kept { IfOk result (λ _. returned_to self.new ≡ returned_to self.old) }
-        ensures returned { IfErr result (λ _. RoseBy 1 (returned_to self.old) (returned_to self.new)) }
-        ensures full { IfErr result (λ _. Held 64 (Waiting (posted_by self.old))) }
+        ensures returned { IfErr result (λ _. returned_to self.new ≡ returned_to self.old + 1) }
+        ensures full { IfErr result (λ _. 64 ≤ posted_by self.old) }
     {
         let next = next_number(rt, self.posted);
         let number = job.number();
         match room
             .jobs
-            .push_as::<Posts, R>(rt, &mut self.pass, job.numbered(next))
+            .push::<Posts, R>(rt, &mut self.seat, job.numbered(next))
         {
             Ok(()) => {
                 self.posted = next;
                 Ok(next)
             }
-            Err(back) => {
-                self.returned = self.returned.wrapping_add(1);
-                Err(back.numbered(number))
-            }
+            Err(back) => Err(back.numbered(number)),
         }
     }
 
@@ -60,14 +56,11 @@ impl Board {
         ensures room { IsBoardEndIn room.now result.0 }
         ensures parts { board_end_parts result.0 ≡ board_parts self }
         ensures posted { posted_in_all result.0 ≡ posted_by self }
-        ensures mark { result.1.of ≡ room.now.closed.id }
+        ensures mark { result.1.of ≡ mark_of room.now.jobs }
     {
-        let Board {
-            pass,
-            posted: _,
-            returned: _,
-        } = self;
-        (BoardEnd { pass }, room.closed.init(rt, || ()))
+        let Board { seat, posted: _ } = self;
+        let mark = room.jobs.close(rt, &seat);
+        (BoardEnd { seat }, mark)
     }
 
     /// Sets the room's closing mark: no more jobs will be posted. It takes no memory.

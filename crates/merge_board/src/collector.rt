@@ -1,8 +1,8 @@
 //! How outcomes are collected.
 
-ghost use Rattle.std.specs.Prelude.{◌≡◌, IfSome, IfNone};
+ghost use Rattle.std.specs.Prelude.{◌≡◌, ◌+◌, IfSome, IfNone};
 ghost use Rattle.merge_board.specs.Parts.{IsCollectorIn, IsCollectorEndIn, collector_parts, collector_end_parts};
-ghost use Rattle.merge_board.specs.Parts.{collected_by, collected_in_all, empty_looks_of, RoseBy, Grew, FoundNoOut};
+ghost use Rattle.merge_board.specs.Parts.{collected_by, collected_in_all, empty_looks_of, Grew};
 
 use crate::log::Collects;
 use crate::parts::{Collector, CollectorEnd, Room};
@@ -17,16 +17,12 @@ impl Collector {
         ensures parts { collector_parts self.new ≡ collector_parts self.old }
         ensures out { IfSome result (λ out. Grew (collected_by self.old) out (collected_by self.new)) }
         ensures none { IfNone result (collected_by self.new ≡ collected_by self.old) }
-        ensures empty { IfNone result (FoundNoOut self.new) }
         ensures kept { IfSome result (λ _. empty_looks_of self.new ≡ empty_looks_of self.old) }
-        ensures looked { IfNone result (RoseBy 1 (empty_looks_of self.old) (empty_looks_of self.new)) }
+        ensures looked { IfNone result (empty_looks_of self.new ≡ empty_looks_of self.old + 1) }
     {
-        match room.outs.pop_as::<Collects, R>(rt, &mut self.pass) {
+        match room.outs.pop::<Collects, R>(rt, &mut self.seat) {
             Some(sent) => Some(sent.out),
-            None => {
-                self.empty_looks = self.empty_looks.wrapping_add(1);
-                None
-            }
+            None => None,
         }
     }
 
@@ -36,10 +32,7 @@ impl Collector {
         ensures parts { collector_end_parts result ≡ collector_parts self }
         ensures collected { collected_in_all result ≡ collected_by self }
     {
-        let Collector {
-            pass,
-            empty_looks: _,
-        } = self;
-        CollectorEnd { pass }
+        let Collector { seat } = self;
+        CollectorEnd { seat }
     }
 }

@@ -1,14 +1,14 @@
 //! A worker at work: it takes a job, makes the merge, and hands out its outcome, until there is nothing more to do.
 
-ghost use Rattle.std.specs.Prelude.{◌≡◌, ◌+◌, ◌<◌, ◌≤◌, IfSome, IfNone, IfOk, IfErr, MatchResult, vec_len};
-ghost use Rattle.crossbeam_queue.specs.Passes.{view};
+ghost use Rattle.std.specs.Prelude.{◌≡◌, ◌<◌, ◌≤◌, IfSome, IfNone, vec_len};
+ghost use Rattle.counted_queue.specs.Seats.{view, mark_of, last_looks_of};
 ghost use Rattle.merge_board.specs.Parts.{IsWorkerEndOf, end_number};
-ghost use Rattle.merge_board.specs.Work.{IsAtWork, IsDealt, HasInHand, FoundNone, IsHandedOut, StopsFor, HasWorked};
+ghost use Rattle.merge_board.specs.Work.{IsAtWork, IsDealt, HasInHand, IsHandedOut, StopsFor, HasWorked};
 
 use crate::hand::Takes;
 use crate::log::{Pushes, Sent};
-use crate::parts::{Room, WorkerEnd, WorkerPasses};
-use bucket_merge::{MergeBack, MergeJob, MergeOut};
+use crate::parts::{Room, WorkerEnd, WorkerSeats};
+use bucket_merge::{MergeJob, MergeOut};
 use outside::{Gate, Steps};
 use std::sync::ledger::Ledger;
 use std::sync::{OnceToken, Wait};
@@ -19,27 +19,14 @@ const LEFT: usize = 64;
 
 /// A worker at work.
 pub(crate) struct Desk {
-    pub(crate) passes: WorkerPasses,
+    pub(crate) seats: WorkerSeats,
     pub(crate) taken: u64,
     pub(crate) pushed: u64,
-    pub(crate) given_up: u64,
     pub(crate) left: Vec<MergeOut>,
 }
 
-/// Passes the gate, and makes a merge.
-fn make_merge<G: Gate, L: Ledger>(
-    gate: &G,
-    steps: &mut Steps<L>,
-    job: MergeJob,
-) -> Result<MergeOut, MergeBack>
-    ensures { MatchResult result (λ out. out ≡ job) (λ back. back.job ≡ job) }
-{
-    gate.pass(job.level(), job.seq());
-    job.run(steps)
-}
-
 impl Desk {
-    /// Takes the job that waited longest.
+    /// Takes the job that waited longest. A look that finds none is counted.
     fn take_job<R: Wait>(&mut self, rt: &R, room: &Room) -> Option<MergeJob>
         requires at_work { IsAtWork room.now 0 self.old }
         requires dealt { IsDealt self.old }
@@ -47,11 +34,35 @@ impl Desk {
         ensures in_hand { IfSome result (HasInHand self.new) }
         ensures none { IfNone result (IsAtWork room.now 0 self.new) }
         ensures dealt { IfNone result (IsDealt self.new) }
-        ensures found_none { IfNone result (FoundNone (view self.new.passes.jobs).taken) }
         ensures left { vec_len self.new.left ≡ vec_len self.old.left }
-        ensures number { self.new.passes.number ≡ self.old.passes.number }
+        ensures number { self.new.seats.number ≡ self.old.seats.number }
     {
-        let job = room.jobs.pop_as::<Takes, R>(rt, &mut self.passes.jobs)?;
+        let job = room.jobs.pop::<Takes, R>(rt, &mut self.seats.jobs)?;
+        self.taken += 1;
+        Some(job)
+    }
+
+    /// The same where the board is closed, as the token shows. A look that finds none is counted as a last one too.
+    fn take_last<R: Wait>(
+        &mut self,
+        rt: &R,
+        room: &Room,
+        closed: &OnceToken<'_, ()>,
+    ) -> Option<MergeJob>
+        requires at_work { IsAtWork room.now 0 self.old }
+        requires dealt { IsDealt self.old }
+        requires closed { closed.now.of ≡ mark_of room.now.jobs }
+        ensures some { IfSome result (λ _. IsAtWork room.now 1 self.new) }
+        ensures in_hand { IfSome result (HasInHand self.new) }
+        ensures none { IfNone result (IsAtWork room.now 0 self.new) }
+        ensures dealt { IfNone result (IsDealt self.new) }
+        ensures looked { IfNone result (1 ≤ last_looks_of self.new.seats.jobs) }
+        ensures left { vec_len self.new.left ≡ vec_len self.old.left }
+        ensures number { self.new.seats.number ≡ self.old.seats.number }
+    {
+        let job = room
+            .jobs
+            .pop_after::<Takes, R>(rt, &mut self.seats.jobs, closed)?;
         self.taken += 1;
         Some(job)
     }
@@ -64,33 +75,68 @@ impl Desk {
         ensures at_work { IsAtWork room.now 0 self.new }
         ensures dealt { IsDealt self.new }
         ensures out { IsHandedOut self.old out self.new }
-        ensures number { self.new.passes.number ≡ self.old.passes.number }
+        ensures left { vec_len self.new.left ≤ 64 }
+        ensures number { self.new.seats.number ≡ self.old.seats.number }
     {
-        let worker = self.passes.number;
+        let worker = self.seats.number;
         match room
             .outs
-            .push_as::<Pushes, R>(rt, &mut self.passes.outs, Sent { worker, out })
+            .push::<Pushes, R>(rt, &mut self.seats.outs, Sent { worker, out })
         {
             Ok(()) => self.pushed += 1,
             Err(sent) => self.left.push_reserved(sent.out),
         }
     }
 
-    /// Hands out what became of a job. A merge that memory was refused to is given up.
-    fn hand_out<R: Wait>(&mut self, rt: &R, room: &Room, made: Result<MergeOut, MergeBack>)
+    /// Passes the gate, makes the merge of a job, and pushes its outcome. A merge that memory is refused to is given up.
+    fn make_merge<R: Wait, G: Gate, L: Ledger>(
+        &mut self,
+        rt: &R,
+        room: &Room,
+        gate: &G,
+        steps: &mut Steps<L>,
+        job: MergeJob,
+    )
         requires at_work { IsAtWork room.now 1 self.old }
-        requires in_hand { MatchResult made (HasInHand self.old) (λ back. HasInHand self.old back.job) }
+        requires in_hand { HasInHand self.old job }
         requires index { vec_len self.old.left < 64 }
         ensures at_work { IsAtWork room.now 0 self.new }
         ensures dealt { IsDealt self.new }
-        ensures out { IfOk made (λ out. IsHandedOut self.old out self.new) }
-        ensures back { IfErr made (λ _. self.new ≡ record self.old { given_up = self.old.given_up + 1 }) }
         ensures left { vec_len self.new.left ≤ 64 }
-        ensures number { self.new.passes.number ≡ self.old.passes.number }
+        ensures number { self.new.seats.number ≡ self.old.seats.number }
     {
-        match made {
-            Ok(out) => self.push_out(rt, room, out),
-            Err(_) => self.given_up += 1,
+        // Fewer were given up than were taken.
+        let _taken = self.taken;
+        gate.pass(job.level(), job.seq());
+        match self.seats.given_up.make(steps, job) {
+            Some(out) => self.push_out(rt, room, out),
+            None => {}
+        }
+    }
+
+    /// Does a job, and answers that this was the last one where the worker may leave no more outcomes.
+    fn do_job<'r, R: Wait, G: Gate, L: Ledger>(
+        &mut self,
+        rt: &R,
+        room: &'r Room,
+        gate: &G,
+        steps: &mut Steps<L>,
+        job: MergeJob,
+    ) -> Option<Option<OnceToken<'r, ()>>>
+        requires at_work { IsAtWork room.now 1 self.old }
+        requires in_hand { HasInHand self.old job }
+        requires index { vec_len self.old.left < 64 }
+        ensures at_work { IsAtWork room.now 0 self.new }
+        ensures dealt { IsDealt self.new }
+        ensures more { IfNone result (vec_len self.new.left < 64) }
+        ensures last { IfSome result (StopsFor room.now self.new) }
+        ensures number { self.new.seats.number ≡ self.old.seats.number }
+    {
+        self.make_merge(rt, room, gate, steps, job);
+        if self.left.len() < LEFT {
+            None
+        } else {
+            Some(None)
         }
     }
 
@@ -110,21 +156,15 @@ impl Desk {
         ensures dealt { IsDealt self.new }
         ensures more { IfNone result (vec_len self.new.left < 64) }
         ensures last { IfSome result (StopsFor room.now self.new) }
-        ensures number { self.new.passes.number ≡ self.old.passes.number }
+        ensures number { self.new.seats.number ≡ self.old.seats.number }
     {
-        let closed = room.closed.witness();
-        match self.take_job(rt, room) {
-            Some(job) => {
-                let made = make_merge(gate, steps, job);
-                self.hand_out(rt, room, made);
-                if self.left.len() < LEFT {
-                    None
-                } else {
-                    Some(None)
-                }
-            }
-            None => match closed {
-                Some(token) => Some(Some(token)),
+        match room.jobs.closed() {
+            Some(closed) => match self.take_last(rt, room, &closed) {
+                Some(job) => self.do_job(rt, room, gate, steps, job),
+                None => Some(Some(closed)),
+            },
+            None => match self.take_job(rt, room) {
+                Some(job) => self.do_job(rt, room, gate, steps, job),
                 None => {
                     thread::yield_now();
                     None
@@ -138,24 +178,23 @@ impl Desk {
         requires at_work { IsAtWork room.now 0 self }
         requires dealt { IsDealt self }
         ensures room { IsWorkerEndOf room.now result }
-        ensures number { end_number result ≡ self.passes.number }
+        ensures number { end_number result ≡ self.seats.number }
         ensures worked { HasWorked result }
         ensures left { result.left ≡ self.left }
-        ensures passes { result.passes ≡ self.passes }
+        ensures seats { result.seats ≡ self.seats }
     {
         let Desk {
-            passes,
+            seats,
             taken,
             pushed,
-            given_up,
             left,
         } = self;
         WorkerEnd {
             taken,
             pushed,
-            given_up,
+            given_up: seats.given_up.count(),
             left,
-            passes,
+            seats,
         }
     }
 }

@@ -1,18 +1,18 @@
-//! The queue of jobs: what each of its passes knows, and how a step changes that.
+//! The queue of jobs: what the holder of each of its passes knows, and how a step changes that.
 
 use bucket_merge::MergeJob;
-use crossbeam_queue::RuledArrayQueue;
+use counted_queue::{Closing, CountedQueue};
 use crossbeam_queue::protocol::{Join, Lesson, Outcome, Protocol, Split};
 use std::collections::LinkedList;
 
 /// What a pass of the job queue knows: its parts of sixteen, of which the board's pass begins with all, whether it
-/// posts, how many jobs it posted, the numbers of those that it took, and how many were taken by the passes that it
-/// took in. No value of it is made.
+/// posts, how many jobs it posted, those that it took, and how many were taken by the passes that it took in. No value of
+/// it is made.
 pub struct Hand {
     pub parts: u64,
     pub posts: bool,
     pub posted: u64,
-    pub taken: LinkedList<u64>,
+    pub taken: LinkedList<MergeJob>,
     pub absorbed: u64,
 }
 
@@ -26,6 +26,12 @@ impl Protocol<MergeJob, Hand> for JobRule {
     ghost holds = { JobsInOrder };
 
     ghost first = { first_hand };
+}
+
+impl Closing<Hand> for JobRule {
+    ghost use Rattle.std.specs.Prelude.{◌≡◌, true};
+
+    ghost may_close = { λ v. v.posts ≡ true };
 }
 
 /// A pass for one more worker.
@@ -61,9 +67,9 @@ impl Outcome<MergeJob, Hand> for Posts {
 }
 
 impl Lesson<MergeJob, Hand> for Posts {
-    ghost use Rattle.merge_board.specs.JobOrder.{Waiting};
+    ghost use Rattle.std.specs.Prelude.{◌≤◌, length};
 
-    ghost fact = { λ v jobs. Waiting v.posted jobs };
+    ghost fact = { λ v jobs. length jobs ≤ v.posted };
 }
 
 /// A job is taken.
@@ -76,9 +82,9 @@ impl Outcome<MergeJob, Hand> for Takes {
 }
 
 impl Lesson<MergeJob, Hand> for Takes {
-    ghost use Rattle.merge_board.specs.JobOrder.{WaitingAfter};
+    ghost use Rattle.std.specs.Prelude.{⊤};
 
-    ghost fact = { λ v jobs. WaitingAfter v.taken jobs };
+    ghost fact = { λ v jobs. ⊤ };
 }
 
 /// How many jobs were taken, at most.
@@ -102,4 +108,4 @@ impl Lesson<MergeJob, Hand> for CountsWaiting {
 }
 
 /// The jobs that wait for a worker.
-pub type JobQueue = RuledArrayQueue<MergeJob, Hand, JobRule>;
+pub type JobQueue = CountedQueue<MergeJob, Hand, JobRule>;

@@ -1,7 +1,7 @@
-//! The queue of outcomes: what each of its passes knows, and how a step changes that.
+//! The queue of outcomes: what the holder of each of its passes knows, and how a step changes that.
 
 use bucket_merge::MergeOut;
-use crossbeam_queue::RuledArrayQueue;
+use counted_queue::{Closing, CountedQueue};
 use crossbeam_queue::protocol::{Join, Lesson, Outcome, Protocol, Split};
 use std::collections::LinkedList;
 
@@ -46,6 +46,11 @@ impl Protocol<Sent, Log> for OutRule {
     ghost first = { first_log };
 }
 
+// Nobody closes it.
+impl Closing<Log> for OutRule {
+    ghost may_close = { λ v. ⊥ };
+}
+
 /// A pass for one more worker.
 pub struct Hires;
 
@@ -79,9 +84,9 @@ impl Outcome<Sent, Log> for Pushes {
 }
 
 impl Lesson<Sent, Log> for Pushes {
-    ghost use Rattle.merge_board.specs.OutOrder.{QueuedAfter};
+    ghost use Rattle.std.specs.Prelude.{⊤};
 
-    ghost fact = { λ v sent. QueuedAfter v.worker v.pushed sent };
+    ghost fact = { λ v sent. ⊤ };
 }
 
 /// An outcome is collected.
@@ -100,4 +105,4 @@ impl Lesson<Sent, Log> for Collects {
 }
 
 /// The outcomes that wait for the collector.
-pub type OutQueue = RuledArrayQueue<Sent, Log, OutRule>;
+pub type OutQueue = CountedQueue<Sent, Log, OutRule>;

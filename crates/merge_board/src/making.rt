@@ -1,18 +1,18 @@
 //! How a room and its parts are made.
 
 ghost use Rattle.std.specs.Prelude.{◌≡◌, ◌≤◌, ◌+◌, ◌-◌, IfOk, OnOk, length, true};
-ghost use Rattle.crossbeam_queue.specs.Passes.{view, IsPassOf};
+ghost use Rattle.counted_queue.specs.Seats.{view, IsSeatOf};
 ghost use Rattle.merge_board.specs.Hired.{AreHired};
 ghost use Rattle.std.specs.List.{AllByRecursion};
 ghost use Rattle.merge_board.specs.Parts.{AreParts, AreNumbered, IsWorkerOf, number_of};
 
+use crate::given_up::GivenUp;
 use crate::hand::{self, Hand, JobQueue};
 use crate::log::{self, Log, OutQueue, Sent};
-use crate::parts::{Board, Collector, Parts, Room, Worker, WorkerPasses};
+use crate::parts::{Board, Collector, Parts, Room, Worker, WorkerSeats};
 use bucket_merge::MergeJob;
-use crossbeam_queue::Pass;
+use counted_queue::Seat;
 use std::alloc::{AllocError, Global};
-use std::sync::OnceLock;
 
 /// How many jobs, how many outcomes, and how many outcomes of one worker for which there was no slot, may wait.
 const CAPACITY: usize = 64;
@@ -21,19 +21,19 @@ const CAPACITY: usize = 64;
 fn hire(
     alloc: Global,
     room: &Room,
-    poster: &mut Pass<MergeJob, Hand>,
-    gatherer: &mut Pass<Sent, Log>,
+    poster: &mut Seat<MergeJob, Hand>,
+    gatherer: &mut Seat<Sent, Log>,
     number: u64,
 ) -> Result<Worker, AllocError>
-    requires jobs { IsPassOf room.now.jobs poster.old }
-    requires outs { IsPassOf room.now.outs gatherer.old }
+    requires jobs { IsSeatOf room.now.jobs poster.old }
+    requires outs { IsSeatOf room.now.outs gatherer.old }
     requires poster { ((view poster.old).posts ≡ true) × (2 ≤ (view poster.old).parts) }
     requires gatherer { ((view gatherer.old).collects ≡ true) × (2 ≤ (view gatherer.old).parts) }
     requires number { (view gatherer.old).made ≡ number }
     ensures worker { IfOk result (IsWorkerOf room.now) }
     ensures numbered { IfOk result (λ worker. number_of worker ≡ number) }
-    ensures jobs { IsPassOf room.now.jobs poster.new }
-    ensures outs { IsPassOf room.now.outs gatherer.new }
+    ensures jobs { IsSeatOf room.now.jobs poster.new }
+    ensures outs { IsSeatOf room.now.outs gatherer.new }
     ensures poster { OnOk result (view poster.new
         ≡ record (view poster.old) { parts = (view poster.old).parts - 1 }) }
     ensures gatherer { OnOk result (view gatherer.new
@@ -43,7 +43,12 @@ fn hire(
     let jobs = room.jobs.another::<hand::Hires>(poster);
     let outs = room.outs.another::<log::Hires>(gatherer);
     Ok(Worker {
-        passes: WorkerPasses { number, jobs, outs },
+        seats: WorkerSeats {
+            number,
+            jobs,
+            outs,
+            given_up: GivenUp::none(),
+        },
         left,
     })
 }
@@ -52,16 +57,16 @@ fn hire(
 fn hire_all(
     alloc: Global,
     room: &Room,
-    poster: &mut Pass<MergeJob, Hand>,
-    gatherer: &mut Pass<Sent, Log>,
+    poster: &mut Seat<MergeJob, Hand>,
+    gatherer: &mut Seat<Sent, Log>,
     workers: u32,
 ) -> Result<Vec<Worker>, AllocError>
     requires few { workers ≤ 8 }
-    requires jobs { IsPassOf room.now.jobs poster.old }
-    requires outs { IsPassOf room.now.outs gatherer.old }
+    requires jobs { IsSeatOf room.now.jobs poster.old }
+    requires outs { IsSeatOf room.now.outs gatherer.old }
     requires none { AreHired 0 (view poster.old) (view gatherer.old) }
-    ensures jobs { IsPassOf room.now.jobs poster.new }
-    ensures outs { IsPassOf room.now.outs gatherer.new }
+    ensures jobs { IsSeatOf room.now.jobs poster.new }
+    ensures outs { IsSeatOf room.now.outs gatherer.new }
     ensures hired { OnOk result (AreHired workers (view poster.new) (view gatherer.new)) }
     ensures each { IfOk result (λ hired. AllByRecursion (IsWorkerOf room.now) hired.items) }
     ensures numbers { IfOk result (λ hired. AreNumbered 0 hired.items) }
@@ -82,25 +87,17 @@ pub fn make(alloc: Global, workers: u32) -> Result<Parts, AllocError>
     requires few { workers ≤ 8 }
     ensures { IfOk result (AreParts workers) }
 {
-    let (jobs, mut poster) = JobQueue::ruled(alloc, CAPACITY)?;
-    let (outs, mut gatherer) = OutQueue::ruled(alloc, CAPACITY)?;
-    let room = Room {
-        jobs,
-        outs,
-        closed: OnceLock::new(),
-    };
+    let (jobs, mut poster) = JobQueue::new(alloc, CAPACITY)?;
+    let (outs, mut gatherer) = OutQueue::new(alloc, CAPACITY)?;
+    let room = Room { jobs, outs };
     let workers = hire_all(alloc, &room, &mut poster, &mut gatherer, workers)?;
     Ok(Parts {
         room,
         board: Board {
-            pass: poster,
+            seat: poster,
             posted: 0,
-            returned: 0,
         },
         workers,
-        collector: Collector {
-            pass: gatherer,
-            empty_looks: 0,
-        },
+        collector: Collector { seat: gatherer },
     })
 }

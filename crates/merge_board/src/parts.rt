@@ -1,15 +1,15 @@
-//! The room and the parts that go with it: each holds its passes of the two queues, and no other is made.
+//! The room and the parts that go with it: each holds its seats at the two queues, and no other is made.
 
 ghost use Rattle.std.specs.Prelude.{◌≡◌, ◌+◌, ◌≤◌, true, [], length, vec_len, vec_capacity};
-ghost use Rattle.crossbeam_queue.specs.Passes.{view, ruled_capacity};
+ghost use Rattle.counted_queue.specs.Seats.{view, capacity_of, empty_looks_of, last_looks_of, refused_of};
 ghost use Rattle.merge_board.specs.Hands.{drawn, new_hand};
 ghost use Rattle.merge_board.specs.Logs.{pushed_count, new_log};
 
+use crate::given_up::GivenUp;
 use crate::hand::{Hand, JobQueue};
 use crate::log::{Log, OutQueue, Sent};
 use bucket_merge::{MergeJob, MergeOut};
-use crossbeam_queue::Pass;
-use std::sync::OnceLock;
+use counted_queue::Seat;
 
 /// What `make` gives.
 #[derive(Drop)]
@@ -20,52 +20,54 @@ pub struct Parts {
     pub collector: Collector,
 }
 
-/// What all threads share: the jobs that wait, the outcomes that wait, and the mark that no more jobs will be posted.
+/// What all threads share: the jobs that wait, with the mark that no more will be posted, and the outcomes that wait.
 #[derive(Drop)]
 pub struct Room {
     pub(crate) jobs: JobQueue,
     pub(crate) outs: OutQueue,
-    pub(crate) closed: OnceLock<()>,
-    ghost job_capacity: { ruled_capacity jobs ≡ 64 },
-    ghost out_capacity: { ruled_capacity outs ≡ 64 },
+    ghost job_capacity: { capacity_of jobs ≡ 64 },
+    ghost out_capacity: { capacity_of outs ≡ 64 },
 }
 
 /// The right to post jobs.
 #[derive(Drop)]
 pub struct Board {
-    pub(crate) pass: Pass<MergeJob, Hand>,
+    pub(crate) seat: Seat<MergeJob, Hand>,
     pub(crate) posted: u64,
-    // How many jobs came back. Only a job that does raises it.
-    pub(crate) returned: u64,
-    ghost poster: { (view pass).posts ≡ true },
-    ghost count: { (view pass).posted ≡ posted },
-    ghost took_none: { drawn (view pass) ≡ 0 },
+    ghost poster: { (view seat).posts ≡ true },
+    ghost count: { (view seat).posted ≡ posted },
+    ghost took_none: { drawn (view seat) ≡ 0 },
 }
 
 /// A board that was closed.
 #[derive(Drop)]
 pub struct BoardEnd {
-    pub(crate) pass: Pass<MergeJob, Hand>,
-    ghost poster: { (view pass).posts ≡ true },
-    ghost took_none: { drawn (view pass) ≡ 0 },
+    pub(crate) seat: Seat<MergeJob, Hand>,
+    ghost poster: { (view seat).posts ≡ true },
+    ghost took_none: { drawn (view seat) ≡ 0 },
 }
 
-/// A worker's passes of both queues, and its number among the workers of its room.
+/// A worker's seats at both queues, its number among the workers of its room, and the merges that it gave up.
 #[derive(Drop)]
-pub(crate) struct WorkerPasses {
+pub(crate) struct WorkerSeats {
     pub(crate) number: u64,
-    pub(crate) jobs: Pass<MergeJob, Hand>,
-    pub(crate) outs: Pass<Sent, Log>,
+    pub(crate) jobs: Seat<MergeJob, Hand>,
+    pub(crate) outs: Seat<Sent, Log>,
+    pub(crate) given_up: GivenUp,
 }
 
 /// A worker that hasn't run.
 #[derive(Drop)]
 pub struct Worker {
-    pub(crate) passes: WorkerPasses,
+    pub(crate) seats: WorkerSeats,
     pub(crate) left: Vec<MergeOut>,
-    ghost took_none: { view passes.jobs ≡ new_hand },
-    ghost pushed_none: { view passes.outs ≡ new_log passes.number },
+    ghost took_none: { view seats.jobs ≡ new_hand },
+    ghost pushed_none: { view seats.outs ≡ new_log seats.number },
+    ghost none_given_up: { seats.given_up ≡ [] },
     ghost none_left: { left.items ≡ [] },
+    ghost never_looked: { empty_looks_of seats.jobs ≡ 0 },
+    ghost never_looked_last: { last_looks_of seats.jobs ≡ 0 },
+    ghost none_refused: { refused_of seats.outs ≡ [] },
     ghost slots: { 64 ≤ vec_capacity left },
 }
 
@@ -77,34 +79,33 @@ pub struct WorkerEnd {
     pub pushed: u64,
     pub given_up: u64,
     pub left: Vec<MergeOut>,
-    pub(crate) passes: WorkerPasses,
-    ghost job_parts: { (view passes.jobs).parts ≡ 1 },
-    ghost all_taken: { drawn (view passes.jobs) ≡ taken },
-    ghost out_parts: { (view passes.outs).parts ≡ 1 },
-    ghost pushes: { (view passes.outs).pushes ≡ true },
-    ghost numbered: { (view passes.outs).worker ≡ passes.number },
-    ghost all_pushed: { pushed_count (view passes.outs) ≡ pushed },
+    pub(crate) seats: WorkerSeats,
+    ghost job_parts: { (view seats.jobs).parts ≡ 1 },
+    ghost all_taken: { drawn (view seats.jobs) ≡ taken },
+    ghost out_parts: { (view seats.outs).parts ≡ 1 },
+    ghost pushes: { (view seats.outs).pushes ≡ true },
+    ghost numbered: { (view seats.outs).worker ≡ seats.number },
+    ghost all_pushed: { pushed_count (view seats.outs) ≡ pushed },
+    ghost all_given_up: { length seats.given_up ≡ given_up },
     ghost accounted: { taken ≡ pushed + given_up + vec_len left },
 }
 
 /// The right to collect outcomes.
 #[derive(Drop)]
 pub struct Collector {
-    pub(crate) pass: Pass<Sent, Log>,
-    // How often no outcome waited. Only a look that finds none raises it.
-    pub(crate) empty_looks: u64,
-    ghost collects: { (view pass).collects ≡ true },
-    ghost pushed_none: { pushed_count (view pass) ≡ 0 },
-    ghost none_taken_in: { length (view pass).known ≡ 0 },
+    pub(crate) seat: Seat<Sent, Log>,
+    ghost collects: { (view seat).collects ≡ true },
+    ghost pushed_none: { pushed_count (view seat) ≡ 0 },
+    ghost none_taken_in: { length (view seat).known ≡ 0 },
 }
 
 /// A collector that has ended.
 #[derive(Drop)]
 pub struct CollectorEnd {
-    pub(crate) pass: Pass<Sent, Log>,
-    ghost collects: { (view pass).collects ≡ true },
-    ghost pushed_none: { pushed_count (view pass) ≡ 0 },
-    ghost none_taken_in: { length (view pass).known ≡ 0 },
+    pub(crate) seat: Seat<Sent, Log>,
+    ghost collects: { (view seat).collects ≡ true },
+    ghost pushed_none: { pushed_count (view seat) ≡ 0 },
+    ghost none_taken_in: { length (view seat).known ≡ 0 },
 }
 
 /// The account of a room whose ends were all given back, and the outcomes that nobody collected.

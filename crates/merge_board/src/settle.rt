@@ -3,7 +3,7 @@
 ghost use Rattle.std.specs.Prelude.{◌≡◌, ◌+◌, ◌<◌, ◌^◌, [], true, length, vec_len, IfOk};
 ghost use Rattle.std.specs.List.{AllByRecursion, sum_by};
 ghost use Rattle.crossbeam_queue.specs.Fifo.{Held};
-ghost use Rattle.crossbeam_queue.specs.Passes.{view, IsPassOf};
+ghost use Rattle.counted_queue.specs.Seats.{view, IsSeatOf};
 ghost use Rattle.merge_board.specs.Hands.{drawn, hand_with};
 ghost use Rattle.merge_board.specs.Logs.{pushed_count, log_with};
 ghost use Rattle.merge_board.specs.OutOrder.{Accounts};
@@ -12,22 +12,22 @@ ghost use Rattle.merge_board.specs.Settling.{AreTakenIn, IsDrained};
 
 use crate::hand::{self, Counts, CountsWaiting, Hand};
 use crate::log::{self, Collects, Log, Sent};
-use crate::parts::{BoardEnd, CollectorEnd, Room, Settled, WorkerEnd, WorkerPasses};
+use crate::parts::{BoardEnd, CollectorEnd, Room, Settled, WorkerEnd, WorkerSeats};
 use bucket_merge::{MergeJob, MergeOut};
-use crossbeam_queue::Pass;
+use counted_queue::Seat;
 use std::alloc::{AllocError, Global};
 use std::sync::Wait;
 
 impl Room {
-    /// Takes in the passes of a worker that has ended.
-    fn take_in(&self, hand: &mut Pass<MergeJob, Hand>, log: &mut Pass<Sent, Log>, end: WorkerEnd)
-        requires jobs { IsPassOf self.now.jobs hand.old × ((view hand.old).posts ≡ true) }
-        requires outs { IsPassOf self.now.outs log.old × ((view log.old).collects ≡ true) }
+    /// Takes in the seats of a worker that has ended.
+    fn take_in(&self, hand: &mut Seat<MergeJob, Hand>, log: &mut Seat<Sent, Log>, end: WorkerEnd)
+        requires jobs { IsSeatOf self.now.jobs hand.old × ((view hand.old).posts ≡ true) }
+        requires outs { IsSeatOf self.now.outs log.old × ((view log.old).collects ≡ true) }
         requires end { IsWorkerEndOf self.now end }
-        ensures jobs { IsPassOf self.now.jobs hand.new }
-        ensures outs { IsPassOf self.now.outs log.new }
-        ensures hand { view hand.new ≡ hand_with (view hand.old) (view end.passes.jobs) }
-        ensures log { view log.new ≡ log_with (view log.old) (view end.passes.outs) }
+        ensures jobs { IsSeatOf self.now.jobs hand.new }
+        ensures outs { IsSeatOf self.now.outs log.new }
+        ensures hand { view hand.new ≡ hand_with (view hand.old) (view end.seats.jobs) }
+        ensures log { view log.new ≡ log_with (view log.old) (view end.seats.outs) }
         ensures fits { drawn (view hand.new) < 2 ^ 64 }
     {
         let WorkerEnd {
@@ -35,32 +35,33 @@ impl Room {
             pushed: _,
             given_up: _,
             left: _,
-            passes,
+            seats,
         } = end;
-        let WorkerPasses {
+        let WorkerSeats {
             number: _,
             jobs,
             outs,
-        } = passes;
+            given_up: _,
+        } = seats;
         self.jobs.absorb::<hand::TakesIn>(hand, jobs);
-        self.jobs.learn_as::<Counts>(hand);
+        self.jobs.learn::<Counts>(hand);
         self.outs.absorb::<log::TakesIn>(log, outs);
     }
 
-    /// Takes in the passes of all workers, and answers how many jobs they took and how many outcomes they pushed.
+    /// Takes in the seats of all workers, and answers how many jobs they took and how many outcomes they pushed.
     fn take_in_all(
         &self,
-        hand: &mut Pass<MergeJob, Hand>,
-        log: &mut Pass<Sent, Log>,
+        hand: &mut Seat<MergeJob, Hand>,
+        log: &mut Seat<Sent, Log>,
         mut ends: Vec<WorkerEnd>,
     ) -> (u64, u64)
-        requires jobs { IsPassOf self.now.jobs hand.old }
-        requires outs { IsPassOf self.now.outs log.old }
+        requires jobs { IsSeatOf self.now.jobs hand.old }
+        requires outs { IsSeatOf self.now.outs log.old }
         requires ends { AllByRecursion (IsWorkerEndOf self.now) ends.items }
         requires none { AreTakenIn ends.items ends.items (view hand.old) (view hand.old) (view log.old) (view log.old)
             0 0 }
-        ensures jobs { IsPassOf self.now.jobs hand.new }
-        ensures outs { IsPassOf self.now.outs log.new }
+        ensures jobs { IsSeatOf self.now.jobs hand.new }
+        ensures outs { IsSeatOf self.now.outs log.new }
         ensures all { AreTakenIn ends.items [] (view hand.old) (view hand.new) (view log.old) (view log.new)
             result.0 result.1 }
     {
@@ -80,16 +81,16 @@ impl Room {
         &self,
         rt: &R,
         alloc: Global,
-        log: &mut Pass<Sent, Log>,
+        log: &mut Seat<Sent, Log>,
     ) -> Result<Vec<MergeOut>, AllocError>
-        requires outs { IsPassOf self.now.outs log.old }
+        requires outs { IsSeatOf self.now.outs log.old }
         requires collects { (view log.old).collects ≡ true }
         ensures drained { IfOk result (λ queued. IsDrained (view log.old) (view log.new) queued.items) }
         ensures empty { IfOk result (λ _. Held 0 (Accounts (view log.new))) }
     {
         let mut queued = Vec::new(alloc);
         for _ in rt.forever() {
-            match self.outs.pop_as::<Collects, R>(rt, log) {
+            match self.outs.pop::<Collects, R>(rt, log) {
                 Some(sent) => queued.push(sent.out)?,
                 None => return Ok(queued),
             }
@@ -119,10 +120,10 @@ impl Room {
         ensures all_outs { IfOk result (λ s. s.pushed ≡ s.collected + vec_len s.queued) }
         ensures order { IfOk result (λ s. KeepsOrder (collected_in_all collector) s.queued.items workers.items) }
     {
-        let BoardEnd { pass: mut hand } = board;
-        let CollectorEnd { pass: mut log } = collector;
+        let BoardEnd { seat: mut hand } = board;
+        let CollectorEnd { seat: mut log } = collector;
         let (taken, pushed) = self.take_in_all(&mut hand, &mut log, workers);
-        let waiting = self.jobs.len_as::<CountsWaiting, R>(rt, &mut hand) as u64;
+        let waiting = self.jobs.len::<CountsWaiting, R>(rt, &mut hand) as u64;
         let queued = self.drain(rt, alloc, &mut log)?;
         Ok(Settled {
             posted: taken + waiting,

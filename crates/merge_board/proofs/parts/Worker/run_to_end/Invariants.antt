@@ -6,5 +6,5 @@ invariant-loop g l = record {
   at_work : IsAtWork l.room 0 l.desk;
   dealt : IsDealt l.desk;
   index : vec_len l.desk.left < 64;
-  number : l.desk.passes.number ≡ l.initial.desk.passes.number;
+  number : l.desk.seats.number ≡ l.initial.desk.seats.number;
 }

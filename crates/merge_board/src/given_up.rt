@@ -1,0 +1,68 @@
+//! The merges that a worker gave up, since memory was refused to them.
+
+ghost use Rattle.std.specs.Prelude.{◌≡◌, ◌+◌, ◌<◌, ◌^◌, [], ◌∷◌, ◌++◌, length, IfSome, IfNone};
+
+use bucket_merge::{MergeJob, MergeOut};
+use http_server::Log;
+use outside::Steps;
+use std::marker::Model;
+use std::sync::ledger::Ledger;
+
+/// The merges that were given up, with their number. A merge joins them in `make` alone, where `MergeJob::run` has handed
+/// it back: no other call makes one of them.
+#[derive(Drop)]
+pub(crate) struct GivenUp {
+    count: u64,
+    jobs: Log<MergeJob, ()>,
+}
+
+impl Model for GivenUp {
+    ghost use Rattle.std.specs.Prelude.{◌≡◌, List, length};
+    ghost use Rattle.std.specs.Coded.{coded_list};
+    ghost use Rattle.bucket_merge.specs.Job.{Job, job_code};
+    ghost use Rattle.counted_queue.specs.Histories.{firsts};
+
+    ghost Value = { List Job };
+
+    ghost coded = { coded_list job_code };
+
+    ghost view = { λ g. firsts g.jobs.items };
+
+    ghost invariant = { λ g. length (firsts g.jobs.items) ≡ g.count };
+}
+
+impl GivenUp {
+    /// None yet.
+    pub(crate) fn none() -> GivenUp
+        ensures { result ≡ [] }
+    {
+        GivenUp {
+            count: 0,
+            jobs: Log::new(),
+        }
+    }
+
+    /// How many they are.
+    pub(crate) fn count(&self) -> u64
+        ensures { result ≡ length self.now }
+    {
+        self.count
+    }
+
+    /// Makes a merge, or gives it up where memory is refused to it.
+    pub(crate) fn make<L: Ledger>(&mut self, steps: &mut Steps<L>, job: MergeJob) -> Option<MergeOut>
+        requires { length self.old + 1 < 2 ^ 64 }
+        ensures out { IfSome result (λ out. out ≡ job) }
+        ensures kept { IfSome result (λ _. self.new ≡ self.old) }
+        ensures given_up { IfNone result (self.new ≡ self.old ++ job ∷ []) }
+    {
+        match job.run(steps) {
+            Ok(out) => Some(out),
+            Err(back) => {
+                self.count += 1;
+                self.jobs = self.jobs.and(&back.job, &());
+                None
+            }
+        }
+    }
+}

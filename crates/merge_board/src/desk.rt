@@ -1,14 +1,16 @@
 //! A worker at work: it takes a job, makes the merge, and hands out its outcome, until there is nothing more to do.
 
-ghost use Rattle.std.specs.Prelude.{◌≡◌, ◌<◌, ◌≤◌, IfSome, IfNone, vec_len};
-ghost use Rattle.counted_queue.specs.Seats.{view, mark_of, last_looks_of};
+ghost use Rattle.std.specs.Prelude.{◌≡◌, ◌++◌, [], ◌∷◌, ◌<◌, ◌≤◌, IfSome, IfNone, vec_len};
+ghost use Rattle.counted_queue.specs.Seats.{view, mark_of, last_looks_of, IsSeatOf};
+ghost use Rattle.merge_board.specs.Hands.{TakesJob};
 ghost use Rattle.merge_board.specs.Parts.{IsWorkerEndOf, end_number};
 ghost use Rattle.merge_board.specs.Work.{IsAtWork, IsDealt, HasInHand, IsHandedOut, StopsFor, HasWorked};
 
-use crate::hand::Takes;
+use crate::hand::{Hand, Takes};
 use crate::log::{Pushes, Sent};
 use crate::parts::{Room, WorkerEnd, WorkerSeats};
 use bucket_merge::{MergeJob, MergeOut};
+use counted_queue::Seat;
 use outside::{Gate, Steps};
 use std::sync::ledger::Ledger;
 use std::sync::{OnceToken, Wait};
@@ -25,44 +27,48 @@ pub(crate) struct Desk {
     pub(crate) left: Vec<MergeOut>,
 }
 
-impl Desk {
-    /// Takes the job that waited longest. A look that finds none is counted.
-    fn take_job<R: Wait>(&mut self, rt: &R, room: &Room) -> Option<MergeJob>
-        requires at_work { IsAtWork room.now 0 self.old }
-        requires dealt { IsDealt self.old }
-        ensures some { IfSome result (λ _. IsAtWork room.now 1 self.new) }
-        ensures in_hand { IfSome result (HasInHand self.new) }
-        ensures none { IfNone result (IsAtWork room.now 0 self.new) }
-        ensures dealt { IfNone result (IsDealt self.new) }
-        ensures left { vec_len self.new.left ≡ vec_len self.old.left }
-        ensures number { self.new.seats.number ≡ self.old.seats.number }
-    {
-        let job = room.jobs.pop::<Takes, R>(rt, &mut self.seats.jobs)?;
-        self.taken += 1;
-        Some(job)
+/// The job that waited longest, if one waits. A look that finds none is counted, and as a last one too where the closing
+/// mark was set before it, as the token shows.
+fn look_for_job<R: Wait>(
+    rt: &R,
+    room: &Room,
+    seat: &mut Seat<MergeJob, Hand>,
+    closed: &Option<OnceToken<'_, ()>>,
+) -> Option<MergeJob>
+    requires seat { IsSeatOf room.now.jobs seat.old }
+    requires part { 0 < (view seat.old).parts }
+    requires closed { IfSome closed.now (λ token. token.of ≡ mark_of room.now.jobs) }
+    ensures seat { IsSeatOf room.now.jobs seat.new }
+    ensures job { IfSome result (λ job. TakesJob (view seat.old) job (view seat.new)) }
+    ensures kept { IfNone result (view seat.new ≡ view seat.old) }
+    ensures looked { IfNone result (IfSome closed.now (λ _. 1 ≤ last_looks_of seat.new)) }
+{
+    match closed {
+        Some(token) => room.jobs.pop_after::<Takes, R>(rt, seat, token),
+        None => room.jobs.pop::<Takes, R>(rt, seat),
     }
+}
 
-    /// The same where the board is closed, as the token shows. A look that finds none is counted as a last one too.
-    fn take_last<R: Wait>(
+impl Desk {
+    /// Takes the job that waited longest, if one waits.
+    fn take_job<R: Wait>(
         &mut self,
         rt: &R,
         room: &Room,
-        closed: &OnceToken<'_, ()>,
+        closed: &Option<OnceToken<'_, ()>>,
     ) -> Option<MergeJob>
         requires at_work { IsAtWork room.now 0 self.old }
         requires dealt { IsDealt self.old }
-        requires closed { closed.now.of ≡ mark_of room.now.jobs }
+        requires closed { IfSome closed.now (λ token. token.of ≡ mark_of room.now.jobs) }
         ensures some { IfSome result (λ _. IsAtWork room.now 1 self.new) }
         ensures in_hand { IfSome result (HasInHand self.new) }
         ensures none { IfNone result (IsAtWork room.now 0 self.new) }
         ensures dealt { IfNone result (IsDealt self.new) }
-        ensures looked { IfNone result (1 ≤ last_looks_of self.new.seats.jobs) }
+        ensures looked { IfNone result (IfSome closed.now (λ _. 1 ≤ last_looks_of self.new.seats.jobs)) }
         ensures left { vec_len self.new.left ≡ vec_len self.old.left }
         ensures number { self.new.seats.number ≡ self.old.seats.number }
     {
-        let job = room
-            .jobs
-            .pop_after::<Takes, R>(rt, &mut self.seats.jobs, closed)?;
+        let job = look_for_job(rt, room, &mut self.seats.jobs, closed)?;
         self.taken += 1;
         Some(job)
     }
@@ -158,13 +164,11 @@ impl Desk {
         ensures last { IfSome result (StopsFor room.now self.new) }
         ensures number { self.new.seats.number ≡ self.old.seats.number }
     {
-        match room.jobs.closed() {
-            Some(closed) => match self.take_last(rt, room, &closed) {
-                Some(job) => self.do_job(rt, room, gate, steps, job),
-                None => Some(Some(closed)),
-            },
-            None => match self.take_job(rt, room) {
-                Some(job) => self.do_job(rt, room, gate, steps, job),
+        let closed = room.jobs.closed();
+        match self.take_job(rt, room, &closed) {
+            Some(job) => self.do_job(rt, room, gate, steps, job),
+            None => match closed {
+                Some(token) => Some(Some(token)),
                 None => {
                     thread::yield_now();
                     None

@@ -50,7 +50,11 @@ impl GivenUp {
     }
 
     /// Makes a merge, or gives it up where memory is refused to it.
-    pub(crate) fn make<L: Ledger>(&mut self, steps: &mut Steps<L>, job: MergeJob) -> Option<MergeOut>
+    pub(crate) fn make<L: Ledger>(
+        &mut self,
+        steps: &mut Steps<L>,
+        job: MergeJob,
+    ) -> Option<MergeOut>
         requires { length self.old + 1 < 2 ^ 64 }
         ensures out { IfSome result (λ out. out ≡ job) }
         ensures kept { IfSome result (λ _. self.new ≡ self.old) }

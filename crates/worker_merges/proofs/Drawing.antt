@@ -1,7 +1,7 @@
 -- What drawing and posting one job more leaves.
 use Rattle.worker_merges.proofs.Prelude.{◌≡◌, ℕ, zero, suc, ◌+◌, ◌<◌, ◌≤◌, List, [], ◌∷◌, map, set, true, false, refl}
 use Rattle.worker_merges.proofs.Prelude.{sym, ap, ◌∙◌, subst, arith, inl, inr, cond, Bool, ◌⊎◌, Job, drawn, Draws}
-use Rattle.worker_merges.proofs.Prelude.{RoseBy, waiting_in, FoundNoRoom, Became}
+use Rattle.worker_merges.proofs.Prelude.{waiting_in, Became}
 use Rattle.std.proofs.lemmas.List.Sums.{sum_by-cons}
 use Rattle.ledger_close.specs.bucket_levels.Pending.{PendingAt, pending_at}
 use Rattle.ledger_close.specs.bucket_levels.Levels.{LevelsAt}
@@ -61,11 +61,6 @@ none_below (first ∷ others) (suc level) zero none below = none 0 (omega arith)
 none_below (first ∷ others) (suc level) (suc slot) none below =
     none_below others level slot (λ at lt. none (suc at) (omega arith)) (omega arith)
 
--- ---- what came back
-
-pub rose_again : (was mid now a b : ℕ) → RoseBy a was mid → RoseBy b mid now → RoseBy (a + b) was now
-rose_again was mid now a b one two = omega (arith, one, two)
-
 -- ---- so far
 
 -- how many levels have no job that waits
@@ -78,8 +73,7 @@ pub record DrawnUpTo (back : ℕ) (pending : List PendingAt) : Type 0 where
 pub record SoFar (posted_first : ℕ) (first pending : List PendingAt) (posted back : ℕ) : Type 0 where
   pub drawn_are : map drawn pending ≡ map drawn first
   pub count : posted_first + waiting_in first ≡ posted + back + waiting_in pending
-  pub full : 0 < back → FoundNoRoom posted_first posted
-  pub more : posted_first ≤ posted
+  pub full : 0 < back → 64 ≤ posted
   pub levels : DrawnUpTo back pending
 
 pub nothing_so_far : (posted : ℕ) (pending : List PendingAt) → SoFar posted pending pending posted 0
@@ -87,7 +81,6 @@ nothing_so_far posted pending = record {
   drawn_are = refl;
   count = omega arith;
   full = λ some. absurd (omega arith);
-  more = omega arith;
   levels = record { levels = 0; back_few = omega arith; few = omega arith; none = λ level lt. absurd (omega arith) };
 }
 
@@ -121,10 +114,6 @@ one_more_level back now old job new d draws deep le =
       none = λ level lt. none_below old.pending job.level level draws.first lt;
     })
 
-found_later : (first old new : ℕ) → old ≤ new → FoundNoRoom first old → FoundNoRoom first new
-found_later first old new le f =
-    let high = f.high in record { posted = f.posted; low = f.low; high = omega (arith, high); full = f.full }
-
 pub one_more : (posted_first : ℕ) (first : List PendingAt) (old : LevelsAt) (job : Job) (new : LevelsAt)
     (posted next back more : ℕ) → SoFar posted_first first old.pending posted back → Draws old job new → job.level ≤ 10
     → Became posted next more → SoFar posted_first first new.pending next (back + more)
@@ -133,22 +122,18 @@ one_more posted_first first old job new posted next back more s draws deep becam
     let less = one_less old.pending job.level draws.waited in
     let left = ap waiting_in pending in
     let count = s.count in
-    let later = s.more in
     let drawn_are = ap (map drawn) pending ∙ drawn_as_before old.pending job.level ∙ s.drawn_are in
     elim became [
       | inl it ↦ let next_is = it.0 in let none = it.1 in record {
         drawn_are = drawn_are;
         count = omega (arith, less, left, count, next_is, none);
-        full = λ some.
-            found_later posted_first posted next (omega (arith, next_is)) (s.full (omega (arith, none, some)));
-        more = omega (arith, later, next_is);
+        full = λ some. (let full = s.full (omega (arith, none, some)) in omega (arith, next_is, full));
         levels = one_more_level back (back + more) old job new s.levels draws deep (omega (arith, none));
       }
       | inr it ↦ let next_is = it.0 in let one = it.1 in record {
         drawn_are = drawn_are;
         count = omega (arith, less, left, count, next_is, one);
-        full = λ some. record { posted = posted; low = later; high = omega (arith, next_is); full = it.2 };
-        more = omega (arith, later, next_is);
+        full = λ some. (let full = it.2 in omega (arith, next_is, full));
         levels = one_more_level back (back + more) old job new s.levels draws deep (omega (arith, one));
       }
     ]

@@ -9,9 +9,9 @@ pub use Rattle.bucket_merge.specs.Job.{Job}
 pub use Rattle.ledger_close.specs.States.{LedgerAt, levels_at}
 pub use Rattle.ledger_close.specs.bucket_levels.HandIn.{Draws, IsRefusedFor, TakesIn, drawn}
 pub use Rattle.merge_board.proofs.Lists.{every_prefix, every_snoc}
-pub use Rattle.merge_board.specs.Parts.{Grew, IsBoardIn, IsCollectorIn, IsWorkerEndOf, IsWorkerOf, RoseBy, board_parts}
+pub use Rattle.merge_board.specs.Parts.{Grew, IsBoardIn, IsCollectorIn, IsWorkerEndOf, IsWorkerOf, board_parts}
 pub use Rattle.merge_board.specs.Parts.{collected_by, collector_parts, empty_looks_of, posted_by, returned_to}
 pub use Rattle.merge_board.specs.declared.parts.Room.{Room}
 pub use Rattle.worker_merges.specs.Adopting.{Adopts, AreHandedIn, IsHandedIn}
-pub use Rattle.worker_merges.specs.Posting.{Became, FoundNoRoom, waiting_in}
+pub use Rattle.worker_merges.specs.Posting.{Became, waiting_in}
 pub use Rattle.worker_merges.specs.WorkerSlots.{HasEnded, IsManned}

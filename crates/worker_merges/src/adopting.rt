@@ -1,8 +1,7 @@
 //! How merges that workers have finished are handed in.
 
-ghost use Rattle.std.specs.Prelude.{◌≡◌};
-ghost use Rattle.merge_board.specs.Parts.{IsCollectorIn, collector_parts, collected_by, empty_looks_of, RoseBy};
-ghost use Rattle.merge_board.specs.Parts.{FoundNoOut};
+ghost use Rattle.std.specs.Prelude.{◌≡◌, ◌+◌};
+ghost use Rattle.merge_board.specs.Parts.{IsCollectorIn, collector_parts, collected_by, empty_looks_of};
 ghost use Rattle.worker_merges.specs.Adopting.{IsHandedIn, Adopts};
 
 use bucket_merge::MergeOut;
@@ -26,8 +25,7 @@ pub fn adopt<R: Wait>(rt: &R, ledger: &mut Ledger, room: &Room, collector: &mut 
     ensures parts { collector_parts collector.new ≡ collector_parts collector.old }
     ensures state { ledger.new.state ≡ ledger.old.state }
     ensures adopts { Adopts (collected_by collector.old) (collected_by collector.new) ledger.old ledger.new }
-    ensures looked { RoseBy 1 (empty_looks_of collector.old) (empty_looks_of collector.new) }
-    ensures empty { FoundNoOut collector.new }
+    ensures looked { empty_looks_of collector.new ≡ empty_looks_of collector.old + 1 }
 {
     for _ in rt.forever() {
         match collector.take(rt, room) {

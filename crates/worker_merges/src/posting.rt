@@ -1,9 +1,9 @@
 //! How merges that have begun are posted.
 
-ghost use Rattle.std.specs.Prelude.{◌≡◌, ◌+◌, ◌<◌, map};
+ghost use Rattle.std.specs.Prelude.{◌≡◌, ◌+◌, ◌<◌, ◌≤◌, map};
 ghost use Rattle.ledger_close.specs.bucket_levels.HandIn.{drawn};
-ghost use Rattle.merge_board.specs.Parts.{IsBoardIn, board_parts, posted_by, returned_to, RoseBy};
-ghost use Rattle.worker_merges.specs.Posting.{waiting_in, Became, FoundNoRoom};
+ghost use Rattle.merge_board.specs.Parts.{IsBoardIn, board_parts, posted_by, returned_to};
+ghost use Rattle.worker_merges.specs.Posting.{waiting_in, Became};
 
 use bucket_merge::MergeJob;
 use ledger_close::Ledger;
@@ -16,7 +16,7 @@ fn post_one<R: Wait>(rt: &R, room: &Room, board: &mut Board, job: MergeJob) -> u
     ensures room { IsBoardIn room.now board.new }
     ensures parts { board_parts board.new ≡ board_parts board.old }
     ensures became { Became (posted_by board.old) (posted_by board.new) result }
-    ensures returned { RoseBy result (returned_to board.old) (returned_to board.new) }
+    ensures returned { returned_to board.new ≡ returned_to board.old + result }
 {
     match board.post(rt, room, job) {
         Ok(_) => 0,
@@ -33,8 +33,8 @@ pub fn post_due<R: Wait>(rt: &R, ledger: &mut Ledger, room: &Room, board: &mut B
     ensures state { ledger.new.state ≡ ledger.old.state }
     ensures drawn { ledger.new.pending ≡ map drawn ledger.old.pending }
     ensures count { posted_by board.old + waiting_in ledger.old.pending ≡ posted_by board.new + result }
-    ensures returned { RoseBy result (returned_to board.old) (returned_to board.new) }
-    ensures full { 0 < result → FoundNoRoom (posted_by board.old) (posted_by board.new) }
+    ensures returned { returned_to board.new ≡ returned_to board.old + result }
+    ensures full { 0 < result → 64 ≤ posted_by board.new }
 {
     let mut back = 0;
     while let Some(job) = ledger.next_job() {

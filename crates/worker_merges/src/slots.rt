@@ -2,6 +2,7 @@
 
 ghost use Rattle.std.specs.Prelude.{◌≡◌, ◌≤◌, [], All, IfOk, length, vec_len, vec_capacity};
 ghost use Rattle.std.specs.List.{AllByRecursion};
+ghost use Rattle.counted_queue.specs.Seats.{mark_of};
 ghost use Rattle.merge_board.specs.declared.parts.Room.{Room as RoomOf};
 ghost use Rattle.merge_board.specs.Parts.{IsBoardIn, IsWorkerOf, IsWorkerEndOf};
 ghost use Rattle.worker_merges.specs.WorkerSlots.{IsManned, HasEnded, IsSideOf, IsSideEndOf, IsWorkshop};
@@ -47,7 +48,7 @@ impl Side {
     pub fn close<'r, R: Wait>(self, rt: &R, room: &'r Room) -> (SideEnd, OnceToken<'r, ()>)
         requires { IsBoardIn room.now self.board }
         ensures ends { (workers : _) → IsSideOf room.now workers self → IsSideEndOf room.now workers result.0 }
-        ensures mark { result.1.of ≡ room.now.closed.id }
+        ensures mark { result.1.of ≡ mark_of room.now.jobs }
     {
         let Side { board, collector } = self;
         let (board, mark) = board.shut(rt, room);

@@ -1,8 +1,9 @@
 //! How workers run in their slots.
 
 ghost use denote.Param.Send.{IsSync};
-ghost use Rattle.std.specs.Prelude.{◌≡◌, ◌<◌, All, length};
-ghost use Rattle.merge_board.specs.Parts.{IsWorkerOf, IsWorkerEndOf};
+ghost use Rattle.std.specs.Prelude.{◌≡◌, ◌<◌, ◌≤◌, ◌⊎◌, All, length, vec_len};
+ghost use Rattle.merge_board.specs.Parts.{IsWorkerOf, IsWorkerEndOf, last_looks_of};
+ghost use Rattle.merge_board.specs.Work.{HasWorked};
 ghost use Rattle.worker_merges.specs.WorkerSlots.{IsManned, HasEnded};
 
 use crate::slots::WorkerSlot;
@@ -28,7 +29,9 @@ fn run_counted<R: Wait, G: Gate, L: Ledger>(
     requires parts { blank.parts ≡ L.parts }
     requires some { 0 < L.parts }
     requires worker { IsWorkerOf room.now worker }
-    ensures { IsWorkerEndOf room.now result }
+    ensures room { IsWorkerEndOf room.now result }
+    ensures worked { HasWorked result }
+    ensures last { (vec_len result.left ≡ 64) ⊎ (1 ≤ last_looks_of result) }
 {
     let mut steps: Steps<L> = Steps::new(blank);
     worker.run(rt, room, gate, &mut steps)

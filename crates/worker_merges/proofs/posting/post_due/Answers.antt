@@ -1,6 +1,5 @@
 use Rattle.worker_merges.proofs.Prelude.{◌≡◌, ◌≤◌, ◌∙◌, sym, subst, arith, map, drawn, LedgerAt, levels_at, posted_by}
-use Rattle.worker_merges.proofs.Prelude.{returned_to}
-use Rattle.worker_merges.proofs.Drawing.{one_more, rose_again}
+use Rattle.worker_merges.proofs.Drawing.{one_more}
 use Rattle.worker_merges.proofs.posting.post_due.Goals as goal
 use Rattle.worker_merges.proofs.Drawing.{none_wait_drawn}
 
@@ -12,8 +11,7 @@ loop-job-preserved g c =
       room = posted.ensures.room;
       parts = posted.ensures.parts ∙ it.parts;
       state = c.next_job.ensures.state ∙ it.state;
-      returned = rose_again (returned_to c.args.board.now) (returned_to c.loop-job.board)
-          (returned_to posted.new.board) c.loop-job.back posted.result it.returned posted.ensures.returned;
+      returned = (let so_far = it.returned in let one = posted.ensures.returned in omega (arith, so_far, one));
       so_far = one_more (posted_by c.args.board.now) c.args.ledger.now.pending (levels_at c.loop-job.ledger)
           c.in-Some.job (levels_at c.next_job.new.self) (posted_by c.loop-job.board) (posted_by posted.new.board)
           c.loop-job.back posted.result it.so_far c.in-Some.ensures.drawn

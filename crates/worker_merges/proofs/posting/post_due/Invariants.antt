@@ -1,4 +1,4 @@
-use Rattle.worker_merges.proofs.Prelude.{◌≡◌, IsBoardIn, board_parts, posted_by, returned_to, RoseBy, waiting_in}
+use Rattle.worker_merges.proofs.Prelude.{◌≡◌, ◌+◌, IsBoardIn, board_parts, posted_by, returned_to, waiting_in}
 use Rattle.worker_merges.proofs.Drawing.{SoFar}
 use Rattle.worker_merges.proofs.posting.post_due.Given as goal
 
@@ -7,7 +7,7 @@ invariant-loop-job g l = record {
   room : IsBoardIn l.room l.board;
   parts : board_parts l.board ≡ board_parts l.initial.board;
   state : l.ledger.state ≡ l.initial.ledger.state;
-  returned : RoseBy l.back (returned_to l.initial.board) (returned_to l.board);
+  returned : returned_to l.board ≡ returned_to l.initial.board + l.back;
   so_far : SoFar (posted_by l.initial.board) l.initial.ledger.pending l.ledger.pending (posted_by l.board) l.back;
 }
 

@@ -1,20 +1,19 @@
 use Rattle.merge_board.proofs.Prelude.{◌∷◌, [], List, length, length-append, ap, sym, subst, arith, view, Has, Job}
-use Rattle.merge_board.proofs.Prelude.{AreDealt, Hand, numbers_of}
-use Rattle.merge_board.proofs.JobSteps.{takes}
+use Rattle.merge_board.proofs.Prelude.{AreDealt, Hand}
 use Rattle.merge_board.proofs.Lists.{has_last}
 use Rattle.merge_board.proofs.Working.{hand_grown, below_all, took}
 use Rattle.merge_board.proofs.desk.Desk.take_job.Goals as goal
 
-pub pop-requires-clause-rule : goal.pop-requires-clause-rule
-pop-requires-clause-rule g c =
-    takes _ _ (let some_part = ap (λ (v : Hand). v.parts) c.requires.at_work.hand in omega arith)
+pub look_for_job-requires-clause-part : goal.look_for_job-requires-clause-part
+look_for_job-requires-clause-part g c =
+    let some_part = ap (λ (v : Hand). v.parts) c.requires.at_work.hand in omega arith
 
 pub returns-clause-some : goal.returns-clause-some
 returns-clause-some g c =
     let at = c.requires.at_work in
-    let is = c.in_ok-job.ensures.popped.0 in
+    let is = c.in_ok-job.ensures.job.0 in
     let old = (view c.args.self.now.seats.jobs).taken in record {
-      jobs = c.in_ok-job.ensures.queue;
+      jobs = c.in_ok-job.ensures.seat;
       outs = at.outs;
       hand = hand_grown _ _ _ at.hand is;
       log = at.log;
@@ -31,12 +30,12 @@ returns-clause-in_hand g c =
     let desk = c.args.self.now in
     let dealt = c.requires.dealt in
     let job = c.in_ok-job.job in
-    let above = c.in_ok-job.ensures.popped.1 in
+    let above = c.in_ok-job.ensures.job.1 in
     let old = (view desk.seats.jobs).taken in
     let pushed = (view desk.seats.outs).pushed in
     let left = desk.left.items in
     let given_up = desk.seats.given_up in
-    let more = sym (ap (λ (v : Hand). v.taken) c.in_ok-job.ensures.popped.0) in record {
+    let more = sym (ap (λ (v : Hand). v.taken) c.in_ok-job.ensures.job.0) in record {
       dealt = subst (λ (xs : List Job). AreDealt xs pushed left given_up) more
           (took job old pushed left given_up dealt above);
       taken = subst (λ (xs : List Job). Has xs job) more (has_last old job);

@@ -26,7 +26,7 @@ hand_with v u = record v { parts = v.parts + u.parts; absorbed = v.absorbed + dr
 abbrev pub numbers_of : List Job → List ℕ
 numbers_of jobs = map (λ (job : Job). job.number) jobs
 
--- The job's number comes after the numbers of all jobs that were taken before. The last part lets a worker count what it
+-- The job's number comes after those of all jobs that were taken before. The last part lets a worker count what it
 -- takes.
 abbrev pub TakesJob : Hand → Job → Hand → Type 0
 TakesJob v job w =

@@ -19,8 +19,8 @@ use Rattle.merge_board.specs.declared.parts.WorkerEnd.{WorkerEnd}
 abbrev pub AreApart : List Job → List Job → Type 0
 AreApart xs ys = AllByRecursion (λ n. AllByRecursion (λ m. n ≢ m) (numbers_of ys)) (numbers_of xs)
 
--- How the jobs that a worker took relate to the outcomes that it pushed, to those that it has left and to the merges that
--- it gave up: these are jobs that it took, their numbers rise, and no number is in two of the three.
+-- How the jobs that a worker took relate to the outcomes that it pushed, to those that it has left and to the merges
+-- that it gave up: these are jobs that it took, their numbers rise, and no number is in two of the three.
 pub record AreDealt (taken pushed left given_up : List Job) : Type 0 where
   pub rising : IsRising (numbers_of taken)
   pub pushed_rise : IsRising (numbers_of pushed)

@@ -27,8 +27,8 @@ pub(crate) struct Desk {
     pub(crate) left: Vec<MergeOut>,
 }
 
-/// The job that waited longest, if one waits. A look that finds none is counted, and as a last one too where the closing
-/// mark was set before it, as the token shows.
+/// The job that waited longest, if one waits. A look that finds none is counted, and as a last one too where the
+/// closing mark was set before it, as the token shows.
 fn look_for_job<R: Wait>(
     rt: &R,
     room: &Room,
@@ -94,7 +94,8 @@ impl Desk {
         }
     }
 
-    /// Passes the gate, makes the merge of a job, and pushes its outcome. A merge that memory is refused to is given up.
+    /// Passes the gate, makes the merge of a job, and pushes its outcome. A merge that memory is refused to is given
+    /// up.
     fn make_merge<R: Wait, G: Gate, L: Ledger>(
         &mut self,
         rt: &R,

@@ -8,8 +8,8 @@ use outside::Steps;
 use std::marker::Model;
 use std::sync::ledger::Ledger;
 
-/// The merges that were given up, with their number. A merge joins them in `make` alone, where `MergeJob::run` has handed
-/// it back: no other call makes one of them.
+/// The merges that were given up, with their number. A merge joins them in `make` alone, where `MergeJob::run` has
+/// handed it back: no other call changes them.
 #[derive(Drop)]
 pub(crate) struct GivenUp {
     count: u64,

@@ -6,8 +6,8 @@ use crossbeam_queue::protocol::{Join, Lesson, Outcome, Protocol, Split};
 use std::collections::LinkedList;
 
 /// What a pass of the job queue knows: its parts of sixteen, of which the board's pass begins with all, whether it
-/// posts, how many jobs it posted, those that it took, and how many were taken by the passes that it took in. No value of
-/// it is made.
+/// posts, how many jobs it posted, those that it took, and how many were taken by the passes that it took in. No value
+/// of it is made.
 pub struct Hand {
     pub parts: u64,
     pub posts: bool,

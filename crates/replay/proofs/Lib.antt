@@ -24,6 +24,7 @@ pub mod Counting
 pub mod Acknowledging
 pub mod GoingOn
 pub mod Machining
+pub mod Possible
 pub mod Showing
 pub mod ShowCompleting
 pub mod Commands

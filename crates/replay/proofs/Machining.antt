@@ -22,16 +22,16 @@ use Rattle.replay.specs.Machine.{IsFirst, MayLeave, MachinesKeepUp, LogsGrow}
 use Rattle.replay.proofs.Yields.{closed_more}
 use Rattle.replay.proofs.Runs.{not_both, next_seq}
 
-abbrev in_order : Machine → InOrder
+abbrev pub in_order : Machine → InOrder
 in_order m = record { pairs = pair_at m.state.levels; merges = m.merges; ready = m.ready }
 
 -- what the law says, and what it rests on: merges are those of the files, and the record in hand closes the ledger
-record IsSound (s : ClosingState) (m : Machine) : Type 0 where
-  closed : AreClosedTo s m.log m.state
-  files : IsOfFiles m.state.levels m.state.header.ledger_seq (in_order m)
-  accepted : (bytes : List ℕ) → m.hand ≡ Some bytes → (closed : PreparedClose) × IsClose m.state bytes (Ok closed)
-  acked : m.acked ≤ length m.log
-  may : (index count : ℕ) → slice_get m.may index ≡ Some count → MayLeave m count
+pub record IsSound (s : ClosingState) (m : Machine) : Type 0 where
+  pub closed : AreClosedTo s m.log m.state
+  pub files : IsOfFiles m.state.levels m.state.header.ledger_seq (in_order m)
+  pub accepted : (bytes : List ℕ) → m.hand ≡ Some bytes → (closed : PreparedClose) × IsClose m.state bytes (Ok closed)
+  pub acked : m.acked ≤ length m.log
+  pub may : (index count : ℕ) → slice_get m.may index ≡ Some count → MayLeave m count
 
 -- ---- lists of one and two numbers
 
@@ -250,13 +250,13 @@ happens_kept s Install old new h sound = install_kept s old new h sound
 happens_kept s (HandIn made) old new h sound = hand_in_kept s made old new h sound
 happens_kept s Reopen old new h sound = reopening_kept s old new h h.left sound
 
-all_kept : (s : ClosingState) (events : List Event) (old new : Machine) → AllHappen events old new → IsSound s old
+pub all_kept : (s : ClosingState) (events : List Event) (old new : Machine) → AllHappen events old new → IsSound s old
     → IsSound s new
 all_kept s [] old new h sound = subst (IsSound s) (sym h) sound
 all_kept s (event ∷ events) old new h sound =
     all_kept s events h.0 new h.2 (happens_kept s event old h.0 h.1 sound)
 
-first_sound : (s : ClosingState) (m : Machine) → length s.levels ≡ level_count → IsFirst s m → IsSound s m
+pub first_sound : (s : ClosingState) (m : Machine) → length s.levels ≡ level_count → IsFirst s m → IsSound s m
 first_sound s m count first = record {
   closed = subst (λ (l : List (List ℕ)). AreClosedTo s l m.state) (sym first.log) ([], (refl, first.state));
   files = subst (λ (x : ClosingState). IsOfFiles x.levels x.header.ledger_seq

@@ -10,6 +10,7 @@ pub mod Completeness
 pub mod Initing
 pub mod StoredLaws
 pub mod Machine
+pub mod PossibleEvents
 pub mod Beside
 pub mod Showing
 pub mod Sampling

@@ -3,6 +3,7 @@
 ghost use Rattle.replay.specs.Outcomes as outcome;
 ghost use Rattle.replay.specs.Completeness as entire;
 ghost use Rattle.replay.specs.Machine as machine;
+ghost use Rattle.replay.specs.PossibleEvents as possible;
 ghost use Rattle.replay.specs.StoredLaws as stored;
 ghost use Rattle.replay.specs.CommandLaws as command;
 ghost use Rattle.stored_outcome.specs.run_streams.SeenVolume.{seen_volume};
@@ -142,4 +143,15 @@ pub fn machines_keep_up()
 /// A record that is closed stays so, whatever happens.
 pub fn logs_grow()
     ensures { machine.LogsGrow }
+{}
+
+/// A machine can begin with each state.
+pub fn machines_begin()
+    ensures { possible.MachinesBegin }
+{}
+
+/// Whatever has happened, each event can happen next where what it asks for holds: so the ledger of a record that is
+/// kept can close, whatever merges were handed in.
+pub fn machines_go_on()
+    ensures { possible.MachinesGoOn }
 {}

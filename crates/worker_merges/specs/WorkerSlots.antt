@@ -17,8 +17,8 @@ pub record IsManned (room : Room) (slot : WorkerSlot) : Type 0 where
   pub exists : slot.worker ≡ Some worker
   pub of : IsWorkerOf room worker
 
--- What is left of a worker of the room lies there. It worked until 64 of its outcomes found no slot, or until a look that
--- was begun after the board was closed found no job.
+-- What is left of a worker of the room lies there. It worked until 64 of its outcomes found no slot, or until a look
+-- that was begun after the board was closed found no job.
 pub record HasEnded (room : Room) (slot : WorkerSlot) : Type 0 where
   pub end : WorkerEnd
   pub left : slot.end ≡ Some end

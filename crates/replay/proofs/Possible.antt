@@ -1,15 +1,15 @@
 -- That each event of the machine can happen.
 use Rattle.replay.proofs.Prelude.{◌≡◌, inl, inr, ℕ, zero, suc, ◌+◌, ◌≤◌, ◌<◌, Bool, true, false, List, [], ◌∷◌, ◌++◌}
-use Rattle.replay.proofs.Prelude.{length, Option, Some, None, Ok, IsSome, refl, sym, ap, subst, ◌∙◌, arith, slice_get}
+use Rattle.replay.proofs.Prelude.{length, if◌then◌else◌, Option, Some, None, Ok, IsSome, refl, sym, ap, subst, ◌∙◌, arith, slice_get}
 use Rattle.replay.proofs.Prelude.{length-append, ClosingState, PreparedClose}
-use Rattle.std.proofs.lemmas.Bool.{cases_lt}
+use Rattle.std.proofs.lemmas.Bool.{cases_eq, cases_lt}
 use Rattle.std.proofs.lemmas.List.{get_or_past}
 use Rattle.stored_outcome.specs.header_chain.SkipList.{finished}
 use Rattle.stored_outcome.specs.bucket_core.Bucket.{Contents}
 use Rattle.worker_merges.specs.bucket_merge.Walk.{merge_of}
 use Rattle.worker_merges.proofs.bucket_merge_proofs.Merging.{pass_is_merge}
 use Rattle.stored_outcome.specs.bucket_levels.Hash.{list_hash}
-use Rattle.stored_outcome.specs.bucket_levels.Spills.{level_count, spills}
+use Rattle.stored_outcome.specs.bucket_levels.Spills.{level_count, upper, spills}
 use Rattle.stored_outcome.specs.bucket_levels.Pairs.{Pair, empty_pair, pair_at}
 use Rattle.stored_outcome.specs.bucket_levels.InOrder as levels
 use levels.{PendingInputs, InOrder, put_at, IsNext, spilled, committed, IsCommittedIf, AreCommitted, IsStepInOrder}
@@ -29,11 +29,13 @@ some_next (Some outcome) level merge = (outcome, refl)
 some_next None level merge =
     (merge_of level merge.older merge.newer, pass_is_merge level merge.older merge.newer)
 
--- one level's part of it leaves the files of all levels below
+-- One level's part of it leaves the files of all levels below. What was ready there is committed, where it spills above.
 record CommittedIf (b : Bool) (above seq : ℕ) (old : InOrder) : Type 0 where
   new : InOrder
   is : IsCommittedIf b above seq old new
   deeper : (level : ℕ) → suc above < level → new.pairs level ≡ old.pairs level
+  ready : new.ready (suc above) ≡ (if b then None else old.ready (suc above))
+  others : (level : ℕ) → (level ≡ suc above → ⊥) → new.ready level ≡ old.ready level
 
 committed_if : (b : Bool) (above seq : ℕ) (old : InOrder) → CommittedIf b above seq old
 committed_if true above seq old =
@@ -46,17 +48,37 @@ committed_if true above seq old =
       deeper = λ deep below.
           put_other emptied level (record (old.pairs level) { curr = next.0 }) deep (λ e. omega (arith, below, e))
           ∙ put_other old.pairs above (spilled (old.pairs above)) deep (λ e. omega (arith, below, e));
+      ready = put_same old.ready level None;
+      others = λ other apart. put_other old.ready level None other apart;
     }
-committed_if false above seq old = record { new = old; is = refl; deeper = λ deep below. refl }
+committed_if false above seq old = record {
+  new = old;
+  is = refl;
+  deeper = λ deep below. refl;
+  ready = refl;
+  others = λ other apart. refl;
+}
+
+-- what is ready after it
+abbrev pub ready_after : (seq : ℕ) → InOrder → (level : ℕ) → Option Contents
+ready_after seq old level = if spills (upper level) seq then None else old.ready level
 
 record AllCommitted (level seq : ℕ) (old : InOrder) : Type 0 where
   new : InOrder
   are : AreCommitted level seq old new
   deeper : (deep : ℕ) → level < deep → new.pairs deep ≡ old.pairs deep
+  ready : (i : ℕ) → 1 ≤ i → i ≤ level → new.ready i ≡ ready_after seq old i
+  deeper_ready : (deep : ℕ) → level < deep → new.ready deep ≡ old.ready deep
 
 all_committed : (level seq : ℕ) (old : InOrder) → AllCommitted level seq old
 unfolding AreCommitted
-all_committed zero seq old = record { new = old; are = refl; deeper = λ deep below. refl }
+all_committed zero seq old = record {
+  new = old;
+  are = refl;
+  deeper = λ deep below. refl;
+  ready = λ i low high. absurd (omega (arith, low, high));
+  deeper_ready = λ deep below. refl;
+}
 all_committed (suc above) seq old =
     let one = committed_if (spills above seq) above seq old in
     let rest = all_committed above seq one.new in
@@ -64,12 +86,21 @@ all_committed (suc above) seq old =
       new = rest.new;
       are = (one.new, one.is, rest.are);
       deeper = λ deep below. rest.deeper deep (omega (arith, below)) ∙ one.deeper deep below;
+      ready = λ i low high. elim (cases_eq i (suc above)) [
+        | inl here ↦ subst (λ (n : ℕ). rest.new.ready n ≡ ready_after seq old n) (sym here)
+            (rest.deeper_ready (suc above) (omega arith) ∙ one.ready)
+        | inr other ↦ rest.ready i low (omega (arith, high, other))
+            ∙ ap (λ (r : Option Contents). if spills (upper i) seq then None else r) (one.others i other)
+      ];
+      deeper_ready = λ deep below. rest.deeper_ready deep (omega (arith, below))
+          ∙ one.others deep (λ e. omega (arith, below, e));
     }
 
 record Stepped (seq : ℕ) (fresh : Contents) (old : InOrder) : Type 0 where
   new : InOrder
   is : IsStepInOrder seq fresh old new
   deeper : (level : ℕ) → 10 < level → new.pairs level ≡ old.pairs level
+  ready : (level : ℕ) → 1 ≤ level → level < level_count → new.ready level ≡ ready_after seq old level
 
 stepped : (seq : ℕ) (fresh : Contents) (old : InOrder) → Stepped seq fresh old
 stepped seq fresh old =
@@ -88,6 +119,7 @@ stepped seq fresh old =
       deeper = λ level below.
           put_other after.pairs 0 (record (after.pairs 0) { curr = first }) level (λ e. omega (arith, below, e))
           ∙ all.deeper level below;
+      ready = λ level low high. all.ready level low (omega (arith, high));
     }
 
 -- ---- closes
@@ -98,6 +130,8 @@ record LevelsStepped (m : Machine) (fresh : Contents) : Type 0 where
   new : InOrder
   steps : IsStepInOrder (m.state.header.ledger_seq + 1) fresh (in_order m) (record new { pairs = pair_at after })
   count : length after ≡ level_count
+  ready : (level : ℕ) → 1 ≤ level → level < level_count
+      → new.ready level ≡ ready_after (m.state.header.ledger_seq + 1) (in_order m) level
 
 levels_stepped : (s : ClosingState) (m : Machine) (fresh : Contents) → IsSound s m → LevelsStepped m fresh
 levels_stepped s m fresh sound =
@@ -120,11 +154,19 @@ levels_stepped s m fresh sound =
       steps = subst (λ (pairs : ℕ → Pair). IsStepInOrder (seq + 1) fresh (in_order m)
           (record step.new { pairs = pairs })) (λ i level. same level i) step.is;
       count = new_count;
+      ready = step.ready;
     }
 
-can_install : (s : ClosingState) (m : Machine) (bytes : List ℕ) → IsSound s m → m.hand ≡ Some bytes
-    → m.may ≡ (length m.log + 1) ∷ [] → (new : Machine) × IsInstall m new
-can_install s m bytes sound hand kept =
+-- a machine whose record in hand has closed its ledger
+pub record Installed (m : Machine) : Type 0 where
+  pub new : Machine
+  pub is : IsInstall m new
+  pub ready : (level : ℕ) → 1 ≤ level → level < level_count
+      → new.ready level ≡ ready_after (m.state.header.ledger_seq + 1) (in_order m) level
+
+pub installed : (s : ClosingState) (m : Machine) (bytes : List ℕ) → IsSound s m → m.hand ≡ Some bytes
+    → m.may ≡ (length m.log + 1) ∷ [] → Installed m
+installed s m bytes sound hand kept =
     let accepted = sound.accepted bytes hand in
     let taken = accepted.1.1.taken in
     let closes = accepted.1.1.closes in
@@ -142,9 +184,10 @@ can_install s m bytes sound hand kept =
       hand = None;
       may = length (m.log ++ bytes ∷ []) ∷ [];
       acked = length (m.log ++ bytes ∷ []);
-    } in (
-      new,
-      record {
+    } in
+    record {
+      new = new;
+      is = record {
         bytes = bytes;
         hand = hand;
         kept = kept;
@@ -164,8 +207,9 @@ can_install s m bytes sound hand kept =
         free = refl;
         may = refl;
         acked = refl;
-      },
-    )
+      };
+      ready = step.ready;
+    }
 
 -- ---- crashes
 
@@ -243,7 +287,7 @@ goes_on s m sound = record {
   takes = λ bytes closed free accepted.
       (record m { hand = Some bytes }, record { free = free; closed = closed; accepted = accepted; is = refl }, refl);
   writes = λ may some go. (record m { may = may }, inr (some, go, refl), refl);
-  installs = λ bytes hand kept. can_install s m bytes sound hand kept;
+  installs = λ bytes hand kept. let it = installed s m bytes sound hand kept in (it.new, it.is);
   makes = λ level low high.
       let merge = m.merges level in (
         record {

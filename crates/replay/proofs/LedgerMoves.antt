@@ -2,6 +2,7 @@
 use Rattle.replay.proofs.Prelude.{◌≡◌, inl, inr, ℕ, zero, suc, ◌+◌, ◌≤◌, ◌<◌, Bool, true, false, List, [], ◌∷◌, length}
 use Rattle.replay.proofs.Prelude.{if◌then◌else◌, Option, Some, None, Result, Ok, Err, refl, sym, ap, subst, ◌∙◌, arith}
 use Rattle.replay.proofs.Prelude.{slice_get, ClosingState, PreparedClose, IsClose, closes_are_one}
+use Rattle.std.proofs.Common.{set}
 use Rattle.std.proofs.lemmas.Bool.{cases_eq}
 use Rattle.std.proofs.lemmas.List.{length-set, get_or-set_same, get_or-set_other}
 use Rattle.std.proofs.lemmas.Option.{same_Some}
@@ -10,11 +11,9 @@ use Rattle.stored_outcome.specs.bucket_core.File.{file_of}
 use Rattle.worker_merges.specs.bucket_merge.Job.{Job}
 use Rattle.worker_merges.specs.bucket_merge.Merge.{IsMerge}
 use Rattle.stored_outcome.specs.bucket_levels.Spills.{level_count, upper, spills}
-use Rattle.stored_outcome.specs.bucket_levels.Pairs.{pair_at}
-use Rattle.stored_outcome.specs.bucket_levels.Step.{base_at}
 use Rattle.stored_outcome.specs.bucket_levels.InOrder.{PendingInputs, put_at, pending_inputs}
-use Rattle.stored_outcome.specs.bucket_levels.Pending.{PendingAt, not_pending, begun, pending_at, start_of, commit_of}
-use Rattle.stored_outcome.specs.bucket_levels.Pending.{AreRenewed, renews}
+use Rattle.stored_outcome.specs.bucket_levels.Pending.{PendingAt, not_pending, begun, pending_at, start_of}
+use Rattle.stored_outcome.specs.bucket_levels.Pending.{AreRenewed}
 use Rattle.stored_outcome.specs.bucket_levels.HandIn.{TakesIn, IsRefusedFor, handed_in}
 use Rattle.stored_outcome.specs.bucket_levels.Levels.{LevelsAt}
 use Rattle.stored_outcome.specs.bucket_levels.declared.hand_in.HandInFault.{HandInFault}
@@ -23,10 +22,10 @@ use Rattle.stored_outcome.proofs.bucket_levels_proofs.Ordering.{put_same, put_ot
 use Rattle.stored_outcome.specs.close_rules.declared.close_fault.CloseFault.{CloseFault}
 use Rattle.worker_merges.specs.ledger_close.States.{LedgerAt, levels_at}
 use Rattle.worker_merges.specs.Adopting.{IsHandedIn}
-use Rattle.replay.specs.Machine.{Machine, IsInstall, IsDue, IsHandIn}
+use Rattle.replay.specs.Machine.{Machine, IsInstall, IsHandIn}
 use Rattle.replay.specs.LedgerEvents.{is_there, Shows, made_of, HandInsAreEvents, ClosesAreEvents}
 use Rattle.replay.proofs.Machining.{IsSound, all_kept, first_sound, install_accepts}
-use Rattle.replay.proofs.Possible.{Installed, installed, ready_after}
+use Rattle.replay.proofs.Possible.{installed}
 use Rattle.replay.proofs.Runs.{next_seq}
 
 -- ---- outcomes
@@ -81,8 +80,7 @@ hand_in_event : (s : ClosingState) (m : Machine) (l new : LedgerAt) (out : Job) 
     → IsHandedIn out l new → (after : Machine) × IsHandIn (made_of out bucket is) m after × Shows after new
 hand_in_event s m l new out bucket is sound shows high (inl (takes, same)) =
     let given : record { start = out.seq; older = out.curr; newer = out.snap } ≡ inputs_by l out.level =
-    (λ i. record { start = takes.is.start i; older = takes.is.curr i; newer = takes.is.snap i }) in
-    (
+    (λ i. record { start = takes.is.start i; older = takes.is.curr i; newer = takes.is.snap i }) in (
       record m { ready = put_at m.ready out.level (Some bucket) },
       inl (
         record {
@@ -94,16 +92,15 @@ hand_in_event s m l new out bucket is sound shows high (inl (takes, same)) =
       ),
       taken_in_shows m l new out bucket shows high takes same,
     )
-hand_in_event s m l new out bucket is sound shows high (inr (wrong, refused, same)) =
-    (
-      m,
-      inr (
-        (λ due. not_due l out wrong refused
-            (due.inputs ∙ pending_by s m l out.level sound shows due.low due.high)),
-        refl,
-      ),
-      subst (Shows m) (sym same) shows,
-    )
+hand_in_event s m l new out bucket is sound shows high (inr (wrong, refused, same)) = (
+  m,
+  inr (
+    (λ due. not_due l out wrong refused
+        (due.inputs ∙ pending_by s m l out.level sound shows due.low due.high)),
+    refl,
+  ),
+  subst (Shows m) (sym same) shows,
+)
 
 pub hand_ins_are_events : HandInsAreEvents
 hand_ins_are_events s first old events l new out bucket is count begins happen shows high handed =
@@ -112,7 +109,7 @@ hand_ins_are_events s first old events l new out bucket is count begins happen s
 
 -- ---- closes
 
-closed_or : Result PreparedClose CloseFault → PreparedClose → PreparedClose
+abbrev closed_or : Result PreparedClose CloseFault → PreparedClose → PreparedClose
 closed_or (Ok closed) other = closed
 closed_or (Err wrong) other = other
 
@@ -148,8 +145,7 @@ close_event s m l new bytes prepared sound shows hand kept closes state renewed 
     ap (λ (r : Result PreparedClose CloseFault). closed_or r prepared)
     (closes_are_one m.state bytes (Ok it.is.closed) (Ok prepared) mine theirs) in
     let seq : prepared.state.header.ledger_seq ≡ m.state.header.ledger_seq + 1 =
-    next_seq m.state bytes prepared theirs in
-    (
+    next_seq m.state bytes prepared theirs in (
       it.new,
       it.is,
       record {

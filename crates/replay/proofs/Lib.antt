@@ -25,6 +25,7 @@ pub mod Acknowledging
 pub mod GoingOn
 pub mod Machining
 pub mod Possible
+pub mod LedgerMoves
 pub mod Showing
 pub mod ShowCompleting
 pub mod Commands

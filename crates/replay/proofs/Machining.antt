@@ -137,7 +137,7 @@ install_closes s old new sound i = record {
   header = i.closes.header;
 }
 
-install_accepts : (s : ClosingState) (old new : Machine) → IsSound s old → (i : IsInstall old new)
+pub install_accepts : (s : ClosingState) (old new : Machine) → IsSound s old → (i : IsInstall old new)
     → IsClose old.state i.bytes (Ok i.closed)
 install_accepts s old new sound i =
     let accepted = sound.accepted i.bytes i.hand in

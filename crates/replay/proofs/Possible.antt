@@ -1,7 +1,8 @@
 -- That each event of the machine can happen.
 use Rattle.replay.proofs.Prelude.{◌≡◌, inl, inr, ℕ, zero, suc, ◌+◌, ◌≤◌, ◌<◌, Bool, true, false, List, [], ◌∷◌, ◌++◌}
-use Rattle.replay.proofs.Prelude.{length, if◌then◌else◌, Option, Some, None, Ok, IsSome, refl, sym, ap, subst, ◌∙◌, arith, slice_get}
-use Rattle.replay.proofs.Prelude.{length-append, ClosingState, PreparedClose}
+use Rattle.replay.proofs.Prelude.{length, if◌then◌else◌, Option, Some, None, IsSome, refl, sym, ap, subst, ◌∙◌}
+use Rattle.replay.proofs.Prelude.{arith, slice_get, length-append, ClosingState, PreparedClose}
+use Rattle.std.proofs.Common.{true≢false}
 use Rattle.std.proofs.lemmas.Bool.{cases_eq, cases_lt}
 use Rattle.std.proofs.lemmas.List.{get_or_past}
 use Rattle.stored_outcome.specs.header_chain.SkipList.{finished}
@@ -16,8 +17,8 @@ use levels.{PendingInputs, InOrder, put_at, IsNext, spilled, committed, IsCommit
 use levels.{pending_inputs}
 use Rattle.stored_outcome.proofs.bucket_levels_proofs.Ordering.{put_same, put_other, steps_are_in_order}
 use Rattle.stored_outcome.specs.close_rules.Close.{upgraded_header}
-use Rattle.replay.specs.Machine.{Machine, MadeMerge, MayGo, StepsInOrder, IsInstall, IsDue, IsReopening, Event, Happens}
-use Rattle.replay.specs.Machine.{AllHappen, IsFirst, MayLeave}
+use Rattle.replay.specs.Machine.{Machine, IsInstall, IsReopening}
+use Rattle.replay.specs.Machine.{MayLeave}
 use Rattle.replay.specs.PossibleEvents.{CanGoOn, MachinesBegin, MachinesGoOn}
 use Rattle.replay.proofs.Machining.{in_order, IsSound, all_kept, first_sound}
 
@@ -29,7 +30,8 @@ some_next (Some outcome) level merge = (outcome, refl)
 some_next None level merge =
     (merge_of level merge.older merge.newer, pass_is_merge level merge.older merge.newer)
 
--- One level's part of it leaves the files of all levels below. What was ready there is committed, where it spills above.
+-- One level's part of it leaves the files of all levels below. What was ready there is committed, where the level
+-- above spills.
 record CommittedIf (b : Bool) (above seq : ℕ) (old : InOrder) : Type 0 where
   new : InOrder
   is : IsCommittedIf b above seq old new
@@ -215,7 +217,7 @@ installed s m bytes sound hand kept =
 
 in_hand : (hand : Option (List ℕ)) → IsSome hand → (bytes : List ℕ) × (hand ≡ Some bytes)
 in_hand (Some bytes) some = (bytes, refl)
-in_hand None some = absurd some
+in_hand None some = absurd (true≢false (sym some))
 
 -- what is there after a crash that left this state of these records
 abbrev opened_again : (s : ClosingState) → (log : List (List ℕ)) → (acked : ℕ) → Machine
@@ -231,29 +233,27 @@ opened_again s log acked = record {
 
 can_reopen : (s : ClosingState) (m : Machine) (index count : ℕ) → IsSound s m → slice_get m.may index ≡ Some count
     → MayLeave m count → (new : Machine) × IsReopening m new × (length new.log ≡ count)
-can_reopen s m index count sound may_be (inl is) =
-    (
-      opened_again m.state m.log m.acked,
-      record {
-        index = index;
-        count = count;
-        may_be = may_be;
-        left = inr ((λ e. omega (arith, is, e)), refl, refl);
-        merges = λ level low high. refl;
-        unready = λ level. refl;
-        free = refl;
-        may = refl;
-        acked = refl;
-      },
-      sym is,
-    )
+can_reopen s m index count sound may_be (inl is) = (
+  opened_again m.state m.log m.acked,
+  record {
+    index = index;
+    count = count;
+    may_be = may_be;
+    left = inr ((λ e. omega (arith, is, e)), refl, refl);
+    merges = λ level low high. refl;
+    unready = λ level. refl;
+    free = refl;
+    may = refl;
+    acked = refl;
+  },
+  sym is,
+)
 can_reopen s m index count sound may_be (inr (is, some)) =
     let hand = in_hand m.hand some in
     let bytes = hand.0 in
     let closed = sound.accepted bytes hand.1 in
     let log = m.log ++ bytes ∷ [] in
-    let longer : length log ≡ length m.log + 1 = length-append m.log (bytes ∷ []) in
-    (
+    let longer : length log ≡ length m.log + 1 = length-append m.log (bytes ∷ []) in (
       opened_again closed.0.state log m.acked,
       record {
         index = index;
@@ -272,15 +272,18 @@ can_reopen s m index count sound may_be (inr (is, some)) =
 -- ---- the laws
 
 pub machines_begin : MachinesBegin
-machines_begin s = (opened_again s [] 0, record {
-  state = refl;
-  log = refl;
-  merges = λ level low high. refl;
-  unready = λ level. refl;
-  free = refl;
-  may = refl;
-  acked = refl;
-})
+machines_begin s = (
+  opened_again s [] 0,
+  record {
+    state = refl;
+    log = refl;
+    merges = λ level low high. refl;
+    unready = λ level. refl;
+    free = refl;
+    may = refl;
+    acked = refl;
+  },
+)
 
 goes_on : (s : ClosingState) (m : Machine) → IsSound s m → CanGoOn m
 goes_on s m sound = record {

@@ -33,7 +33,8 @@ made_of out bucket is = record {
 
 -- ---- the laws
 
--- What `adopt` says of each outcome is the event that it is handed in: it is ready then, or it is refused and all stays.
+-- What `adopt` says of each outcome is the event that it is handed in: it is ready then, or it is refused and all
+-- stays.
 abbrev pub HandInsAreEvents : Type 0
 HandInsAreEvents = (s : ClosingState) (first old : Machine) (events : List Event) (l new : LedgerAt) (out : Job)
     (bucket : Contents) (is : IsMerge out.level out.curr out.snap bucket) → length s.levels ≡ level_count

@@ -11,6 +11,7 @@ pub mod Initing
 pub mod StoredLaws
 pub mod Machine
 pub mod PossibleEvents
+pub mod LedgerEvents
 pub mod Beside
 pub mod Showing
 pub mod Sampling

@@ -4,6 +4,7 @@ ghost use Rattle.replay.specs.Outcomes as outcome;
 ghost use Rattle.replay.specs.Completeness as entire;
 ghost use Rattle.replay.specs.Machine as machine;
 ghost use Rattle.replay.specs.PossibleEvents as possible;
+ghost use Rattle.replay.specs.LedgerEvents as ledger;
 ghost use Rattle.replay.specs.StoredLaws as stored;
 ghost use Rattle.replay.specs.CommandLaws as command;
 ghost use Rattle.stored_outcome.specs.run_streams.SeenVolume.{seen_volume};
@@ -154,4 +155,14 @@ pub fn machines_begin()
 /// kept can close, whatever merges were handed in.
 pub fn machines_go_on()
     ensures { possible.MachinesGoOn }
+{}
+
+/// What `adopt` says of an outcome that it hands in is an event of the machine.
+pub fn hand_ins_are_events()
+    ensures { ledger.HandInsAreEvents }
+{}
+
+/// What `Ledger::install` says of the record that is kept is an event of the machine.
+pub fn closes_are_events()
+    ensures { ledger.ClosesAreEvents }
 {}

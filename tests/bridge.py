@@ -24,9 +24,10 @@ import re
 import subprocess
 import sys
 import tempfile
-from typing import Dict, Iterator, List, NamedTuple, Optional, Tuple
+from typing import Dict, Iterable, Iterator, List, NamedTuple, Optional, Tuple
 
 import cases
+from earlier_types import earlier
 from harness import FILES, NETWORK, TESTS, Store, Tally, lay_out, read
 
 TOOLS = os.path.join(os.path.dirname(TESTS), "tools")
@@ -42,16 +43,11 @@ import stellar_xdr as xdr  # noqa: E402
 import strkey  # noqa: E402
 from file_source import FileFault, Source  # noqa: E402
 from start_image import StartImage  # noqa: E402
+from transaction_hash import transaction_hash  # noqa: E402
 
 import ledger_model  # noqa: E402
 import store_model  # noqa: E402
 
-# what the hash of a transaction is of after the network id, by the type of its envelope: its type, and a tag before it
-HASHED = {
-    "ENVELOPE_TYPE_TX_V0": (xdr.TRANSACTION_V0, bytes([0, 0, 0, 2, 0, 0, 0, 0])),
-    "ENVELOPE_TYPE_TX": (xdr.TRANSACTION, bytes([0, 0, 0, 2])),
-    "ENVELOPE_TYPE_TX_FEE_BUMP": (xdr.FEE_BUMP_TRANSACTION, bytes([0, 0, 0, 5])),
-}
 BAD, MISSING, BAD_INPUT, BAD_IMAGE, REFUSED, DONE = 7, 11, 9, 10, 3, 0
 IMAGE_COMMANDS = (b"init", b"catchup")
 EXAMPLES = os.path.join(os.path.dirname(TESTS), "examples")
@@ -145,16 +141,23 @@ def bytes_of(text: str) -> bytes:
     return bytes.fromhex("".join(re.findall(r'hex "([0-9a-f]*)"', text)))
 
 
-def read_row(name: str, data: bytes) -> Tuple[Optional[str], int]:
-    """The kind and offset of the fault of some bytes, or None and the end of their value, which is to be written as it
-    was."""
-    kind = xdr.TYPES["".join(part.capitalize() for part in name.split("_"))]
+def type_of_row(name: str) -> xdr.Type:
+    return xdr.TYPES["".join(part.capitalize() for part in name.split("_"))]
+
+
+def fault_of(kind: xdr.Type, data: bytes) -> Tuple[Optional[str], int]:
+    """The kind and offset of the fault of some bytes; or None and the end of their value, which is to have a form in
+    JSON and to be written as it was."""
     try:
         value, end = xdr.read(kind, data)
     except xdr.XdrFault as fault:
         return fault.kind, fault.offset
     stellar_json.encode(stellar_json.json_of(kind, value))
     return (None, end) if xdr.write(kind, value) == data[:end] else ("written otherwise", end)
+
+
+def read_row(name: str, data: bytes) -> Tuple[Optional[str], int]:
+    return read_image_row(data) if name == "start_image" else fault_of(type_of_row(name), data)
 
 
 def read_image_row(data: bytes) -> Tuple[Optional[str], int]:
@@ -169,10 +172,12 @@ def try_rows(top: str, tally: Tally) -> None:
         with open(path, encoding="utf-8") as file:
             rows = ROW.findall(file.read())
         for _, name, kind, number, text in rows:
-            got = read_image_row(bytes_of(text)) if name == "start_image" else read_row(name, bytes_of(text))
+            data, expected = bytes_of(text), (kind or None, int(number))
+            got = read_row(name, data)
             # what docs/FORMATS.md calls a wrong magic has no kind of its own
-            expected = (kind or None, int(number))
             is_so = got == expected or name == "start_image" and kind == "BadEnum" and got[1] == expected[1]
+            # a row of what protocol 19 reads otherwise
+            is_so = is_so or name != "start_image" and fault_of(earlier(type_of_row(name)), data) == expected
             detail = f"{os.path.basename(path)} {name}: {got}, not {expected}"
             tally.check("a row of a value or fault is as it says", is_so, detail)
 
@@ -229,7 +234,7 @@ def read_input(data: bytes, has_image: bool) -> Read:
             record_at = piece.start
             value = record_stream.close_record(source, piece)
             records.append(value)
-            if xdr.write(xdr.CLOSE_RECORD, value) != data[piece.start:piece.end]:
+            if xdr.write(xdr.RECORD, value) != data[piece.start:piece.end]:
                 raise FileFault("input", "written otherwise", piece.start)
             record_at = -1
     except FileFault as fault:
@@ -267,18 +272,13 @@ def network_of(case: cases.Case) -> bytes:
 
 def hashes_of(record: dict, network: bytes) -> List[str]:
     """The hashes of a record's transactions."""
-    found = []
-    for envelope in record["txSet"]["txs"]:
-        name, signed = envelope.values()
-        kind, tag = HASHED[name]
-        found.append(hashlib.sha256(network + tag + xdr.write(kind, signed["tx"])).hexdigest())
-    return sorted(found)
+    return sorted(transaction_hash(network, envelope).hex() for envelope in record["txSet"]["txs"])
 
 
 def try_text(tally: Tally, seen: Read) -> None:
     """Tries that each record has lines for people and in JSON."""
     for value in seen.records:
-        made = stellar_json.json_of(xdr.CLOSE_RECORD, value)
+        made = stellar_json.json_of(xdr.RECORD, value)
         lines = stellar_text.record_lines(made, len(value["txSet"]["txs"]))
         is_told = all(line.isprintable() for line in lines) and json.loads(stellar_json.encode(made)) == made
         tally.check("a record has lines", is_told, lines[0])
@@ -304,6 +304,12 @@ def try_output(tally: Tally, name: str, case: cases.Case, seen: Read) -> None:
     tally.check("records that closed are read", len(closed) <= len(seen.records), name)
 
 
+def earlier_fault(data: bytes, start: int) -> Tuple[Optional[str], int]:
+    """The fault of the record at an offset, as protocol 18 reads it."""
+    size = int.from_bytes(data[start - 4:start], "big") & 0x7FFFFFFF
+    return fault_of(earlier(xdr.RECORD), data[start:start + size])
+
+
 def try_faults(tally: Tally, name: str, case: cases.Case, seen: Read) -> None:
     """Compares the fault of an input with what the program says of it."""
     offset = seen.fault.offset if seen.fault else None
@@ -323,7 +329,8 @@ def try_faults(tally: Tally, name: str, case: cases.Case, seen: Read) -> None:
         last = case.output.decode().splitlines()[-1].split()
         if last[2] == "BadXdr":
             got = seen.fault and (seen.fault.what.split(",")[0], (offset or 0) - seen.record_at)
-            is_same = got == (last[4], int(last[3]))
+            expected = (last[4], int(last[3]))
+            is_same = expected in (got, earlier_fault(case.given, seen.record_at))
             tally.check("a record that doesn't read has its fault", is_same, f"{name}: {got}, not {last}")
     elif case.status == DONE:
         tally.check("an input that is read has no fault", seen.fault is None, f"{name}: {seen.fault}")
@@ -368,6 +375,10 @@ def store_fault(folder: str) -> Tuple[Optional[ledger_store.Store], Optional[Fil
         return None, fault
 
 
+def is_of_format_2(files: Store, index: int) -> bool:
+    return files.get(FILES[index], b"")[1:2] >= b"\x80"
+
+
 def try_bad_store(tally: Tally, name: str, case: cases.Case, fault: Optional[FileFault]) -> None:
     """Compares a store's fault with that of the program. Where that is of a rule which isn't judged here, the store
     opens or has a later fault, in its journal."""
@@ -375,7 +386,8 @@ def try_bad_store(tally: Tally, name: str, case: cases.Case, fault: Optional[Fil
         tally.check("a store that is missing is refused", fault is not None and fault.what.startswith("Missing"), name)
         return
     file, offset = map(int, case.error.split()[-2:])
-    is_judged = not (offset == ledger_store.HEAD_SIZE and file < 2) and not (file >= 2 and offset > 0)
+    # an image that isn't legal, and a record that is refused
+    is_judged = offset != (81 if is_of_format_2(case.before, file) else 49) if file < 2 else offset == 0
     is_same = fault is not None and (os.path.basename(fault.path), fault.offset) == (FILES[file], offset)
     if is_same or is_judged:
         tally.check("a bad store has its fault at its offset", is_same, f"{name}: {fault}, not {case.error!r}")
@@ -397,9 +409,15 @@ def try_good_store(tally: Tally, name: str, case: cases.Case, store: ledger_stor
     tally.check("a store opens to the ledger that the program prints", is_same, name)
 
 
-def try_stores(tally: Tally, folder: str) -> None:
-    for index, name in enumerate(cases.names()):
-        case = cases.read_case(name)
+def has_great_epoch(files: Store) -> bool:
+    """Whether an image of format 1 has an epoch of 2^63 - 1 or more, which later formats take for something else."""
+    opened = [files[name] for name in FILES[:2] if files.get(name, b"")[:1] == b"\1"]
+    return any(
+        data[1:9] >= b"\x7f" + b"\xff" * 7 and int.from_bytes(data[41:49], "big") == len(data) - 49 for data in opened)
+
+
+def try_stores(tally: Tally, named: Iterable[Tuple[str, cases.Case]], folder: str) -> None:
+    for index, (name, case) in enumerate(named):
         command = case.words[0] if case.words else b""
         if command not in (b"run", b"show", b"init") or case.status not in (DONE, BAD, MISSING):
             continue
@@ -413,6 +431,11 @@ def try_stores(tally: Tally, folder: str) -> None:
                 try_good_store(tally, name, case, store)
         else:
             try_bad_store(tally, name, case, fault)
+
+
+def try_stores_of_cases(tally: Tally, folder: str) -> None:
+    named = ((name, cases.read_case(name)) for name in cases.names())
+    try_stores(tally, (row for row in named if not has_great_epoch({**row[1].after, **row[1].before})), folder)
 
 
 # ---- copies
@@ -451,7 +474,8 @@ def try_exports(tally: Tally, folder: str) -> None:
         image, records = bytes_at(f"{at}/image"), bytes_at(f"{at}/records")
         tally.check("what is exported closes to the ledger of the store", catchup(image, records) == end, name)
         index = max((0, 1), key=lambda index: int.from_bytes(files[FILES[index]][:9], "big"))
-        tally.check("an exported image is that of the store", image == files[FILES[index]][49:], name)
+        start = 81 if is_of_format_2(files, index) else 49
+        tally.check("an exported image is that of the store", image == files[FILES[index]][start:], name)
         kept = store_model.records_of(2 + index, files[FILES[2 + index]])[0]
         is_same = records == b"".join(ledger_model.marked(record) for _, record in kept)
         tally.check("exported records are those of the store", is_same, name)
@@ -664,7 +688,8 @@ def check(top: str) -> Tally:
     try_shown(tally)
     try_process(tally)
     memory = "/dev/shm" if os.path.isdir("/dev/shm") else None
-    for part in (try_stores, try_exports, try_later_records, try_damaged_inputs, try_damaged_stores, try_words):
+    parts = (try_stores_of_cases, try_exports, try_later_records, try_damaged_inputs, try_damaged_stores, try_words)
+    for part in parts:
         with tempfile.TemporaryDirectory(prefix="ledger-bridge-", dir=memory) as folder:
             part(tally, folder)
     return tally

@@ -42,8 +42,8 @@ def names() -> List[str]:
     return read("cases", "names").decode().split()
 
 
-def read_case(name: str) -> Case:
-    head, _, rest = read("cases", f"{name}.case").partition(b"\n\n")
+def read_case(name: str, folder: str = "cases") -> Case:
+    head, _, rest = read(folder, f"{name}.case").partition(b"\n\n")
     case = Case()
     for line in head.split(b"\n"):
         kind, _, value = line.partition(b" ")

@@ -28,6 +28,7 @@ from typing import Callable, List, Tuple
 import applies
 import beside
 import bridge
+import bridge_forms
 import bridge_made
 import cases
 import crate_list
@@ -112,8 +113,8 @@ def main() -> None:
     asked = reader.parse_args()
     total = Tally()
     if not asked.only:
-        for check in (applies.check, crate_list.check, generated.check, bridge.check, bridge_made.check):
-            total.add(check(TOP))
+        for module in (applies, crate_list, generated, bridge, bridge_forms, bridge_made):
+            total.add(module.check(TOP))
     with tempfile.TemporaryDirectory(prefix="ledger-shim-") as folder:
         shim = compiled_shim(folder)
         paths = asked.program or [built(name, words) for name, words in BUILDS]

@@ -9,9 +9,9 @@ from heapq import merge
 from typing import Any, Dict, Iterable, Iterator, NamedTuple, Sequence, Tuple
 
 from file_source import Source
-from record_stream import TOP_BIT, marked_piece
+from record_stream import TOP_BIT, entire, marked_piece
 from stellar_xdr import BUCKET_ENTRY
-from xdr import Value, XdrFault, read_entire
+from xdr import Value
 
 MOST_ITEM = TOP_BIT - 1
 # the faults of a file whose items read
@@ -73,11 +73,7 @@ def items(source: Source, file: BucketFile) -> Iterator[Item]:
     at, last = file.start, None
     while at < file.end:
         piece = marked_piece(source, at, file.end, MOST_ITEM)
-        data = source.data[piece.start:piece.end]
-        try:
-            value = read_entire(BUCKET_ENTRY, data)
-        except XdrFault as fault:
-            raise source.fault(piece.start + fault.offset, str(fault)) from None
+        data, value = source.data[piece.start:piece.end], entire(source, piece, BUCKET_ENTRY)
         is_meta = value["type"] == "METAENTRY"
         if is_meta is not (last is None):
             raise source.fault(at, SECOND_META if is_meta else NO_META)

@@ -7,18 +7,15 @@ what the program has to print for them, as the Python ledger of the tests worked
 from __future__ import annotations
 
 import argparse
-import os
 import sys
-from typing import Callable, Iterable
+from typing import Iterable
 
+from command_words import Groups, Words, add_file, add_force, command, number, refuse_paths
 from description import read_description
-from file_source import FileFault
 from made_records import made_from
-from new_files import refuse_old, write_files
+from new_files import write_files
 from sample_files import GREATEST_SEED, MOST_LEDGERS, Sample
 
-Run = Callable[[argparse.Namespace], int]
-UNPROVED = "This tool is not proved: only the program beside it is."
 # where a transaction ended otherwise than its description expects
 DIFFERENT = 1
 MAKE = "writes a start image and the records after it, from a description in JSON"
@@ -40,20 +37,8 @@ def write_ledger(asked: argparse.Namespace, image: bytes, records: Iterable[byte
     write_files({asked.image: [image], asked.records: records}, asked.force)
 
 
-def refuse_paths(asked: argparse.Namespace, *inputs: str) -> None:
-    """Refuses files that can't be written, before anything is worked out. Raises FileFault."""
-    taken = [os.path.realpath(path) for path in inputs]
-    for path in (asked.image, asked.records):
-        refuse_old(path, asked.force)
-        if os.path.lexists(path) and not os.path.isfile(path):
-            raise FileFault(path, "is no file of bytes")
-        if os.path.realpath(path) in taken:
-            raise FileFault(path, "is named twice")
-        taken.append(os.path.realpath(path))
-
-
 def run_sample(asked: argparse.Namespace) -> int:
-    refuse_paths(asked)
+    refuse_paths([asked.image, asked.records], asked.force)
     sample = Sample(asked.seed, asked.ledgers)
     write_ledger(asked, sample.image, sample.records())
     sys.stdout.write(sample.line())
@@ -61,7 +46,7 @@ def run_sample(asked: argparse.Namespace) -> int:
 
 
 def run_make(asked: argparse.Namespace) -> int:
-    refuse_paths(asked, asked.description)
+    refuse_paths([asked.image, asked.records], asked.force, [asked.description])
     made = made_from(read_description(asked.description))
     write_ledger(asked, made.image, made.records)
     sys.stdout.write(made.output)
@@ -70,41 +55,19 @@ def run_make(asked: argparse.Namespace) -> int:
     return DIFFERENT if made.differences else 0
 
 
-def number(least: int, most: int) -> Callable[[str], int]:
-    """The reader of a word that is a number between bounds."""
-    def read_number(text: str) -> int:
-        if not (text.isascii() and text.isdigit() and len(text) <= 10 and least <= int(text) <= most):
-            raise argparse.ArgumentTypeError(f"{text} is no number from {least} to {most}")
-        return int(text)
-
-    return read_number
-
-
-def command(
-    commands: argparse._SubParsersAction, name: str, run: Run, what: str, more: str, example: str,
-) -> argparse.ArgumentParser:
-    """A command, with what it does and an example in its help."""
-    words = commands.add_parser(
-        name, help=what, description=f"{what}\n\n{more}\n\n{UNPROVED}",
-        epilog=f"example:\n  tools/stellar_files.py {example}", formatter_class=argparse.RawDescriptionHelpFormatter)
-    words.set_defaults(run=run)
-    return words
-
-
-def add_outputs(words: argparse.ArgumentParser) -> None:
+def add_outputs(words: Words) -> None:
     """The options of the files that a command writes."""
-    words.add_argument("--image", metavar="FILE", required=True, help="the file of the image that is written")
-    words.add_argument("--records", metavar="FILE", required=True, help="the file of the records that is written")
-    words.add_argument("--force", action="store_true", help="replaces files that are there already")
+    add_file(words, "--image", "the file of the image that is written")
+    add_file(words, "--records", "the file of the records that is written")
+    add_force(words)
 
 
-def register(commands: argparse._SubParsersAction) -> None:
-    """Adds both commands to those of a program. Each sets `run`, which takes what was asked, answers the exit status,
-    and raises FileFault and OSError."""
-    sample = command(commands, "sample", run_sample, SAMPLE, MORE_OF_SAMPLE, SAMPLE_EXAMPLE)
+def register(groups: Groups) -> None:
+    """Adds both commands to those of a program."""
+    sample = command(groups, "sample", run_sample, SAMPLE, SAMPLE_EXAMPLE, MORE_OF_SAMPLE)
     sample.add_argument("seed", metavar="SEED", type=number(0, GREATEST_SEED), help=f"0 to {GREATEST_SEED}")
     sample.add_argument("ledgers", metavar="LEDGERS", type=number(1, MOST_LEDGERS), help=f"1 to {MOST_LEDGERS}")
     add_outputs(sample)
-    make = command(commands, "make", run_make, MAKE, MORE_OF_MAKE, MAKE_EXAMPLE)
+    make = command(groups, "make", run_make, MAKE, MAKE_EXAMPLE, MORE_OF_MAKE)
     make.add_argument("description", metavar="DESCRIPTION", help="a file, as examples/first-ledger.json")
     add_outputs(make)

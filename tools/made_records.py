@@ -45,7 +45,7 @@ class Sent(NamedTuple):
 def signed(transaction: Transaction, seq_num: int, network_id: bytes) -> Sent:
     tx = {
         "sourceAccount": muxed_account(transaction.source), "fee": transaction.fee, "seqNum": seq_num,
-        "timeBounds": None, "memo": transaction.memo, "operations": transaction.operations, "ext": NO_EXT,
+        "cond": {"type": "PRECOND_NONE"}, "memo": transaction.memo, "operations": transaction.operations, "ext": NO_EXT,
     }
     signatures = [hash_x_signature(secret) for secret in transaction.secrets]
     digest = sha256(network_id + ENVELOPE_TYPE_TX + write(TRANSACTION, tx))

@@ -6,11 +6,11 @@ Unproved.
 from __future__ import annotations
 
 import struct
-from typing import Iterator, NamedTuple
+from typing import Iterator, NamedTuple, Optional
 
 from file_source import Source
-from stellar_xdr import CLOSE_RECORD
-from xdr import MEANINGS, Value, XdrFault, read_entire
+from stellar_xdr import RECORD, VOUCHED_FORM
+from xdr import MEANINGS, Type, Value, XdrFault, read_entire
 
 MARK_SIZE = 4
 TOP_BIT = 0x80000000
@@ -47,24 +47,41 @@ def marked_piece(source: Source, at: int, end: int, most: int) -> Piece:
     return Piece(at, start, start + size)
 
 
-def pieces(source: Source, at: int = 0) -> Iterator[Piece]:
-    """The records of a stream from an offset to the end of the source. Raises FileFault."""
-    while at < source.size:
-        piece = marked_piece(source, at, source.size, MOST_RECORD)
+def pieces(source: Source, at: int = 0, end: Optional[int] = None, most: int = MOST_RECORD) -> Iterator[Piece]:
+    """The records of a stream from an offset to an end, which is that of the source unless it is said. Raises
+    FileFault."""
+    end = source.size if end is None else end
+    while at < end:
+        piece = marked_piece(source, at, end, most)
         yield piece
         at = piece.end
 
 
-def ledger_of(source: Source, piece: Piece) -> int:
-    """The ledger of a record, which is its first field. Raises FileFault."""
-    if piece.end - piece.start < 4:
+def word_at(source: Source, piece: Piece, at: int) -> int:
+    """The word at an offset in a piece. Raises FileFault."""
+    if piece.end - piece.start < at + 4:
         raise source.fault(piece.end, said("Short"))
-    return unpack_mark(source.data, piece.start)[0]
+    return unpack_mark(source.data, piece.start + at)[0]
+
+
+def is_vouched(source: Source, piece: Piece) -> bool:
+    """Whether a record is of form 2. Raises FileFault."""
+    return word_at(source, piece, 0) == VOUCHED_FORM
+
+
+def ledger_of(source: Source, piece: Piece) -> int:
+    """The ledger of a record, which is its first field, or its second one in form 2. Raises FileFault."""
+    return word_at(source, piece, 4 if is_vouched(source, piece) else 0)
+
+
+def entire(source: Source, piece: Piece, kind: Type) -> Value:
+    """The value that a piece encodes. Raises FileFault."""
+    try:
+        return read_entire(kind, source.data[piece.start:piece.end])
+    except XdrFault as fault:
+        raise source.fault(piece.start + fault.offset, str(fault)) from None
 
 
 def close_record(source: Source, piece: Piece) -> Value:
     """The CloseRecord of a piece. Raises FileFault."""
-    try:
-        return read_entire(CLOSE_RECORD, source.data[piece.start:piece.end])
-    except XdrFault as fault:
-        raise source.fault(piece.start + fault.offset, str(fault)) from None
+    return entire(source, piece, RECORD)

@@ -29,6 +29,21 @@ def inner_transaction(envelope: Value) -> Dict:
     return tx["innerTx"]["v1"]["tx"] if "innerTx" in tx else tx
 
 
+def signatures_of(envelope: Value) -> List[Value]:
+    """The signatures of an envelope, and those inside of a fee bump."""
+    _, signed = envelope.values()
+    inner = signed["tx"]["innerTx"]["v1"]["signatures"] if "innerTx" in signed["tx"] else []
+    return signed["signatures"] + inner
+
+
+def results_of(result: Value) -> List[Value]:
+    """The results of the operations of a transaction, or of that inside of a fee bump; none where they didn't run."""
+    _, *ran = result["result"].values()
+    if ran and isinstance(ran[0], dict):
+        return results_of(ran[0]["result"])
+    return ran[0] if ran else []
+
+
 class Selection(NamedTuple):
     """What is asked for; None where it may be any."""
 
@@ -66,3 +81,8 @@ class Selection(NamedTuple):
         if self.type is not None and all(operation["body"]["type"] != self.type for operation in operations):
             return False
         return self.account is None or names_key(envelope, self.account)
+
+    def has_result(self, result: Value) -> bool:
+        """Whether a transaction's result is asked for. One whose operations didn't run is of no type."""
+        kinds = [list(ran["tr"].values())[0] for ran in results_of(result) if "tr" in ran]
+        return (self.type is None or self.type in kinds) and (self.account is None or names_key(result, self.account))

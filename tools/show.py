@@ -2,18 +2,18 @@
 
 from __future__ import annotations
 
-from typing import Callable, Dict
+from typing import Callable, Dict, List
 
 from bucket_file import Item, items, newest
 from file_source import opened
 from ledger_store import Store, open_store, stored_record
 from progress import Progress
 from record_stream import close_record, pieces
-from selection import Selection
+from selection import Selection, signatures_of
 from start_image import StartImage, is_image, read_image
 from stellar_json import Json, encode, json_of
 from stellar_text import bucket_entry_text, entry_text, header_lines, record_lines
-from stellar_xdr import BUCKET_ENTRY, CLOSE_RECORD, LEDGER_ENTRY, LEDGER_HEADER
+from stellar_xdr import BUCKET_ENTRY, LEDGER_ENTRY, LEDGER_HEADER, RECORD
 from xdr import Value
 
 Put = Callable[[str], object]
@@ -55,12 +55,21 @@ def show_image(path: str, selection: Selection, is_json: bool, has_all: bool, pu
                 put(item_line(item, is_json, has_all) + "\n")
 
 
+def vouches_of(record: Value, txs: List[Value]) -> Dict[str, List[Value]]:
+    """The vouches of a record of form 2, as its field: all, or those for signatures of the transactions that are asked
+    for."""
+    if "vouches" not in record or len(txs) == len(record["txSet"]["txs"]):
+        return {}
+    signed = {signature["signature"] for tx in txs for signature in signatures_of(tx)}
+    return {"vouches": [vouch for vouch in record["vouches"] if list(vouch.values())[1]["signature"] in signed]}
+
+
 def put_record(record: Value, selection: Selection, is_json: bool, put: Put) -> None:
     txs = selection.transactions(record)
     if txs is None:
         return
     count = len(record["txSet"]["txs"])
-    shown = json_of(CLOSE_RECORD, {**record, "txSet": {**record["txSet"], "txs": txs}})
+    shown = json_of(RECORD, {**record, **vouches_of(record, txs), "txSet": {**record["txSet"], "txs": txs}})
     put(encode(shown) + "\n" if is_json else "\n".join(record_lines(shown, count)) + "\n")
 
 
@@ -78,9 +87,9 @@ def store_fields(store: Store) -> Dict[str, Json]:
     """What is said of a store as a whole; the size of its image is in bytes."""
     image = store.image
     return {
-        "epoch": str(store.epoch), "networkID": store.network_id.hex(), "imageLedgerSeq": image.header["ledgerSeq"],
-        "imageHash": image.hash.hex(), "imageBytes": image.end - image.start, "records": len(store.records),
-        "lastLedgerSeq": store.last_ledger,
+        "format": store.format, "epoch": str(store.epoch), "networkID": store.network_id.hex(),
+        "imageLedgerSeq": image.header["ledgerSeq"], "imageHash": image.hash.hex(),
+        "imageBytes": image.end - image.start, "records": len(store.records), "lastLedgerSeq": store.last_ledger,
     }
 
 

@@ -13,7 +13,7 @@ from typing import Any, Callable, Dict, Optional
 
 import strkey
 from stellar_xdr import ACCOUNT_ID, ED25519, MUXED_ACCOUNT, SIGNER_KEY, Type
-from xdr import Array, Choice, Code, Fixed, Items, Number, Opaque, Option, Struct, Text
+from xdr import Array, Choice, Code, Fixed, Formed, Items, Number, Opaque, Option, Struct, Text
 
 # what json.dumps takes
 Json = Any
@@ -48,6 +48,8 @@ def muxed_account(value: Dict) -> str:
 
 def signer_key(value: Dict) -> str:
     name, key = value.values()
+    if name == "SIGNER_KEY_TYPE_ED25519_SIGNED_PAYLOAD":
+        return strkey.encoded("P", key["ed25519"], payload=key["payload"])
     return strkey.encoded(SIGNER_LETTERS[name], key)
 
 
@@ -68,7 +70,10 @@ def made_form(kind: Type) -> Optional[Form]:
     if isinstance(kind, Number):
         return str if kind.has_64_bits else None
     if isinstance(kind, Struct):
-        return struct_form(kind)
+        return struct_form(kind.fields)
+    if isinstance(kind, Formed):
+        # fields of one name have one type in both forms
+        return struct_form({**kind.plain.fields, **kind.other.fields})
     if isinstance(kind, Choice):
         return choice_form(kind)
     if isinstance(kind, Option):
@@ -82,8 +87,8 @@ def made_form(kind: Type) -> Optional[Form]:
     return bytes.hex if isinstance(kind, (Fixed, Opaque)) else None
 
 
-def struct_form(kind: Struct) -> Form:
-    fields = {name: form_of(field) for name, field in kind.fields.items()}
+def struct_form(kinds: Dict[str, Type]) -> Form:
+    fields = {name: form_of(kind) for name, kind in kinds.items()}
 
     def form(value: Dict) -> Json:
         made = {}

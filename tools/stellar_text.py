@@ -19,12 +19,13 @@ AMOUNTS = {
     "balance": ("asset", ""), "limit": ("asset", "line"), "amount": ("asset", "selling"), "buyAmount": ("buying",),
     "startingBalance": ("",), "sendMax": ("sendAsset",), "sendAmount": ("sendAsset",), "destAmount": ("destAsset",),
     "destMin": ("destAsset",), "reserveA": ("assetA",), "reserveB": ("assetB",), "totalCoins": ("",), "feePool": ("",),
-    "liabilities.buying": ("asset", ""), "liabilities.selling": ("asset", ""),
+    "liabilities.buying": ("asset", ""), "liabilities.selling": ("asset", ""), "amountSold": ("assetSold",),
+    "amountBought": ("assetBought",), "sourceAccountBalance": ("",),
 }
 # structs and unions whose name is kept before those of their fields
 PREFIXES = ("liabilities", "signer")
 # discriminants that say no more than the field after them
-PLAIN = ("CLAIMANT_TYPE_V0", "LIQUIDITY_POOL_CONSTANT_PRODUCT")
+PLAIN = ("CLAIMANT_TYPE_V0", "LIQUIDITY_POOL_CONSTANT_PRODUCT", "PRECOND_NONE", "PRECOND_TIME", "PRECOND_V2")
 # how discriminants begin of unions that are written in one word
 WORDS = ("ASSET_TYPE_", "CLAIM_PREDICATE_", "CLAIMABLE_BALANCE_ID_")
 TYPE_WIDTH = 17
@@ -150,7 +151,7 @@ def upgrades(value: Dict) -> List[str]:
 
 
 def record_lines(record: Dict, count: int) -> List[str]:
-    """The lines of a CloseRecord: one of its ledger, one a transaction, one an operation.
+    """The lines of a CloseRecord: one of its ledger, one a transaction, one an operation, one a vouch.
 
     `count` is how many transactions the record has; it may list fewer.
     """
@@ -158,7 +159,9 @@ def record_lines(record: Dict, count: int) -> List[str]:
     asked = [f"upgrades {brief(upgrades(value))}"] if value["upgrades"] else []
     shown = [] if count == len(txs) else [f"shown {len(txs)}"]
     head = [f"ledger {record['ledgerSeq']}", f"closeTime {time_text(value['closeTime'])}", f"transactions {count}"]
-    return [GAP.join([*head, *shown, *asked]), *(line for tx in txs for line in transaction_lines(tx))]
+    form = [f"vouches {len(record['vouches'])}"] if "vouches" in record else []
+    lines = [GAP.join([*head, *shown, *asked, *form]), *(line for tx in txs for line in transaction_lines(tx))]
+    return lines + [GAP.join(["  VOUCH", *fields_of(vouch)]) for vouch in record.get("vouches", ())]
 
 
 def transaction_lines(envelope: Dict) -> List[str]:

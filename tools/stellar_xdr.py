@@ -1,4 +1,5 @@
-"""The types of protocol 18 (docs/FORMATS.md) as a table, by the names of Stellar's own XDR files.
+"""The types of protocols 18 and 19 (docs/FORMATS.md; CAP-0021 and CAP-0040) as a table, by the names of Stellar's own
+XDR files. What protocol 18 writes is read and written as it was.
 
 `read(TYPES["LedgerEntry"], data, offset)` answers a value and the offset after it, `write(TYPES["LedgerEntry"], value)`
 its bytes; the module xdr says what values are and which faults come. Amounts are in units of 10^-7, fees and reserves
@@ -10,11 +11,12 @@ from __future__ import annotations
 from typing import Dict, Optional, Tuple
 
 from xdr import (  # noqa: F401  (some names are for those who use this codec)
-    I32, I64, U32, U64, Array, Choice, Code, Fixed, Items, Number, Opaque, Option, Refused, Struct, Text, Type,
+    I32, I64, U32, U64, Array, Choice, Code, Fixed, Formed, Items, Number, Opaque, Option, Refused, Struct, Text, Type,
     XdrFault, read, read_entire, write,
 )
 
 PREDICATE_LEVELS = 32
+MOST_VOUCHES = 20000
 
 # ---- basic values
 
@@ -28,10 +30,12 @@ MUXED_ACCOUNT = Choice("type", {
     0: ("KEY_TYPE_ED25519", "ed25519", ED25519),
     256: ("KEY_TYPE_MUXED_ED25519", "med25519", Struct(id=U64, ed25519=ED25519)),
 })
+SIGNED_PAYLOAD = Struct(ed25519=ED25519, payload=Opaque(64))
 SIGNER_KEY = Choice("type", {
     0: ("SIGNER_KEY_TYPE_ED25519", "ed25519", ED25519),
     1: ("SIGNER_KEY_TYPE_PRE_AUTH_TX", "preAuthTx", HASH),
     2: ("SIGNER_KEY_TYPE_HASH_X", "hashX", HASH),
+    3: ("SIGNER_KEY_TYPE_ED25519_SIGNED_PAYLOAD", "ed25519SignedPayload", SIGNED_PAYLOAD),
 })
 SIGNER = Struct(key=SIGNER_KEY, weight=U32)
 CREDITS = {
@@ -68,8 +72,11 @@ CLAIMANT = Choice("type", {0: ("CLAIMANT_TYPE_V0", "v0", Struct(destination=ACCO
 
 # ---- ledger entries
 
+# the ledger that a sequence number was used in last, and the close time of that
+ACCOUNT_EXT_3 = Struct(ext=NO_EXT, seqLedger=U32, seqTime=U64)
 ACCOUNT_EXT_2 = Struct(
-    numSponsored=U32, numSponsoring=U32, signerSponsoringIDs=Items(Option(ACCOUNT_ID), 20), ext=NO_EXT,
+    numSponsored=U32, numSponsoring=U32, signerSponsoringIDs=Items(Option(ACCOUNT_ID), 20),
+    ext=Choice("v", {0: (0,), 3: (3, "v3", ACCOUNT_EXT_3)}),
 )
 ACCOUNT_EXT_1 = Struct(liabilities=LIABILITIES, ext=Choice("v", {0: (0,), 2: (2, "v2", ACCOUNT_EXT_2)}))
 ACCOUNT = Struct(
@@ -182,12 +189,20 @@ MEMO = Choice("type", {
     4: ("MEMO_RETURN", "retHash", HASH),
 })
 SIGNATURES = Items(Struct(hint=Fixed(4), signature=Opaque(64)), 20)
-AFTER_SOURCE = dict(
-    fee=U32, seqNum=I64, timeBounds=Option(Struct(minTime=U64, maxTime=U64)), memo=MEMO,
-    operations=Items(OPERATION, 100), ext=NO_EXT,
+TIME_BOUNDS = Struct(minTime=U64, maxTime=U64)
+PRECONDITIONS_V2 = Struct(
+    timeBounds=Option(TIME_BOUNDS), ledgerBounds=Option(Struct(minLedger=U32, maxLedger=U32)), minSeqNum=Option(I64),
+    minSeqAge=U64, minSeqLedgerGap=U32, extraSigners=Items(SIGNER_KEY, 2),
 )
-TRANSACTION_V0 = Struct(sourceAccountEd25519=ED25519, **AFTER_SOURCE)
-TRANSACTION = Struct(sourceAccount=MUXED_ACCOUNT, **AFTER_SOURCE)
+# the first two have the bytes of an option of time bounds
+PRECONDITIONS = Choice("type", {
+    0: ("PRECOND_NONE",), 1: ("PRECOND_TIME", "timeBounds", TIME_BOUNDS), 2: ("PRECOND_V2", "v2", PRECONDITIONS_V2),
+})
+BEFORE_BOUNDS, AFTER_BOUNDS = dict(fee=U32, seqNum=I64), dict(memo=MEMO, operations=Items(OPERATION, 100), ext=NO_EXT)
+TRANSACTION_V0 = Struct(
+    sourceAccountEd25519=ED25519, **BEFORE_BOUNDS, timeBounds=Option(TIME_BOUNDS), **AFTER_BOUNDS,
+)
+TRANSACTION = Struct(sourceAccount=MUXED_ACCOUNT, **BEFORE_BOUNDS, cond=PRECONDITIONS, **AFTER_BOUNDS)
 TRANSACTION_V1_ENVELOPE = Struct(tx=TRANSACTION, signatures=SIGNATURES)
 FEE_BUMP_TRANSACTION = Struct(
     feeSource=MUXED_ACCOUNT, fee=I64,
@@ -302,7 +317,7 @@ NO_RUN = {
         (1, "FEE_BUMP_INNER_SUCCESS"), (-2, "TOO_EARLY"), (-3, "TOO_LATE"), (-4, "MISSING_OPERATION"), (-5, "BAD_SEQ"),
         (-6, "BAD_AUTH"), (-7, "INSUFFICIENT_BALANCE"), (-8, "NO_ACCOUNT"), (-9, "INSUFFICIENT_FEE"),
         (-10, "BAD_AUTH_EXTRA"), (-11, "INTERNAL_ERROR"), (-12, "NOT_SUPPORTED"), (-13, "FEE_BUMP_INNER_FAILED"),
-        (-14, "BAD_SPONSORSHIP"),
+        (-14, "BAD_SPONSORSHIP"), (-15, "BAD_MIN_SEQ_AGE_OR_GAP"), (-16, "MALFORMED"),
     ]
 }
 INNER_ENDS = {0: ("txSUCCESS", *RAN), -1: ("txFAILED", *RAN), **NO_RUN}
@@ -336,13 +351,30 @@ LEDGER_HEADER = Struct(
     ledgerSeq=U32, totalCoins=I64, feePool=I64, inflationSeq=U32, idPool=U64, baseFee=U32, baseReserve=U32,
     maxTxSetSize=U32, skipList=Array(HASH, 4), ext=Choice("v", {0: (0,), 1: (1, "v1", Struct(flags=U32, ext=NO_EXT))}),
 )
-CLOSE_RECORD = Struct(ledgerSeq=U32, txSet=TRANSACTION_SET, scpValue=STELLAR_VALUE)
+# an Ed25519 signature that somebody outside says to be that of a key over the hash of a transaction, or over a payload
+VOUCH = Choice("type", {
+    0: ("SIGNER_KEY_TYPE_ED25519", "ofHash", Struct(ed25519=ED25519, hash=HASH, signature=Opaque(64))),
+    3: ("SIGNER_KEY_TYPE_ED25519_SIGNED_PAYLOAD", "ofPayload", Struct(
+        ed25519=ED25519, payload=Opaque(64), signature=Opaque(64))),
+})
+CLOSE = dict(ledgerSeq=U32, txSet=TRANSACTION_SET, scpValue=STELLAR_VALUE)
+CLOSE_RECORD = Struct(**CLOSE)
+VOUCHED_RECORD = Struct(**CLOSE, vouches=Items(VOUCH, MOST_VOUCHES))
+# the word before a record of form 2; a record of form 1 begins with the number of its ledger
+VOUCHED_FORM = 0x80000002
+RECORD = Formed(VOUCHED_FORM, CLOSE_RECORD, VOUCHED_RECORD)
+
+# ---- the files of history archives
+
+LEDGER_HEADER_HISTORY_ENTRY = Struct(hash=HASH, header=LEDGER_HEADER, ext=NO_EXT)
+TRANSACTION_HISTORY_ENTRY = Struct(ledgerSeq=U32, txSet=TRANSACTION_SET, ext=NO_EXT)
+TRANSACTION_HISTORY_RESULT_ENTRY = Struct(ledgerSeq=U32, txResultSet=TRANSACTION_RESULT_SET, ext=NO_EXT)
 
 # the types that have a name in docs/FORMATS.md or in Stellar's files
 TYPES: Dict[str, Type] = {
     "AccountID": ACCOUNT_ID, "Asset": ASSET, "AssetCode": ASSET_CODE, "BucketEntry": BUCKET_ENTRY,
     "ChangeTrustAsset": CHANGE_TRUST_ASSET, "ClaimAtom": CLAIM_ATOM, "ClaimPredicate": CLAIM_PREDICATE,
-    "ClaimableBalanceID": BALANCE_ID, "Claimant": CLAIMANT, "CloseRecord": CLOSE_RECORD,
+    "ClaimableBalanceID": BALANCE_ID, "Claimant": CLAIMANT, "CloseRecord": RECORD,
     "FeeBumpTransaction": FEE_BUMP_TRANSACTION, "LedgerEntry": LEDGER_ENTRY, "LedgerHeader": LEDGER_HEADER,
     "LedgerKey": LEDGER_KEY, "LedgerUpgrade": LEDGER_UPGRADE, "Liabilities": LIABILITIES,
     "LiquidityPoolParameters": POOL_PARAMETERS, "Memo": MEMO, "MuxedAccount": MUXED_ACCOUNT, "Operation": OPERATION,
@@ -350,4 +382,7 @@ TYPES: Dict[str, Type] = {
     "StellarValue": STELLAR_VALUE, "Transaction": TRANSACTION, "TransactionEnvelope": TRANSACTION_ENVELOPE,
     "TransactionResult": TRANSACTION_RESULT, "TransactionResultSet": TRANSACTION_RESULT_SET,
     "TransactionSet": TRANSACTION_SET, "TransactionV0": TRANSACTION_V0, "TrustLineAsset": TRUST_LINE_ASSET,
+    "LedgerHeaderHistoryEntry": LEDGER_HEADER_HISTORY_ENTRY, "Preconditions": PRECONDITIONS,
+    "TransactionHistoryEntry": TRANSACTION_HISTORY_ENTRY, "Vouch": VOUCH,
+    "TransactionHistoryResultEntry": TRANSACTION_HISTORY_RESULT_ENTRY,
 }

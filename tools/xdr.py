@@ -347,6 +347,38 @@ class Choice(Type):
         return write_choice
 
 
+class Formed(Type):
+    """A struct of one of two forms, which have other fields: the plain one, whose first field is an u32 other than a
+    word, and one that stands after this word."""
+
+    def __init__(self, word: int, plain: Struct, other: Struct) -> None:
+        self.word, self.plain, self.other = word, plain, other
+
+    def make_reader(self) -> Reader:
+        word, read_word, read_plain, read_other = self.word, U32.reader, self.plain.reader, self.other.reader
+
+        def read_formed(data: Data, offset: int) -> Tuple[Value, int]:
+            first, after = read_word(data, offset)
+            return read_other(data, after) if first == word else read_plain(data, offset)
+
+        return read_formed
+
+    def make_writer(self) -> Writer:
+        word, write_word, write_plain, write_other = self.word, U32.writer, self.plain.writer, self.other.writer
+        names, first = set(self.other.fields), next(iter(self.plain.fields))
+
+        def write_formed(value: Value, out: bytearray) -> None:
+            if set(value) == names:
+                write_word(word, out)
+                write_other(value, out)
+            elif value[first] == word:
+                raise ValueError(f"{first} {word} in the plain form")
+            else:
+                write_plain(value, out)
+
+        return write_formed
+
+
 class Refused(Type):
     """Where no value may begin, with the kind of the fault."""
 

@@ -28,6 +28,7 @@ from typing import Callable, List, Tuple
 import applies
 import beside
 import bridge
+import bridge_archive
 import bridge_forms
 import bridge_made
 import cases
@@ -113,7 +114,7 @@ def main() -> None:
     asked = reader.parse_args()
     total = Tally()
     if not asked.only:
-        for module in (applies, crate_list, generated, bridge, bridge_forms, bridge_made):
+        for module in (applies, crate_list, generated, bridge, bridge_forms, bridge_archive, bridge_made):
             total.add(module.check(TOP))
     with tempfile.TemporaryDirectory(prefix="ledger-shim-") as folder:
         shim = compiled_shim(folder)

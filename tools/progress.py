@@ -1,4 +1,4 @@
-"""How much of a long input is done, on standard error where that is a terminal.
+"""How much of a long input is done, or what is done at present, on standard error where that is a terminal.
 
 Unproved.
 """
@@ -10,6 +10,30 @@ import time
 
 LONG_INPUT = 16777216
 BETWEEN_LINES = 0.5
+
+
+class Note:
+    """Shows what is done at present, twice a second at most, and takes it away at the end."""
+
+    def __init__(self) -> None:
+        self.is_shown, self.width, self.last = sys.stderr.isatty(), 0, time.monotonic()
+
+    def put(self, text: str) -> None:
+        print(f"\r{text:{self.width}}", end="", file=sys.stderr, flush=True)
+        self.width = len(text)
+
+    def say(self, text: str) -> None:
+        if self.is_shown and time.monotonic() - self.last >= BETWEEN_LINES:
+            self.last = time.monotonic()
+            self.put(text)
+
+    def __enter__(self) -> "Note":
+        return self
+
+    def __exit__(self, *fault: object) -> None:
+        if self.width:
+            self.put("")
+            print("\r", end="", file=sys.stderr, flush=True)
 
 
 class Progress:

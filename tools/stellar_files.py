@@ -4,6 +4,8 @@ them (docs/FORMATS.md, docs/BRIDGE.md).
 
     tools/stellar_files.py show image|records|store|results|history FILE [--json] [--account KEY] [--ledger N]
                                 [--type NAME]
+    tools/stellar_files.py image from-archive FOLDER LEDGER --out FILE [--force]
+    tools/stellar_files.py records from-archive FOLDER FIRST LAST --out FILE [--results FILE] [--force]
     tools/stellar_files.py records after LEDGER FILE --out FILE [--force]
     tools/stellar_files.py store export FOLDER --image FILE --records FILE [--force]
     tools/stellar_files.py sample SEED LEDGERS --image FILE --records FILE [--force]
@@ -23,6 +25,7 @@ import sys
 from functools import lru_cache
 from typing import List, Optional
 
+import archive_commands
 import copy_commands
 import made_commands
 import show_commands
@@ -37,7 +40,9 @@ def words_of_command() -> Words:
     reader = Words(prog=PROGRAM, description=f"Shows, copies and makes start images, records and stores. {UNPROVED}")
     groups = reader.add_subparsers(metavar="COMMAND", required=True)
     show_commands.register(groups)
-    records = group_of(groups, "records", "copies records of a file")
+    archive_commands.add_image_from_archive(groups)
+    records = group_of(groups, "records", "takes records of closes out of a history archive, or out of a file")
+    archive_commands.add_records_from_archive(records)
     copy_commands.add_records_after(records)
     copy_commands.add_store_export(groups)
     made_commands.register(groups)

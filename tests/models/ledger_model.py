@@ -521,7 +521,7 @@ class Ledger:
     """A ledger after its last close."""
 
     def __init__(self, network, header, levels, entries):
-        self.network, self.header, self.levels, self.outcomes = network, header, levels, {}
+        self.network, self.header, self.levels, self.outcomes, self.results = network, header, levels, {}, []
         self.entries = trades.Entries(entries)
         self.hash = sha(HEADER.write(header))
 
@@ -550,7 +550,8 @@ class Ledger:
         for sent in order:
             if top.account(sent.payer) is None:
                 raise BadRecord(f"FeeSourceMissing {listed.index(sent)}")
-        lines, results, fees, base, self.outcomes = [], [], [], set_fee(header, listed), {}
+        lines, fees, base, self.outcomes = [], [], set_fee(header, listed), {}
+        results = self.results = []
         # the header of the transactions, in which ids are drawn
         header = dict(header)
         for sent in order:

@@ -31,6 +31,7 @@ import bridge
 import bridge_archive
 import bridge_forms
 import bridge_made
+import bridge_vouch
 import cases
 import crate_list
 import generated
@@ -114,7 +115,8 @@ def main() -> None:
     asked = reader.parse_args()
     total = Tally()
     if not asked.only:
-        for module in (applies, crate_list, generated, bridge, bridge_forms, bridge_archive, bridge_made):
+        tools = (bridge, bridge_forms, bridge_archive, bridge_vouch, bridge_made)
+        for module in (applies, crate_list, generated, *tools):
             total.add(module.check(TOP))
     with tempfile.TemporaryDirectory(prefix="ledger-shim-") as folder:
         shim = compiled_shim(folder)

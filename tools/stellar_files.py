@@ -7,6 +7,7 @@ them (docs/FORMATS.md, docs/BRIDGE.md).
     tools/stellar_files.py image from-archive FOLDER LEDGER --out FILE [--force]
     tools/stellar_files.py records from-archive FOLDER FIRST LAST --out FILE [--results FILE] [--force]
     tools/stellar_files.py records after LEDGER FILE --out FILE [--force]
+    tools/stellar_files.py vouch IMAGE RECORDS --network TEXT --out FILE [--force]
     tools/stellar_files.py store export FOLDER --image FILE --records FILE [--force]
     tools/stellar_files.py sample SEED LEDGERS --image FILE --records FILE [--force]
     tools/stellar_files.py make DESCRIPTION --image FILE --records FILE [--force]
@@ -15,7 +16,7 @@ This tool is NOT PROVED, and is no part of the proved program. docs/BRIDGE.md sa
 
 The exit status is 0; 1 where a made transaction ends otherwise than expected; 2 where the words are no command, or a
 file can't be read or written, with one line on standard error, `FILE: offset N: what`; 141 where nobody reads the
-output any more. Python 3.9 or later and its standard library.
+output any more. Python 3.9 or later and its standard library; `vouch` needs the package cryptography, too.
 """
 
 from __future__ import annotations
@@ -29,6 +30,7 @@ import archive_commands
 import copy_commands
 import made_commands
 import show_commands
+import vouch_command
 from command_words import PROGRAM, UNPROVED, Usage, Words, group_of
 from file_source import FileFault
 
@@ -44,6 +46,7 @@ def words_of_command() -> Words:
     records = group_of(groups, "records", "takes records of closes out of a history archive, or out of a file")
     archive_commands.add_records_from_archive(records)
     copy_commands.add_records_after(records)
+    vouch_command.register(groups)
     copy_commands.add_store_export(groups)
     made_commands.register(groups)
     return reader

@@ -29,6 +29,7 @@ import applies
 import beside
 import bridge
 import bridge_archive
+import bridge_compare
 import bridge_forms
 import bridge_made
 import bridge_vouch
@@ -115,7 +116,7 @@ def main() -> None:
     asked = reader.parse_args()
     total = Tally()
     if not asked.only:
-        tools = (bridge, bridge_forms, bridge_archive, bridge_vouch, bridge_made)
+        tools = (bridge, bridge_forms, bridge_archive, bridge_vouch, bridge_compare, bridge_made)
         for module in (applies, crate_list, generated, *tools):
             total.add(module.check(TOP))
     with tempfile.TemporaryDirectory(prefix="ledger-shim-") as folder:

@@ -8,15 +8,17 @@ them (docs/FORMATS.md, docs/BRIDGE.md).
     tools/stellar_files.py records from-archive FOLDER FIRST LAST --out FILE [--results FILE] [--force]
     tools/stellar_files.py records after LEDGER FILE --out FILE [--force]
     tools/stellar_files.py vouch IMAGE RECORDS --network TEXT --out FILE [--force]
+    tools/stellar_files.py compare RESULTS OUTPUT
     tools/stellar_files.py store export FOLDER --image FILE --records FILE [--force]
     tools/stellar_files.py sample SEED LEDGERS --image FILE --records FILE [--force]
     tools/stellar_files.py make DESCRIPTION --image FILE --records FILE [--force]
 
 This tool is NOT PROVED, and is no part of the proved program. docs/BRIDGE.md says what it is for.
 
-The exit status is 0; 1 where a made transaction ends otherwise than expected; 2 where the words are no command, or a
-file can't be read or written, with one line on standard error, `FILE: offset N: what`; 141 where nobody reads the
-output any more. Python 3.9 or later and its standard library; `vouch` needs the package cryptography, too.
+The exit status is 0; 1 where a made transaction ends otherwise than expected, or `compare` finds a difference; 2 where
+the words are no command, or a file can't be read or written, with one line on standard error, `FILE: offset N: what`;
+141 where nobody reads the output any more. Python 3.9 or later and its standard library; `vouch` needs the package
+cryptography, too.
 """
 
 from __future__ import annotations
@@ -27,6 +29,7 @@ from functools import lru_cache
 from typing import List, Optional
 
 import archive_commands
+import compare_command
 import copy_commands
 import made_commands
 import show_commands
@@ -47,6 +50,7 @@ def words_of_command() -> Words:
     archive_commands.add_records_from_archive(records)
     copy_commands.add_records_after(records)
     vouch_command.register(groups)
+    compare_command.register(groups)
     copy_commands.add_store_export(groups)
     made_commands.register(groups)
     return reader

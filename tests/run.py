@@ -33,6 +33,7 @@ import bridge_compare
 import bridge_forms
 import bridge_made
 import bridge_vouch
+import bridge_whole
 import cases
 import crate_list
 import generated
@@ -116,7 +117,7 @@ def main() -> None:
     asked = reader.parse_args()
     total = Tally()
     if not asked.only:
-        tools = (bridge, bridge_forms, bridge_archive, bridge_vouch, bridge_compare, bridge_made)
+        tools = (bridge, bridge_forms, bridge_archive, bridge_vouch, bridge_compare, bridge_whole, bridge_made)
         for module in (applies, crate_list, generated, *tools):
             total.add(module.check(TOP))
     with tempfile.TemporaryDirectory(prefix="ledger-shim-") as folder:

@@ -1,0 +1,154 @@
+"""An archive from end to end: keys of Ed25519 and secrets of hash-x sign, the ledger of `models/` closes, what it
+closed is packed into the usual layout, and tools/stellar_files.py takes an image and records out of it, vouches for
+what the keys signed, and compares an output with it.
+
+That ledger is of protocol 18 and matches no Ed25519 signature, so what they alone sign ends with txBAD_AUTH: the
+archive has it all the same, with its signatures. It needs the Python package cryptography; bridge_vouch.py says where
+that is missing.
+"""
+
+from __future__ import annotations
+
+import json
+import os
+import sys
+from typing import Any, Dict, List, Set, Tuple
+
+import bridge
+import bridge_forms
+import bridge_vouch
+import made_archive
+from bridge_vouch import BUMP, Signer, enveloped, named, operation, set_signer, transaction
+from harness import TESTS, Tally
+
+import ledger_model  # noqa: E402
+import stellar_xdr as xdr  # noqa: E402
+import strkey  # noqa: E402
+from hash_x import hash_x_signature  # noqa: E402
+from image_bytes import marked, sha256  # noqa: E402
+from python_ledger import PythonLedger  # noqa: E402
+from transaction_hash import network_id_of, transaction_hash  # noqa: E402
+
+Value = Any
+NETWORK, LAST, IMAGE_AT = bridge_vouch.NETWORK, 128, 63
+SECRET = "a secret of everybody"
+NAMES = ("a", "b", "c")
+
+
+class Closing:
+    """Closes ledgers of signed transactions, and keeps the records and what Ed25519 signed in each."""
+
+    def __init__(self, image: bytes) -> None:
+        self.image, self.records = image, []
+        self.ledger = PythonLedger(NETWORK.encode(), image)
+        self.keys: Dict[str, Signer] = {name: named(name) for name in ("a", "b", "c", "d", "f", "x")}
+        self.numbers: Dict[str, int] = {}
+        self.signed: Dict[int, Set[Tuple[bytes, bytes, bytes]]] = {}
+        self.codes: List[int] = []
+
+    def sent(self, source: str, op: Value, *signers: str) -> Value:
+        """A transaction, signed by these keys, or by the secret where there is none."""
+        number = self.numbers.get(source) or (self.ledger.seq_num(self.keys[source].key) or 0) + 1
+        self.numbers[source] = number + 1
+        envelope = enveloped({**transaction(self.keys[source], [op]), "seqNum": number},
+                             *(self.keys[name] for name in signers))
+        digest = transaction_hash(network_id_of(NETWORK), envelope)
+        if not signers:
+            envelope["v1"]["signatures"].append(hash_x_signature(SECRET.encode()))
+        self.signed.setdefault(self.ledger.ledger_seq + 1, set()).update(
+            (self.keys[name].key, digest, signature["signature"])
+            for name, signature in zip(signers, envelope["v1"]["signatures"]) if name != "x")
+        return envelope
+
+    def close(self, envelopes: List[Value]) -> None:
+        data = [xdr.write(xdr.TRANSACTION_ENVELOPE, envelope) for envelope in envelopes]
+        digest = sha256(self.ledger.hash + b"".join(sorted(data, key=sha256)))
+        value = {"txSetHash": digest, "closeTime": self.ledger.close_time + 5, "upgrades": [],
+                 "ext": {"v": "STELLAR_VALUE_BASIC"}}
+        txs = {"previousLedgerHash": self.ledger.hash, "txs": envelopes}
+        record = {"ledgerSeq": self.ledger.ledger_seq + 1, "txSet": txs, "scpValue": value}
+        self.records.append(xdr.write(xdr.CLOSE_RECORD, record))
+        lines = self.ledger.close(self.records[-1]).splitlines()
+        self.codes += [int(line.split()[3]) for line in lines if line.startswith("tx ")]
+
+    def transactions(self, seq: int) -> List[Value]:
+        """Those of a ledger: signers and accounts are made before and after the image, and sign later."""
+        created = operation("CREATE_ACCOUNT", "createAccountOp", {
+            "destination": self.keys["f"].account_id, "startingBalance": 50_000_000})
+        return {
+            5: lambda: [self.sent("a", set_signer(self.keys["d"].signer_key)), self.sent("b", BUMP, "b")],
+            63: lambda: [self.sent("c", BUMP, "c"), self.sent("b", BUMP)],
+            64: lambda: [self.sent("a", BUMP, "a", "d"), self.sent("c", BUMP, "c", "x"), self.sent("b", created)],
+            70: lambda: [self.sent("f", BUMP, "f"), self.sent("c", BUMP)],
+            127: lambda: [self.sent("c", BUMP, "x")],
+        }.get(seq, list)()
+
+
+def made_image(folder: str) -> bytes:
+    accounts = [
+        {"name": name, "balance": "1000", "accountID": strkey.encoded("G", named(name).key), "secret": SECRET}
+        for name in NAMES]
+    description = json.dumps({"network": NETWORK, "accounts": accounts}).encode()
+    path = bridge.write_file(f"{folder}/description", description)
+    answer = bridge.run("make", path, "--image", f"{folder}/made", "--records", f"{folder}/none")
+    assert answer.status == 0, answer
+    return bridge.bytes_at(f"{folder}/made")
+
+
+def closed_by(folder: str) -> Closing:
+    closing = Closing(made_image(folder))
+    for seq in range(2, LAST + 1):
+        closing.numbers.clear()
+        closing.close(closing.transactions(seq))
+    return closing
+
+
+def try_compared(tally: Tally, folder: str, image: bytes, records: bytes) -> None:
+    output, _, status = ledger_model.catchup(NETWORK, image + records)
+    path = bridge.write_file(f"{folder}/output", output.encode())
+    answer = bridge.run("compare", f"{folder}/history", path)
+    expected = "equal  ledgers 64 to 127  transactions 6\n"
+    tally.check("an archive's own records close to equal headers", (status, answer) == (0, (0, expected, "")), answer)
+
+
+def try_vouched(tally: Tally, folder: str, closing: Closing) -> None:
+    words = ("vouch", f"{folder}/image", f"{folder}/records", "--network", NETWORK, "--out", f"{folder}/vouched")
+    answer = bridge.run(*words)
+    found = {
+        value["ledgerSeq"]: set(bridge_vouch.vouches_in(value))
+        for value in bridge_vouch.read_records(bridge.bytes_at(f"{folder}/vouched"))}
+    expected = {seq: closing.signed.get(seq, set()) for seq in range(IMAGE_AT + 1, LAST)}
+    tally.check("an archive's signatures have their vouches", answer.status == 0 and found == expected, answer)
+    count = sum(map(len, expected.values()))
+    tally.check("some signatures of an archive are of Ed25519", count == 4 and answer.out.endswith(" 4\n"), answer)
+
+
+def try_whole(tally: Tally, folder: str) -> None:
+    closing = closed_by(folder)
+    tally.check("transactions succeed by a secret, and don't by a key", set(closing.codes) == {0, -6}, closing.codes)
+    made = made_archive.closed(NETWORK.encode(), closing.image + b"".join(map(marked, closing.records)))
+    made_archive.write_archive(f"{folder}/archive", made)
+    answers = [
+        bridge.run("image", "from-archive", f"{folder}/archive", str(IMAGE_AT), "--out", f"{folder}/image"),
+        bridge.run("records", "from-archive", f"{folder}/archive", str(IMAGE_AT + 1), str(LAST - 1),
+                   "--out", f"{folder}/records", "--results", f"{folder}/history")]
+    tally.check("an image and records are taken out of an archive", answers == [(0, "", "")] * 2, answers)
+    image, records = bridge.bytes_at(f"{folder}/image"), bridge.bytes_at(f"{folder}/records")
+    is_same = records == b"".join(map(marked, closing.records[IMAGE_AT - 1:LAST - 2]))
+    tally.check("an archive's records are those that closed", is_same)
+    try_compared(tally, folder, image, records)
+    try_vouched(tally, folder, closing)
+
+
+def check(top: str) -> Tally:
+    tally = Tally()
+    if bridge_vouch.Ed25519PrivateKey is not None:
+        with bridge_forms.scratch() as folder:
+            try_whole(tally, folder)
+    return tally
+
+
+if __name__ == "__main__":
+    result = check(os.path.dirname(TESTS))
+    print("\n".join(result.lines()))
+    sys.exit(1 if result.failed else 0)

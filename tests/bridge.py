@@ -27,7 +27,6 @@ import tempfile
 from typing import Dict, Iterable, Iterator, List, NamedTuple, Optional, Tuple
 
 import cases
-from earlier_types import earlier
 from harness import FILES, NETWORK, TESTS, Store, Tally, lay_out, read
 
 TOOLS = os.path.join(os.path.dirname(TESTS), "tools")
@@ -47,6 +46,7 @@ from transaction_hash import transaction_hash  # noqa: E402
 
 import ledger_model  # noqa: E402
 import store_model  # noqa: E402
+from earlier_types import earlier  # noqa: E402
 
 BAD, MISSING, BAD_INPUT, BAD_IMAGE, REFUSED, DONE = 7, 11, 9, 10, 3, 0
 IMAGE_COMMANDS = (b"init", b"catchup")

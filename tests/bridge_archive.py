@@ -26,7 +26,7 @@ import sample_files  # noqa: E402
 
 LEDGERS, NETWORK = 135, b"sample"
 FIRST, SECOND = 63, 127
-CHANGES = 8
+CHANGES = 6
 STREAMS = ("ledger", "transactions", "results")
 
 

@@ -1,8 +1,8 @@
 """The Python ledger of the tests, as the tools use it: it opens an image and closes records as the program has to.
 
 It is in tests/models, and is put on the path of modules here, so that there is one Python ledger and not two: the tests
-compare it with the program in each run. It shares no code with the program, and none with the codec of these tools.
-Unproved.
+compare it with the program in each run. It shares no code with the program; its types are those of these tools' codec,
+as protocol 18 has them. Unproved.
 """
 
 from __future__ import annotations

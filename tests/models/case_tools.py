@@ -6,7 +6,7 @@ import re
 import ledger_model as model
 import set_cases as sets
 from asset_model import line_rank
-from entry_model import ASSET, CLAIMANT, LINE_ASSET, Rows
+from entry_model import ASSET, CLAIMANT, LINE_ASSET, rows_of
 from ledger_model import (
     DEAD, EMPTY, ENTRY, HEADER, INIT, ITEM, META, NO_HASH, Bucket, Text, catchup, cut_image, key_of, ledger_of, many, marked, row, sha,
     u32, u64,
@@ -68,7 +68,7 @@ def line(name, asset=USD, balance=0, limit=100, flags=1, owed=None, uses=None, p
 
 def claimable(digest, claimants="b", amount=1, asset=sets.LUMENS, payer="a", flags=None):
     """The entry of a claimable balance; where flags are given, with an extension."""
-    listed = Rows(CLAIMANT).read(Text(sets.encoded_claimants(claimants)))
+    listed = rows_of(CLAIMANT).read(Text(sets.encoded_claimants(claimants)))
     ext = (0, None) if flags is None else (1, {"ext": (0, None), "flags": flags})
     body = dict(balance=(0, digest), claimants=listed, asset=ASSET.read(Text(asset)), amount=amount, ext=ext)
     return model.with_sponsor({"modified": 1, "body": (4, body), "ext": (0, None)}, payer and key(payer))

@@ -1,6 +1,10 @@
-"""The values of the ledger, as the two models beside this one use them: XDR both ways (RFC 4506; the .x files of stellar-core),
-entries by the ranks of their keys, changes with undo, and who pays for reserves (CAP-0033).
+"""The values of the ledger, as the two models beside this one use them: XDR both ways, by the codec of the tool for files
+(`model_types.py`), entries by the ranks of their keys, changes with undo, and who pays for reserves (CAP-0033).
 """
+
+from earlier_types import xdr
+from model_types import Rows, shape
+from xdr import XdrFault
 
 from set_cases import GREATEST, i32, i64, many, sha, u32, u64  # noqa: F401
 
@@ -28,244 +32,42 @@ class Text:
         return self.data[self.at - count:self.at]
 
 
-class Number:
-    def __init__(self, size, signed=False):
-        self.size, self.signed = size, signed
+class Kind:
+    """A type: reads a value at the place of a text, and writes one."""
+
+    def __init__(self, kind):
+        self.kind = kind
 
     def read(self, text):
-        return int.from_bytes(text.take(self.size), "big", signed=self.signed)
-
-    def write(self, value):
-        return value.to_bytes(self.size, "big", signed=self.signed)
-
-
-class Nothing:
-    def read(self, text):
-        return None
-
-    def write(self, value):
-        return b""
-
-
-class Fixed:
-    def __init__(self, size):
-        self.size = size
-
-    def read(self, text):
-        return text.take(self.size)
-
-    def write(self, value):
+        try:
+            value, text.at = self.kind.reader(text.data, text.at)
+        except XdrFault as fault:
+            raise Wrong(fault.offset, fault.kind) from None
         return value
 
-
-class Opaque:
-    def __init__(self, most):
-        self.most = most
-
-    def read(self, text):
-        at = text.at
-        count = U32.read(text)
-        if count > self.most:
-            raise Wrong(at, "TooLong")
-        fill = -count % 4
-        padded = text.take(count + fill)
-        for index in range(count, count + fill):
-            if padded[index]:
-                raise Wrong(text.at - len(padded) + index, "Padding")
-        return padded[:count]
-
     def write(self, value):
-        return u32(len(value)) + value + bytes(-len(value) % 4)
+        out = bytearray()
+        self.kind.writer(value, out)
+        return bytes(out)
 
 
-class Struct:
-    def __init__(self, **fields):
-        self.fields = fields
-
-    def read(self, text):
-        return {name: kind.read(text) for name, kind in self.fields.items()}
-
-    def write(self, value):
-        return b"".join(kind.write(value[name]) for name, kind in self.fields.items())
+def kind_of(kind):
+    return Kind(shape(kind))
 
 
-class Union:
-    """A union: its value is the number of its arm, and what the arm holds."""
-
-    def __init__(self, arms):
-        self.arms = arms
-
-    def read(self, text):
-        at = text.at
-        arm = I32.read(text)
-        if arm not in self.arms:
-            raise Wrong(at, "BadEnum")
-        return arm, self.arms[arm].read(text)
-
-    def write(self, value):
-        return i32(value[0]) + self.arms[value[0]].write(value[1])
+def rows_of(kind):
+    """The type of lists of a type, without a bound."""
+    return Kind(Rows(kind.kind))
 
 
-class Maybe:
-    def __init__(self, kind):
-        self.kind = kind
-
-    def read(self, text):
-        at = text.at
-        flag = U32.read(text)
-        if flag > 1:
-            raise Wrong(at, "BadFlag")
-        return self.kind.read(text) if flag else None
-
-    def write(self, value):
-        return u32(0) if value is None else u32(1) + self.kind.write(value)
-
-
-class Rows:
-    def __init__(self, kind, most=2**32 - 1):
-        self.kind, self.most = kind, most
-
-    def read(self, text):
-        at = text.at
-        count = U32.read(text)
-        if count > self.most:
-            raise Wrong(at, "TooLong")
-        return [self.kind.read(text) for _ in range(count)]
-
-    def write(self, value):
-        return many([self.kind.write(item) for item in value])
-
-
-class Predicate:
-    """A predicate of at most so many levels."""
-
-    def __init__(self, levels=32):
-        self.levels = levels
-
-    @property
-    def union(self):
-        below = Predicate(self.levels - 1)
-        two = Rows(below, 2)
-        return Union({0: NOTHING, 1: two, 2: two, 3: Maybe(below), 4: I64, 5: I64})
-
-    def read(self, text):
-        if self.levels == 0:
-            raise Wrong(text.at, "TooDeep")
-        return self.union.read(text)
-
-    def write(self, value):
-        return self.union.write(value)
-
-
-class Encoded:
-    """A value with its own encoding."""
-
-    def __init__(self, kind):
-        self.kind = kind
-
-    def read(self, text):
-        at = text.at
-        value = self.kind.read(text)
-        return value, text.data[at:text.at]
-
-
-U32, I32, U64, I64, NOTHING, HASH = Number(4), Number(4, True), Number(8), Number(8, True), Nothing(), Fixed(32)
-EXT_0 = Union({0: NOTHING})
-ACCOUNT_ID = Union({0: HASH})
-MUXED = Union({0: HASH, 256: Struct(id=U64, key=HASH)})
-SIGNER_KEY = Union({0: HASH, 1: HASH, 2: HASH})
-SIGNER = Struct(key=SIGNER_KEY, weight=U32)
-CODED = {1: Struct(code=Fixed(4), issuer=ACCOUNT_ID), 2: Struct(code=Fixed(12), issuer=ACCOUNT_ID)}
-ASSET = Union({0: NOTHING, **CODED})
-LINE_ASSET = Union({0: NOTHING, **CODED, 3: HASH})
-POOL_PARAMS = Union({0: Struct(a=ASSET, b=ASSET, fee=I32)})
-TRUST_ASSET = Union({0: NOTHING, **CODED, 3: POOL_PARAMS})
-PRICE = Struct(n=I32, d=I32)
-LIABILITIES = Struct(buying=I64, selling=I64)
-BALANCE_ID = Union({0: HASH})
-CLAIMANT = Union({0: Struct(destination=ACCOUNT_ID, predicate=Predicate())})
-
-SECOND = Struct(sponsored=U32, sponsoring=U32, sponsors=Rows(Maybe(ACCOUNT_ID), 20), ext=EXT_0)
-ACCOUNT = Struct(
-    id=ACCOUNT_ID, balance=I64, seq=I64, subs=U32, inflation=Maybe(ACCOUNT_ID), flags=U32, domain=Opaque(32), thresholds=Fixed(4),
-    signers=Rows(SIGNER, 20), ext=Union({0: NOTHING, 1: Struct(liabilities=LIABILITIES, ext=Union({0: NOTHING, 2: SECOND}))}),
-)
-LINE = Struct(
-    id=ACCOUNT_ID, asset=LINE_ASSET, balance=I64, limit=I64, flags=U32,
-    ext=Union({0: NOTHING, 1: Struct(liabilities=LIABILITIES, ext=Union({0: NOTHING, 2: Struct(uses=I32, ext=EXT_0)}))}),
-)
-OFFER = Struct(seller=ACCOUNT_ID, offer=I64, selling=ASSET, buying=ASSET, amount=I64, price=PRICE, flags=U32, ext=EXT_0)
-DATA = Struct(id=ACCOUNT_ID, name=Opaque(64), value=Opaque(64), ext=EXT_0)
-CLAIMABLE = Struct(
-    balance=BALANCE_ID, claimants=Rows(CLAIMANT, 10), asset=ASSET, amount=I64,
-    ext=Union({0: NOTHING, 1: Struct(ext=EXT_0, flags=U32)}),
-)
-POOL = Struct(pool=HASH, body=Union({0: Struct(a=ASSET, b=ASSET, fee=I32, reserve_a=I64, reserve_b=I64, shares=I64, lines=I64)}))
-ENTRY = Struct(
-    modified=U32, body=Union({0: ACCOUNT, 1: LINE, 2: OFFER, 3: DATA, 4: CLAIMABLE, 5: POOL}),
-    ext=Union({0: NOTHING, 1: Struct(sponsor=Maybe(ACCOUNT_ID), ext=EXT_0)}),
-)
-KEY = Union({
-    0: Struct(id=ACCOUNT_ID), 1: Struct(id=ACCOUNT_ID, asset=LINE_ASSET), 2: Struct(seller=ACCOUNT_ID, offer=I64),
-    3: Struct(id=ACCOUNT_ID, name=Opaque(64)), 4: Struct(balance=BALANCE_ID), 5: Struct(pool=HASH),
-})
+U32, U64 = Kind(xdr.U32), Kind(xdr.U64)
+ASSET, LINE_ASSET, POOL_PARAMS = kind_of(xdr.ASSET), kind_of(xdr.TRUST_LINE_ASSET), kind_of(xdr.POOL_PARAMETERS)
+CLAIMANT, OFFER, ENTRY, KEY = (kind_of(kind) for kind in (xdr.CLAIMANT, xdr.OFFER, xdr.LEDGER_ENTRY, xdr.LEDGER_KEY))
+ITEM, RECORD = kind_of(xdr.BUCKET_ENTRY), kind_of(xdr.CLOSE_RECORD)
+VALUE, UPGRADE, HEADER = kind_of(xdr.STELLAR_VALUE), kind_of(xdr.LEDGER_UPGRADE), kind_of(xdr.LEDGER_HEADER)
+# the names of a key's fields, by its type
+KEY_NAMES = [list(arm.fields) for _, _, arm in KEY.kind.arms.values()]
 META, LIVE, DEAD, INIT = -1, 0, 1, 2
-ITEM = Union({META: Struct(version=U32, ext=EXT_0), LIVE: ENTRY, DEAD: KEY, INIT: ENTRY})
-
-PATH = Struct(
-    asset=ASSET, amount=I64, destination=MUXED, to_asset=ASSET, to_amount=I64, path=Rows(ASSET, 5),
-)
-OPERATION = Struct(source=Maybe(MUXED), body=Union({
-    0: Struct(destination=ACCOUNT_ID, balance=I64),
-    1: Struct(destination=MUXED, asset=ASSET, amount=I64),
-    2: PATH,
-    3: Struct(selling=ASSET, buying=ASSET, amount=I64, price=PRICE, offer=I64),
-    4: Struct(selling=ASSET, buying=ASSET, amount=I64, price=PRICE),
-    5: Struct(
-        inflation=Maybe(ACCOUNT_ID), clear=Maybe(U32), set=Maybe(U32), master=Maybe(U32), low=Maybe(U32), medium=Maybe(U32),
-        high=Maybe(U32), domain=Maybe(Opaque(32)), signer=Maybe(SIGNER),
-    ),
-    6: Struct(line=TRUST_ASSET, limit=I64),
-    7: Struct(trustor=ACCOUNT_ID, asset=Union({1: Fixed(4), 2: Fixed(12)}), authorize=U32),
-    8: MUXED,
-    9: NOTHING,
-    10: Struct(name=Opaque(64), value=Maybe(Opaque(64))),
-    11: I64,
-    12: Struct(selling=ASSET, buying=ASSET, amount=I64, price=PRICE, offer=I64),
-    13: PATH,
-    14: Struct(asset=ASSET, amount=I64, claimants=Rows(CLAIMANT, 10)),
-    15: BALANCE_ID,
-    16: ACCOUNT_ID,
-    17: NOTHING,
-    18: Union({0: KEY, 1: Struct(id=ACCOUNT_ID, key=SIGNER_KEY)}),
-    19: Struct(asset=ASSET, source=MUXED, amount=I64),
-    20: BALANCE_ID,
-    21: Struct(trustor=ACCOUNT_ID, asset=ASSET, clear=U32, set=U32),
-    22: Struct(pool=HASH, a=I64, b=I64, least=PRICE, most=PRICE),
-    23: Struct(pool=HASH, amount=I64, a=I64, b=I64),
-}))
-MEMO = Union({0: NOTHING, 1: Opaque(28), 2: U64, 3: HASH, 4: HASH})
-TAIL = dict(
-    fee=U32, seq=I64, bounds=Maybe(Struct(least=U64, most=U64)), memo=MEMO, operations=Rows(OPERATION, 100), ext=EXT_0,
-)
-SIGNATURES = Rows(Struct(hint=Fixed(4), signature=Opaque(64)), 20)
-SIGNED = Struct(tx=Encoded(Struct(source=MUXED, **TAIL)), signatures=SIGNATURES)
-ENVELOPE = Union({
-    0: Struct(tx=Encoded(Struct(source=HASH, **TAIL)), signatures=SIGNATURES),
-    2: SIGNED,
-    5: Struct(tx=Encoded(Struct(source=MUXED, fee=I64, inner=Union({2: SIGNED}), ext=EXT_0)), signatures=SIGNATURES),
-})
-SET = Struct(previous=HASH, txs=Rows(Encoded(ENVELOPE)))
-VALUE = Struct(
-    set=HASH, time=U64, upgrades=Rows(Opaque(128), 6), ext=Union({0: NOTHING, 1: Struct(node=ACCOUNT_ID, signature=Opaque(64))}),
-)
-UPGRADE = Union({1: U32, 2: U32, 3: U32, 4: U32, 5: U32})
-HEADER = Struct(
-    version=U32, previous=HASH, value=VALUE, results=HASH, levels=HASH, seq=U32, coins=I64, pool=I64, inflation=U32, ids=U64,
-    base_fee=U32, reserve=U32, most=U32, skips=Struct(a=HASH, b=HASH, c=HASH, d=HASH),
-    ext=Union({0: NOTHING, 1: Struct(flags=U32, ext=EXT_0)}),
-)
-RECORD = Struct(seq=U32, set=SET, value=VALUE)
 
 
 def read_entire(kind, data):
@@ -305,7 +107,7 @@ def rank_of_key(key):
 
 def key_of(entry):
     kind, body = entry["body"]
-    return kind, {name: body[name] for name in KEY.arms[kind].fields}
+    return kind, {name: body[name] for name in KEY_NAMES[kind]}
 
 
 def account_key(name):

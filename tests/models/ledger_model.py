@@ -2,9 +2,10 @@
 
 It shares nothing with the program. It follows the protocol's XDR (RFC 4506; the .x files of stellar-core), CAP-0003 for offers, CAP-0015
 for fee bumps, CAP-0018 for authorisation, CAP-0020 for buckets, CAP-0023 for claimable balances, CAP-0033 for sponsorship, CAP-0035 for
-clawback, CAP-0038 for pools, and stellar-core for the rest. Values and reserves are in `entry_model.py`, the operations of assets in
-`asset_model.py`, what offers bind in `offer_model.py`, trades in `trade_model.py`, pools in `pool_model.py`, paths in `path_model.py`.
-`run_cases.py` makes cases with it, `bench/` inputs. Python 3.9 or later and its standard library.
+clawback, CAP-0038 for pools, and stellar-core for the rest. Types are those of the codec of `tools/` (`model_types.py`), values and
+reserves are in `entry_model.py`, the operations of assets in `asset_model.py`, what offers bind in `offer_model.py`, trades in
+`trade_model.py`, pools in `pool_model.py`, paths in `path_model.py`. `run_cases.py` makes cases with it, `bench/` inputs. Python 3.9 or
+later and its standard library.
 """
 
 import asset_model as assets

@@ -1,7 +1,8 @@
-"""The types of protocol 18: those of the codec's table without what protocol 19 and vouches added.
+"""The types of protocol 18: those of the codec's table (tools/stellar_xdr.py) without what protocol 19 and vouches
+added.
 
 The program reads protocol 18, and the table both, so some bytes that are a fault to the one are a value, or another
-fault, to the other: the tests of the tool and the ledger of `models/` take the types from here where that is asked.
+fault, to the other: the ledger beside this file and the tests of the tool take the types from here where that is asked.
 """
 
 from __future__ import annotations
@@ -10,7 +11,11 @@ import os
 import sys
 from typing import Dict
 
-sys.path.insert(0, os.path.join(os.path.dirname(os.path.dirname(os.path.abspath(__file__))), "tools"))
+TOOLS = os.path.join(os.path.dirname(os.path.dirname(os.path.dirname(os.path.abspath(__file__)))), "tools")
+if TOOLS not in sys.path:
+    # before the folders of the tests, whose modules have other names
+    sys.path.insert(0, TOOLS)
+
 import stellar_xdr as xdr  # noqa: E402
 from xdr import Array, Choice, Formed, Items, Option, Struct, Type  # noqa: E402
 
@@ -20,26 +25,26 @@ def without(kind: Choice, *numbers: int) -> Choice:
     return Choice(kind.switch, {number: arm for number, arm in kind.arms.items() if number not in numbers})
 
 
-# what became another type, by what it was
+# what became another type, by what it is now: what it was
 REPLACED: Dict[int, Type] = {
     id(xdr.SIGNER_KEY): without(xdr.SIGNER_KEY, 3),
     id(xdr.ACCOUNT_EXT_2.fields["ext"]): without(xdr.ACCOUNT_EXT_2.fields["ext"], 3),
     id(xdr.PRECONDITIONS): Option(xdr.TIME_BOUNDS),
+    id(xdr.RECORD): xdr.CLOSE_RECORD,
 }
 # codes of transactions that came with protocol 19
 LATER_CODES = (-15, -16)
+made: Dict[int, Type] = {}
 
 
 def earlier(kind: Type) -> Type:
     """A type as protocol 18 has it, made once."""
-    if id(kind) not in REPLACED:
-        REPLACED[id(kind)] = remade(kind)
-    return REPLACED[id(kind)]
+    if id(kind) not in made:
+        made[id(kind)] = remade(REPLACED.get(id(kind), kind))
+    return made[id(kind)]
 
 
 def remade(kind: Type) -> Type:
-    if isinstance(kind, Formed):
-        return earlier(kind.plain)
     if isinstance(kind, Struct):
         return Struct(**{name: earlier(field) for name, field in kind.fields.items()})
     if isinstance(kind, Choice):

@@ -332,6 +332,26 @@ def try_shown(tally: Tally, folder: str) -> None:
         tally.check("so many lines of history are shown", is_so, (words, answer))
 
 
+# the first header of the public network, laid out by its published fields, and the hash that the network publishes
+FIRST_HASH = "63d98f536ee68d1b27b5b89f23af5311b7569a24faf1403ad0b52b633b07be99"
+FIRST_HEADER = (
+    f"00000000 {ZEROS} {ZEROS} 0000000000000000 00000000 00000000 {ZEROS}"
+    " 572a2e32ff248a07b0e70fd1f6d318c1facd20b6cc08c33d5775259868125a16 00000001 0de0b6b3a7640000 0000000000000000"
+    f" 00000000 0000000000000000 00000064 05f5e100 00000064 {ZEROS} {ZEROS} {ZEROS} {ZEROS} 00000000"
+)
+
+
+def try_first_header(tally: Tally, folder: str) -> None:
+    """Tries a header with its published hash, and with another one, which is said."""
+    for digest, is_its_own in ((FIRST_HASH, True), (ONES, False)):
+        entry = bytes_of(f"{digest} {FIRST_HEADER} 00000000")
+        path = bridge.write_file(f"{folder}/first", (0x80000000 + len(entry)).to_bytes(4, "big") + entry)
+        lines = bridge.run("show", "history", path).out.splitlines()
+        is_so = lines[0] == f"ledger 1  {digest}" and "totalCoins          1000000000000000000 native" in lines
+        is_said = f"this header has the hash {FIRST_HASH}" in lines
+        tally.check("the public network's first header has its hash", is_so and is_said is not is_its_own, lines)
+
+
 def parts_of(data: bytes) -> Iterator[bytes]:
     """The three streams of a file of history."""
     for part in history_file.read_history(Source("history", data)).parts:
@@ -401,7 +421,7 @@ def check(top: str) -> Tally:
     try_payloads(tally)
     try_forms(tally)
     try_cases(tally, named_cases())
-    for part in (try_shown, try_streams, try_damaged_format_2, try_vouched_in_format_1):
+    for part in (try_shown, try_first_header, try_streams, try_damaged_format_2, try_vouched_in_format_1):
         with scratch() as folder:
             part(tally, folder)
     return tally

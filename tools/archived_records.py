@@ -6,19 +6,18 @@ Unproved.
 
 from __future__ import annotations
 
-import hashlib
 from tempfile import TemporaryFile
 from typing import IO, Dict, Iterator, List, NamedTuple, Optional
 
 from file_source import FileFault, Source
 from header_chain import Header, checkpoint_headers
 from history_archive import CHECKPOINT, checkpoint_of, first_of, stream_source
-from history_file import HEADERS, KINDS, MAGIC, RESULTS, SETS, Entry, entries, stream
+from history_file import HEADERS, KINDS, MAGIC, MOST_ENTRY, RESULTS, SETS
 from image_bytes import marked, pack_length, sha256
 from new_files import write_files
 from packed_file import CHUNK, MOST_HISTORY
 from progress import Note
-from record_stream import MOST_RECORD
+from record_stream import MOST_RECORD, Piece, entire, pieces, word_at
 from stellar_xdr import CLOSE_RECORD, TRANSACTION_ENVELOPE, TRANSACTION_RESULT_SET
 from xdr import U32, Value, write
 
@@ -34,15 +33,16 @@ class Ledger(NamedTuple):
     results: Value
 
 
-def by_ledger(source: Source, kind: int, first: int, last: int) -> Dict[int, Entry]:
-    """The values of a checkpoint's sets or results by their ledgers, in rising order. Raises FileFault."""
-    found: Dict[int, Entry] = {}
+def by_ledger(source: Source, first: int, last: int) -> Dict[int, Piece]:
+    """The values of a checkpoint's sets or results by their ledgers, which are their first fields and rise. Raises
+    FileFault."""
+    found: Dict[int, Piece] = {}
     before = first - 1
-    for entry in entries(stream(source, kind)):
-        ledger = entry.value["ledgerSeq"]
+    for piece in pieces(source, 0, source.size, MOST_ENTRY):
+        ledger = word_at(source, piece, 0)
         if not before < ledger <= last:
-            raise source.fault(entry.piece.at, f"a value of ledger {ledger} after that of {before}, up to {last}")
-        found[ledger] = entry
+            raise source.fault(piece.at, f"a value of ledger {ledger} after that of {before}, up to {last}")
+        found[ledger] = piece
         before = ledger
     return found
 
@@ -53,26 +53,28 @@ def set_hash(value: Value) -> bytes:
     return sha256(value["previousLedgerHash"] + b"".join(envelopes))
 
 
-def set_of(source: Source, header: Header, entry: Optional[Entry]) -> Value:
+def set_of(source: Source, header: Header, piece: Optional[Piece]) -> Value:
     """The set of a ledger, which has none in its file where it is empty. Raises FileFault."""
-    ledger = header.value["ledgerSeq"]
-    empty = {"previousLedgerHash": header.value["previousLedgerHash"], "txs": []}
-    found = entry.value["txSet"] if entry else empty
+    found = {"previousLedgerHash": header.value["previousLedgerHash"], "txs": []}
+    if piece is not None:
+        found = entire(source, piece, KINDS[SETS])["txSet"]
     if set_hash(found) != header.value["scpValue"]["txSetHash"]:
-        at = entry.piece.at if entry else source.size
-        raise source.fault(at, f"the set of ledger {ledger}{'' if entry else ', which is missing,'} isn't its header's")
+        raise wrong(source, header, piece, "set")
     return found
 
 
-def results_of(source: Source, header: Header, entry: Optional[Entry]) -> Value:
+def results_of(source: Source, header: Header, piece: Optional[Piece]) -> Value:
     """The results of a ledger, which has none in its file where they are empty. Raises FileFault."""
-    ledger = header.value["ledgerSeq"]
-    found = entry.value["txResultSet"] if entry else {"results": []}
-    if hashlib.sha256(write(TRANSACTION_RESULT_SET, found)).digest() != header.value["txSetResultHash"]:
-        at = entry.piece.at if entry else source.size
-        raise source.fault(
-            at, f"the results of ledger {ledger}{'' if entry else ', which are missing,'} aren't its header's")
+    found = {"results": []} if piece is None else entire(source, piece, KINDS[RESULTS])["txResultSet"]
+    if sha256(write(TRANSACTION_RESULT_SET, found)) != header.value["txSetResultHash"]:
+        raise wrong(source, header, piece, "list of results")
     return found
+
+
+def wrong(source: Source, header: Header, piece: Optional[Piece], what: str) -> FileFault:
+    """The fault of a set or of results that have another hash than their header says."""
+    where, missing = (source.size, ", which is missing,") if piece is None else (piece.at, "")
+    return source.fault(where, f"the {what} of ledger {header.value['ledgerSeq']}{missing} isn't that of its header")
 
 
 def checkpoint_ledgers(folder: str, checkpoint: int, before: Optional[bytes]) -> Iterator[Ledger]:
@@ -80,11 +82,11 @@ def checkpoint_ledgers(folder: str, checkpoint: int, before: Optional[bytes]) ->
     headers = checkpoint_headers(folder, checkpoint, before)
     first = first_of(checkpoint)
     sets, results = (stream_source(folder, kind, checkpoint) for kind in (SETS, RESULTS))
-    sets_of, all_results = by_ledger(sets, SETS, first, checkpoint), by_ledger(results, RESULTS, first, checkpoint)
+    set_pieces, result_pieces = (by_ledger(source, first, checkpoint) for source in (sets, results))
     for ledger, header in enumerate(headers, first):
         if ledger >= FIRST_CLOSED:
-            found = set_of(sets, header, sets_of.get(ledger))
-            yield Ledger(header, found, results_of(results, header, all_results.get(ledger)))
+            found = set_of(sets, header, set_pieces.get(ledger))
+            yield Ledger(header, found, results_of(results, header, result_pieces.get(ledger)))
 
 
 def ledgers_between(folder: str, first: int, last: int) -> Iterator[Ledger]:

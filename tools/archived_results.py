@@ -11,7 +11,7 @@ from typing import Dict, List, NamedTuple, Optional
 from file_source import Source
 from history_file import HEADERS, KINDS, MOST_ENTRY, RESULTS, Part, entries, is_history, read_history, stream
 from packed_file import opened_or_unpacked
-from record_stream import Piece, entire, ledger_of, pieces
+from record_stream import Piece, entire, pieces, word_at
 from stellar_xdr import LEDGER_HEADER
 from xdr import Value, write
 
@@ -50,7 +50,7 @@ def pieces_of(part: Part) -> Dict[int, Piece]:
     """The values of a stream of results by their ledgers, which are their first fields. Raises FileFault."""
     found: Dict[int, Piece] = {}
     for piece in pieces(part.source, part.start, part.end, MOST_ENTRY):
-        ledger = ledger_of(part.source, piece)
+        ledger = word_at(part.source, piece, 0)
         if ledger in found:
             raise part.source.fault(piece.at, f"the results of ledger {ledger} are there twice")
         found[ledger] = piece

@@ -14,8 +14,11 @@ from fuzz_bytes import LONG_BOUNDS, with_bytes
 from fuzz_parts import Parts, cut
 from fuzz_trials import Four, Trial, with_file
 from image_bytes import marked
-from ledger_store import EPOCH_AT, HEAD_SIZE, LENGTH_AT, NETWORK_AT, OPEN
+from ledger_store import EPOCH_AT, HEAD_SIZES, LENGTH_AT, NETWORK_AT, OPEN
 from store_model import image_file, journal_file
+
+# that of the stores which are made here
+HEAD_SIZE = HEAD_SIZES[1]
 
 
 def open_image(files: Four) -> Optional[int]:

@@ -378,6 +378,29 @@ def try_streams(tally: Tally, folder: str) -> None:
             tally.check("a damaged file of history is shown or refused in one line", is_so, (index, answer.err[-300:]))
 
 
+def try_export_format_2(tally: Tally, folder: str) -> None:
+    """Exports stores of format 2: their images, and their records, of which some are of form 2."""
+    for name, case in named_cases():
+        files = case.after if case.words[:1] in ([b"run"], [b"init"]) else case.before
+        if case.status not in (0, 3) or not bridge.is_of_format_2(files, 0):
+            continue
+        store = f"{folder}/{name}"
+        os.mkdir(store)
+        lay_out(store, files)
+        at = f"{store}/ledger-store"
+        answer = bridge.run("store", "export", at, "--image", f"{store}/image", "--records", f"{store}/records")
+        is_same = answer.status == 0 and bridge.bytes_at(f"{store}/image") == files["image0"][81:]
+        tally.check("an exported image of format 2 is that of the store", is_same, (name, answer))
+        source = Source("records", bridge.bytes_at(f"{store}/records"))
+        records = [source.data[piece.start:piece.end] for piece in record_stream.pieces(source)]
+        journal = b"".join(b"\1" + len(record).to_bytes(4, "big") + record for record in records) + b"\0"
+        is_same = journal == files["journal0"][:len(journal)]
+        tally.check("exported records of format 2 are those of the store", is_same, name)
+        shown = json.loads(bridge.run("show", "store", at, "--json").out.splitlines()[0])["store"]
+        is_said = (shown["format"], shown["records"]) == (2, len(records))
+        tally.check("a store says that it is of format 2", is_said, shown)
+
+
 def try_damaged_format_2(tally: Tally, folder: str) -> None:
     """Tries stores of format 2 of which a part of the head, or of the image, is another."""
     files = cases.read_case("vouches-store-102-04", FOLDER).before
@@ -421,7 +444,9 @@ def check(top: str) -> Tally:
     try_payloads(tally)
     try_forms(tally)
     try_cases(tally, named_cases())
-    for part in (try_shown, try_first_header, try_streams, try_damaged_format_2, try_vouched_in_format_1):
+    for part in (
+        try_shown, try_first_header, try_streams, try_export_format_2, try_damaged_format_2, try_vouched_in_format_1,
+    ):
         with scratch() as folder:
             part(tally, folder)
     return tally

@@ -22,13 +22,16 @@ MOST_HISTORY = 268435456
 
 
 def unpacked_chunks(path: str) -> Iterator[bytes]:
-    """The unpacked bytes of a file, in pieces. Raises FileFault, and OSError where it can't be read."""
+    """The unpacked bytes of a file, in pieces. Raises FileFault, also where it can't be read, since it may be read while
+    another file is written."""
     try:
         with gzip.open(path, "rb") as file:
             while chunk := file.read(CHUNK):
                 yield chunk
     except (EOFError, zlib.error, gzip.BadGzipFile) as why:
         raise FileFault(path, f"isn't what gzip packs, or is cut: {why}") from None
+    except OSError as why:
+        raise FileFault(path, why.strerror or str(why)) from None
 
 
 def stated_size(path: str) -> int:

@@ -651,7 +651,8 @@ def try_words(tally: Tally, folder: str) -> None:
         answer = run(*(word.format(**named) for word in text.split()))
         is_so = is_refused(answer) and not answer.out
         tally.check("what can't be done is refused in one line", is_so, f"{text}: {answer}")
-    for words in (("show", "image"), ("show", "records"), ("show", "store"), ("records", "after"), ("store", "export")):
+    shows = [("show", what) for what in ("image", "records", "store", "results", "history")]
+    for words in (*shows, ("records", "after"), ("store", "export")):
         answer = run(*words, "--help")
         is_told = answer.status == 0 and "example:" in answer.out and "not proved" in answer.out
         tally.check("the help of a command has an example", is_told, words)

@@ -294,7 +294,7 @@ class Struct(Type):
         writers, names = [(name, kind.writer) for name, kind in self.fields.items()], set(self.fields)
 
         def write_struct(value: Value, out: bytearray) -> None:
-            if set(value) != names:
+            if value.keys() != names:
                 raise ValueError(f"the fields {sorted(value)} in place of {sorted(names)}")
             for name, write_field in writers:
                 write_field(value[name], out)
@@ -332,13 +332,17 @@ class Choice(Type):
 
     def make_writer(self) -> Writer:
         switch, write_number = self.switch, I32.writer
-        arms = {name: (number, field, kind and kind.writer) for number, (name, field, kind) in self.arms.items()}
+        arms = {
+            name: (number, {switch, field} - {None}, field, kind and kind.writer)
+            for number, (name, field, kind) in self.arms.items()
+        }
+        failed = (None, set(), None, None)
 
         def write_choice(value: Value, out: bytearray) -> None:
-            number, field, write_arm = arms.get(value[switch], (None, None, None))
+            number, names, field, write_arm = arms.get(value[switch], failed)
             if number is None:
                 raise XdrFault("BadEnum", len(out))
-            if set(value) != {switch, field} - {None}:
+            if value.keys() != names:
                 raise ValueError(f"the fields {sorted(value)} of a union at {value[switch]}")
             write_number(number, out)
             if write_arm is not None:
@@ -368,7 +372,7 @@ class Formed(Type):
         names, first = set(self.other.fields), next(iter(self.plain.fields))
 
         def write_formed(value: Value, out: bytearray) -> None:
-            if set(value) == names:
+            if value.keys() == names:
                 write_word(word, out)
                 write_other(value, out)
             elif value[first] == word:
@@ -416,6 +420,6 @@ def write(kind: Type, value: Value) -> bytes:
     out = bytearray()
     try:
         kind.writer(value, out)
-    except (KeyError, TypeError) as why:
+    except (AttributeError, KeyError, TypeError) as why:
         raise ValueError(f"a value of another type: {why!r}") from None
     return bytes(out)

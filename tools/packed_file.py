@@ -22,8 +22,8 @@ MOST_HISTORY = 268435456
 
 
 def unpacked_chunks(path: str) -> Iterator[bytes]:
-    """The unpacked bytes of a file, in pieces. Raises FileFault, also where it can't be read, since it may be read while
-    another file is written."""
+    """The unpacked bytes of a file, in pieces. Raises FileFault, also where it can't be read, since it may be read
+    while another file is written."""
     try:
         with gzip.open(path, "rb") as file:
             while chunk := file.read(CHUNK):

@@ -16,7 +16,6 @@ Exit status: 0 where the longest close with two workers is at most a third of th
 fails or prints another text. Linux (it reads /proc), Python 3.9 or later and its standard library; 2 GB of memory and 2 GB of disk.
 """
 
-import hashlib
 import os
 import shutil
 import subprocess
@@ -27,54 +26,12 @@ import time
 from measuring import TOP, built, stop
 
 sys.path.insert(0, f"{TOP}/tests/models")
-import ledger_model as model  # noqa: E402
-import set_cases as sets  # noqa: E402
+import deep_levels as deep  # noqa: E402
 
-LEDGERS, SIZE, FIRST = 520, 10, 600
-BALANCE = 1_000_000_000
+LEDGERS, FIRST = 520, 600
 NETWORK = "Test SDF Network ; September 2015"
 # how much of the levels' bytes each file has: a merge into the fifth level is committed at 1024, and of the fourth at each 128th ledger
 PARTS = {(3, 0): 0.05, (3, 1): 0.05, (4, 0): 0.15, (4, 1): 0.15, (5, 0): 0.35, (5, 1): 0.25}
-
-
-def names(first, count):
-    """The keys of so many accounts, in order."""
-    return sorted(hashlib.sha256(b"account %d" % number).digest() for number in range(first, first + count))
-
-
-def deep_image(size):
-    """An image with so many bytes of accounts in its levels, and how many accounts it has."""
-    domain = b"a.domain.of.32.bytes.example.org"
-    sample = sets.Account("a", BALANCE, domain=domain)
-    encoded = model.row(model.INIT, model.ENTRY.read(model.Text(sample.xdr())))[3]
-    before, after = encoded.split(sets.key("a"), 1)
-    mark, meta = model.u32(0x80000000 | len(encoded)), model.marked(model.i32(model.META) + model.u32(18) + model.u32(0))
-    files, made = [b""] * 22, 0
-    # the accounts that send are in the first level
-    senders = sorted(model.row(model.INIT, model.ENTRY.read(model.Text(sets.Account(n, BALANCE).xdr()))) for n in range(SIZE + 1))
-    files[0] = meta + b"".join(model.marked(row[3]) for row in senders)
-    for (level, is_snap), part in PARTS.items():
-        count = int(size * part) // (len(encoded) + 4)
-        files[2 * level + is_snap] = meta + b"".join(mark + before + name + after for name in names(made, count))
-        made += count
-    hashes = [hashlib.sha256(file).digest() if file else bytes(32) for file in files]
-    levels = [hashlib.sha256(hashes[i] + hashes[i + 1]).digest() for i in range(0, 22, 2)]
-    header = dict(
-        version=18, previous=bytes(32), value={"set": bytes(32), "time": 1000, "upgrades": [], "ext": (0, None)}, results=bytes(32),
-        levels=hashlib.sha256(b"".join(levels)).digest(), seq=FIRST, coins=(made + SIZE + 1) * BALANCE, pool=0, inflation=0, ids=0,
-        base_fee=100, reserve=5_000_000, most=1000, skips={name: bytes(32) for name in "abcd"}, ext=(0, None),
-    )
-    encoded = model.HEADER.write(header)
-    bytes_of_files = b"".join(model.u64(len(file)) + file for file in files)
-    return b"SLI1" + model.marked(encoded) + bytes_of_files, model.sha(encoded)
-
-
-def record(number, previous):
-    """A record of payments, after the ledger of this hash."""
-    listed = [sets.sent(name, number + 1, sets.payment(SIZE, 1_000)).xdr() for name in range(SIZE)]
-    digest = model.sha(previous + b"".join(sorted(listed, key=model.sha)))
-    value = digest + model.u64(1005 + 5 * number) + model.u32(0) + model.u32(0)
-    return model.marked(model.u32(FIRST + 1 + number) + previous + model.many(listed) + value)
 
 
 class Closing:
@@ -126,7 +83,7 @@ def measured(program, workers, store, previous, pause):
         closing, times = Closing(program, workers, folder), []
         first = closing.used()
         for number in range(LEDGERS):
-            data = record(number, previous)
+            data = deep.record(FIRST, number + 1, previous)
             time.sleep(pause)
             took, previous = closing.close(data)
             times.append(took)
@@ -141,7 +98,7 @@ def main():
     pause = float(sys.argv[3]) if len(sys.argv) > 3 else 0.02
     longest, text = {}, None
     with tempfile.TemporaryDirectory() as folder:
-        data, previous = deep_image(size)
+        data, previous = deep.image_of(FIRST, PARTS, size)
         with open(f"{folder}/image", "wb") as file:
             file.write(data)
         made = subprocess.run([program, "init", "--network", NETWORK], stdin=open(f"{folder}/image", "rb"), cwd=folder, check=False)

@@ -104,9 +104,14 @@ def notes_of(notes: bytes) -> Iterator[Note]:
     while at < len(notes):
         kind, file, (offset, count) = chr(notes[at]), notes[at + 1] - 1, struct.unpack_from("=QQ", notes, at + 2)
         at += 18
-        data = notes[at:at + count] if kind == "w" else b""
+        data = notes[at:at + count] if kind in "wm" else b""
         at += len(data)
         yield kind, file, offset, data
+
+
+def written_out(notes: bytes) -> Iterator[Tuple[int, bytes]]:
+    """Of each write to standard output the bytes of memory that the first thread had taken by then, and what was written."""
+    return ((taken, data) for kind, _, taken, data in notes_of(notes) if kind == "m")
 
 
 def threads_started(notes: bytes) -> int:

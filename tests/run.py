@@ -25,6 +25,7 @@ import tempfile
 from concurrent.futures import ProcessPoolExecutor
 from typing import Callable, List, Tuple
 
+import adopting
 import applies
 import beside
 import bridge
@@ -86,7 +87,7 @@ def built(name: str, words: List[str]) -> str:
 
 def jobs_of(program: Program) -> List[Job]:
     """What is to be tried of a program, longest first."""
-    parts = [(module.check, (program, part)) for module in (beside, stops, words) for part in module.PARTS]
+    parts = [(module.check, (program, part)) for module in (beside, stops, adopting, words) for part in module.PARTS]
     parts += [(bridge_made.check_program, (program, part)) for part in bridge_made.PARTS]
     return parts + [(cases.check, (program, name)) for name in cases.names()]
 

@@ -4,7 +4,7 @@
  *   FAIL_FROM=N    each call on the files of `ledger-store` fails from the N-th on
  *   FAIL_AT=N      the N-th call on them fails, and no other
  *   NOTES=PATH     writes, cuts and syncs of these files, and threads that are started, are appended to this file, as
- *                  a letter (w, t, s or p), the number of the file (1 to 4), and offset and count in the machine's
+ *                  a letter (w, t, s, p or m), the number of the file (1 to 4), and offset and count in the machine's
  *                  order of bytes, before the bytes that were written
  *   IN_FAIL=N      the N-th read of standard input fails
  *   OUT_FAIL=N     the N-th write to standard output fails
@@ -12,6 +12,9 @@
  *   ERR_ROOM=N     standard error likewise
  *   ONE_BYTE=1     a read of standard input and a write to standard output or standard error moves one byte
  *   HOLD=N         a thread that is started waits until N bytes were written to standard output
+ *   AWAIT=1        a read of standard input waits until each thread that was started has found nothing to do
+ *   TAKEN=1        each write to standard output is noted, as a letter m, with the bytes of memory that the first thread took so far as
+ *                  its offset
  *   REFUSED=N      the N-th call for memory is refused; with WORKERS_ALONE=1 calls of the first thread don't count
  *   COUNTED=PATH   the number of calls for memory is written to this file as the program ends
  */
@@ -36,6 +39,16 @@ enum { DESCRIPTORS = 1024, FILES = 4, OTHER = FILES + 1 };
 static int file_of_descriptor[DESCRIPTORS];
 static long calls, reads, writes_out, bytes_err;
 static volatile long bytes_out;
+static unsigned long bytes_taken;
+/* How often the first thread has begun to wait for input, and of each started thread the last such time at which it yielded, and how
+ * often it did so since. */
+static volatile long waits, threads;
+enum { THREADS = 64 };
+static struct yields {
+    volatile long at, count;
+} yields[THREADS];
+/* The number of a started thread, from 1 on. */
+static __thread long thread_number;
 
 static long setting(const char *name) {
     const char *text = getenv(name);
@@ -111,6 +124,37 @@ off_t lseek(int descriptor, off_t offset, int whence) {
     return real(descriptor, offset, whence);
 }
 
+static void pause_shortly(void) {
+    struct timespec pause = {0, 1000000};
+    nanosleep(&pause, 0);
+}
+
+/* Waits until each started thread has looked for something to do and found nothing: a thread yields after each such look, so the look
+ * before its second yield was begun after this. */
+static void await_idle(void) {
+    __sync_add_and_fetch(&waits, 1);
+    for (long number = 0; number < threads; number++)
+        for (int turns = 0; yields[number].at != waits || yields[number].count < 2; turns++) {
+            if (turns == 60000) abort();
+            pause_shortly();
+        }
+}
+
+int sched_yield(void) {
+    static int (*real)(void);
+    if (!real) real = dlsym(RTLD_NEXT, "sched_yield");
+    if (thread_number) {
+        struct yields *mine = &yields[thread_number - 1];
+        long now = waits;
+        if (mine->at != now) {
+            mine->count = 0;
+            mine->at = now;
+        }
+        mine->count++;
+    }
+    return real();
+}
+
 ssize_t read(int descriptor, void *bytes, size_t count) {
     static ssize_t (*real)(int, void *, size_t);
     if (!real) real = dlsym(RTLD_NEXT, "read");
@@ -121,6 +165,7 @@ ssize_t read(int descriptor, void *bytes, size_t count) {
             return -1;
         }
         if (setting("ONE_BYTE") > 0 && count > 1) count = 1;
+        if (setting("AWAIT") > 0) await_idle();
     }
     return real(descriptor, bytes, count);
 }
@@ -155,6 +200,7 @@ ssize_t write(int descriptor, const void *bytes, size_t count) {
         count = taken(setting("OUT_ROOM"), bytes_out, count);
         if (count == 0) return 0;
         bytes_out += count;
+        if (setting("TAKEN") > 0) note('m', 0, bytes_taken, bytes, count);
     }
     if (descriptor == 2) {
         count = taken(setting("ERR_ROOM"), bytes_err, count);
@@ -193,15 +239,14 @@ int close(int descriptor) {
 struct start {
     void *(*run)(void *);
     void *argument;
+    long number;
 };
 
 static void *run_held(void *given) {
     struct start start = *(struct start *)given;
     free(given);
-    for (int turns = 0; bytes_out < setting("HOLD") && turns < 60000; turns++) {
-        struct timespec pause = {0, 1000000};
-        nanosleep(&pause, 0);
-    }
+    thread_number = start.number;
+    for (int turns = 0; bytes_out < setting("HOLD") && turns < 60000; turns++) pause_shortly();
     if (bytes_out < setting("HOLD")) abort();
     return start.run(start.argument);
 }
@@ -215,6 +260,8 @@ int pthread_create(pthread_t *thread, const pthread_attr_t *attributes, void *(*
     if (!start) return EAGAIN;
     start->run = run;
     start->argument = argument;
+    start->number = __sync_add_and_fetch(&threads, 1);
+    if (start->number > THREADS) abort();
     note('p', 0, 0, 0, 0);
     return real(thread, attributes, run_held, start);
 }
@@ -222,7 +269,8 @@ int pthread_create(pthread_t *thread, const pthread_attr_t *attributes, void *(*
 static unsigned long memory_calls;
 
 /* Counts a call for memory, and answers whether it is to be refused. */
-static int is_refused(void) {
+static int is_refused(size_t size) {
+    if (!thread_number) bytes_taken += size;
     if (setting("WORKERS_ALONE") > 0 && syscall(SYS_gettid) == getpid()) return 0;
     return __sync_add_and_fetch(&memory_calls, 1) == (unsigned long)setting("REFUSED");
 }
@@ -230,25 +278,25 @@ static int is_refused(void) {
 void *malloc(size_t size) {
     static void *(*real)(size_t);
     if (!real) real = dlsym(RTLD_NEXT, "malloc");
-    return is_refused() ? NULL : real(size);
+    return is_refused(size) ? NULL : real(size);
 }
 
 void *realloc(void *old, size_t size) {
     static void *(*real)(void *, size_t);
     if (!real) real = dlsym(RTLD_NEXT, "realloc");
-    return is_refused() ? NULL : real(old, size);
+    return is_refused(size) ? NULL : real(old, size);
 }
 
 void *aligned_alloc(size_t to, size_t size) {
     static void *(*real)(size_t, size_t);
     if (!real) real = dlsym(RTLD_NEXT, "aligned_alloc");
-    return is_refused() ? NULL : real(to, size);
+    return is_refused(size) ? NULL : real(to, size);
 }
 
 int posix_memalign(void **at, size_t to, size_t size) {
     static int (*real)(void **, size_t, size_t);
     if (!real) real = dlsym(RTLD_NEXT, "posix_memalign");
-    return is_refused() ? ENOMEM : real(at, to, size);
+    return is_refused(size) ? ENOMEM : real(at, to, size);
 }
 
 /* The program ends by this call. */

@@ -2,6 +2,7 @@
 use Rattle.entry_map.specs.EntryMap.{EntryMap}
 use Rattle.entry_slots.specs.Accounts.{account_at}
 use Rattle.entry_slots.specs.Lines.{line_at}
+use Rattle.ledger_types.proofs.Booleans.{if_either}
 use Rattle.ledger_types.specs.declared.account.AccountEntry.{AccountEntry}
 use Rattle.ledger_types.specs.declared.asset.Asset.{Asset}
 use Rattle.ledger_types.specs.declared.asset.TrustLineAsset.{TrustLineAsset}
@@ -12,8 +13,7 @@ use Rattle.sponsor_rules.specs.declared.context.Ctx.{Ctx}
 use Rattle.std.proofs.Common.{refl}
 use Rattle.std.specs.Option.{ok_or}
 use Rattle.std.specs.Prelude.{None, Ok, Option, Some, ℤ}
-use Rattle.step_logic.proofs.Changes.{HoldsIf, HoldsIfSome, account_changed, either_way, line_changed, some_unless}
-use Rattle.step_logic.proofs.Changes.{unless_holds}
+use Rattle.step_logic.proofs.Changes.{HoldsIf, HoldsIfSome, account_changed, line_changed, some_unless, unless_holds}
 use Rattle.step_logic.proofs.Entries.{Invariant}
 use Rattle.ledger_types.specs.declared.asset.Asset.TheVariants as asset
 use Rattle.op_form.specs.Amounts as amounts
@@ -64,13 +64,13 @@ module _ (v : Invariant) where
     issued_taken : (held : Asset) → HoldsIf v (amounts.map_after_issued_credit id held n m)
     issued_taken held =
         let index = line_asset_of held in
-        either_way (HoldsIf v) (is_issued_by held id) (Ok m) (amounts.map_after_line_credit id index n m)
+        if_either (HoldsIf v) (is_issued_by held id) (Ok m) (amounts.map_after_line_credit id index n m)
         (record { holds = holds }) (line_taken index (line_at m id index))
 
     issued_given : (held : Asset) → HoldsIf v (amounts.map_after_issued_debit id held n m)
     issued_given held =
         let index = line_asset_of held in
-        either_way (HoldsIf v) (is_issued_by held id) (Ok m) (amounts.map_after_line_debit id index n m)
+        if_either (HoldsIf v) (is_issued_by held id) (Ok m) (amounts.map_after_line_debit id index n m)
         (record { holds = holds }) (line_given index (line_at m id index))
 
     pub credit_holds : (held : Asset) → HoldsIf v (amounts.map_after_credit id held n m)

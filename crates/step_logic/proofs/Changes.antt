@@ -44,11 +44,6 @@ pub some_unless : (v : Invariant) (b : Bool) (m : EntryMap) → v.Holds m
 some_unless v true m holds = record { holds = tt }
 some_unless v false m holds = record { holds = holds }
 
--- what holds of both holds of either
-pub either_way : {A : Type 0} (P : A → Type 0) (b : Bool) (x y : A) → P x → P y → P (if b then x else y)
-either_way P true x y here there = here
-either_way P false x y here there = there
-
 -- ---- accounts
 
 module _ (v : Invariant) (m : EntryMap) (id : AccountId) (change : AccountEntry → AccountEntry)

@@ -2,6 +2,7 @@
 use Rattle.entry_map.specs.EntryMap.{EntryMap}
 use Rattle.entry_slots.specs.Accounts.{account_at, with_account}
 use Rattle.entry_slots.specs.EntrySponsor.{sponsor_in, sponsor_of, with_sponsor, with_sponsor_in}
+use Rattle.ledger_types.proofs.Booleans.{if_either}
 use Rattle.ledger_types.specs.declared.account.AccountEntry.{AccountEntry}
 use Rattle.ledger_types.specs.declared.entry.LedgerEntry.{LedgerEntry}
 use Rattle.ledger_types.specs.declared.entry.LedgerEntryExtensionV1.{LedgerEntryExtensionV1}
@@ -20,7 +21,7 @@ use Rattle.sponsor_rules.specs.declared.signer_index.FoundSigner.{FoundSigner}
 use Rattle.std.proofs.Common.{refl}
 use Rattle.std.specs.FinMap.{get}
 use Rattle.std.specs.Prelude.{None, Option, Some, ℕ, ◌≡◌}
-use Rattle.step_logic.proofs.Changes.{HoldsIf, account_changed, either_way, unless_holds}
+use Rattle.step_logic.proofs.Changes.{HoldsIf, account_changed, unless_holds}
 use Rattle.step_logic.proofs.Entries.{Fits, Invariant, Kinds}
 use Rattle.ledger_types.specs.declared.entry.LedgerEntryBody.TheVariants as body
 use Rattle.sponsor_rules.specs.Adding as adding
@@ -175,7 +176,7 @@ module _ (v : Invariant) where
       → v.of.Sponsor (payer_other_than owner payer)
   other_named owner None named = v.nobody
   other_named owner (Some payer) named =
-      either_way v.of.Sponsor (is_same_account payer owner) None (Some payer) v.nobody named
+      if_either v.of.Sponsor (is_same_account payer owner) None (Some payer) v.nobody named
 
   moved : (k : LedgerKey) (owner : AccountId) (n : ℕ) (old new : Option AccountId) (m : EntryMap)
       → v.of.Sponsor new → v.Holds m

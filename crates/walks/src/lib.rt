@@ -1,0 +1,2 @@
+//! Walks of operations.
+#![tactic(auto)]

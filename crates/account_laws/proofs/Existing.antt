@@ -1,14 +1,18 @@
--- Changes of entries that keep each account that existed: entries that are put or changed, and entries of other
--- kinds that are erased.
-use Rattle.account_laws.proofs.Prelude as prelude
-use prelude.{List, None, Option, Some, ℕ, ◌≢◌, get, ℤ, AccountEntry, TrustLineAsset, DataEntry, LedgerEntry}
-use prelude.{LedgerEntryBody, AccountId, Hash, LedgerKey, LiquidityPoolEntry, OfferEntry, TrustLineEntry, EntryMap}
-use prelude.{erase, put, with_account, with_account_in, with_account_of, with_data, with_data_in, with_data_of}
-use prelude.{with_line, with_line_in, with_line_of, with_pool, with_pool_in, with_pool_of, DoAccountsExist}
-use Rattle.close_laws.specs.entry_slots.Offers.{with_offer, with_offer_in, with_offer_of}
+-- That each account that existed goes on existing, as an invariant of maps: entries are put and changed, and entries of
+-- other kinds are erased.
+use Rattle.account_laws.specs.Existing.{DoAccountsExist}
+use Rattle.close_laws.specs.entry_map.EntryMap.{EntryMap}
+use Rattle.close_laws.specs.ledger_types.declared.entry.LedgerEntryBody.{LedgerEntryBody}
+use Rattle.close_laws.specs.ledger_types.declared.ids.AccountId.{AccountId}
+use Rattle.close_laws.specs.ledger_types.declared.key.LedgerKey.{LedgerKey}
+use Rattle.close_laws.proofs.sponsor_laws_proofs.Settling.{exists_erased, exists_put}
+use Rattle.std.specs.Prelude.{◌≢◌}
+use Rattle.step_logic.proofs.Entries.{FitsBody, Invariant, IsOther, Kinds}
+use Rattle.step_logic.proofs.Steps.{anything}
+use Rattle.step_logic.proofs.Walks.{Logic}
 use Rattle.close_laws.specs.ledger_types.declared.entry.LedgerEntryBody.TheVariants as body
 use Rattle.close_laws.specs.ledger_types.declared.key.LedgerKey.TheVariants as key
-use Rattle.close_laws.proofs.sponsor_laws_proofs.Settling.{exists_erased, exists_put}
+
 
 -- each account of the old entries exists
 pub record Keeps (old m : EntryMap) : Type 0 where
@@ -17,109 +21,64 @@ pub record Keeps (old m : EntryMap) : Type 0 where
 pub keeps_itself : (m : EntryMap) → Keeps m m
 keeps_itself m = record { each = λ id exists. exists }
 
--- ---- entries that are put and erased
-
--- an account stays under its key, also where another one is put there
-pub put_keeps : {old m : EntryMap} (e : LedgerEntry) → Keeps old m → Keeps old (put m e)
-put_keeps {m = m} e keeps = record { each = λ id exists. exists_put m e id (keeps.each id exists) }
-
--- the key of anything but an account
-abbrev pub IsOther : LedgerKey → Type 0
-IsOther (key.Account id) = ⊥
-IsOther k = Unit {0}
-
-apart : (k : LedgerKey) (id : AccountId) → IsOther k → key.Account id ≢ k
+pub apart : (k : LedgerKey) (id : AccountId) → IsOther k → key.Account id ≢ k
 apart (key.Account own) id other same = absurd other
 apart k id other same = absurd (cc)
 
-pub erase_keeps : {old m : EntryMap} (k : LedgerKey) → IsOther k → Keeps old m → Keeps old (erase m k)
-erase_keeps {m = m} k other keeps =
-    record { each = λ id exists. exists_erased m k id (apart k id other) (keeps.each id exists) }
+-- nothing is asked of an entry
+abbrev pub any : Kinds
+any = record {
+  Account = λ a. Unit {0};
+  Line = λ t. Unit {0};
+  Offer = λ o. Unit {0};
+  Data = λ d. Unit {0};
+  Balance = λ b. Unit {0};
+  Pool = λ p. Unit {0};
+  Sponsor = λ s. Unit {0};
+  Key = λ k. Unit {0};
+  Named = λ a. Unit {0};
+}
 
--- ---- accounts that change
+pub any_body : (b : LedgerEntryBody) → FitsBody any b
+any_body (body.Account a) = tt
+any_body other = tt
 
-account_in_keeps : {old m : EntryMap} (change : AccountEntry → AccountEntry) (e : LedgerEntry) (of : LedgerEntryBody)
-    → Keeps old m → Keeps old (with_account_in m e change of)
-account_in_keeps change e (body.Account account) keeps =
-    put_keeps (record e { body = body.Account (change account) }) keeps
-account_in_keeps change e other keeps = keeps
+abbrev pub kept : EntryMap → Invariant
+kept old = record {
+  of = any;
+  Holds = Keeps old;
+  Goes = IsOther;
+  others = λ k other. other;
+  found = λ m k e keeps there. record { body = any_body e.body; sponsor = tt };
+  putting = λ m e keeps fits. record { each = λ id exists. exists_put m e id (keeps.each id exists) };
+  erasing = λ m k keeps other.
+      record { each = λ id exists. exists_erased m k id (apart k id other) (keeps.each id exists) };
+  Asks = ⊥;
+  nobody = tt;
+  counted = λ count n a fits. tt;
+  numbered = λ balance seq_num a fits. tt;
+  signed = λ index one sponsor key named a fits. tt;
+  unsigned = λ index a fits. tt;
+  sponsored = λ index sponsor named a fits. tt;
+  weighed = λ index one key a fits. tt;
+  liable = λ owed a within fits. tt;
+  same_line = λ t s same asset fits. tt;
+  pooled = λ a b shares lines p bound fits. tt;
+  pool_assets = λ p fits. (tt, tt);
+  pool_bounds = λ p fits asks. absurd asks;
+  offer_left = λ n o facts. tt;
+  Reported = λ one. Unit {0};
+  crossed = λ o wheat sheep fits. tt;
+  swapped = λ p id wheat sheep sold bought first second own fits. tt;
+}
 
-account_of_keeps : {old m : EntryMap} (change : AccountEntry → AccountEntry) (found : Option LedgerEntry)
-    → Keeps old m → Keeps old (with_account_of m change found)
-account_of_keeps change None keeps = keeps
-account_of_keeps change (Some e) keeps = account_in_keeps change e e.body keeps
-
-pub with_account_keeps : {old m : EntryMap} (id : AccountId) (change : AccountEntry → AccountEntry) → Keeps old m
-    → Keeps old (with_account m id change)
-unfolding with_account
-with_account_keeps {m = m} id change keeps = account_of_keeps change (get m (key.Account id)) keeps
-
--- ---- lines
-
-line_in_keeps : {old m : EntryMap} (change : TrustLineEntry → TrustLineEntry) (e : LedgerEntry) (of : LedgerEntryBody)
-    → Keeps old m → Keeps old (with_line_in m e change of)
-line_in_keeps change e (body.TrustLine held) keeps =
-    put_keeps (record e { body = body.TrustLine (change held) }) keeps
-line_in_keeps change e other keeps = keeps
-
-line_of_keeps : {old m : EntryMap} (change : TrustLineEntry → TrustLineEntry) (found : Option LedgerEntry)
-    → Keeps old m → Keeps old (with_line_of m change found)
-line_of_keeps change None keeps = keeps
-line_of_keeps change (Some e) keeps = line_in_keeps change e e.body keeps
-
-pub with_line_keeps : {old m : EntryMap} (id : AccountId) (held : TrustLineAsset)
-    (change : TrustLineEntry → TrustLineEntry) → Keeps old m → Keeps old (with_line m id held change)
-unfolding with_line
-with_line_keeps {m = m} id held change keeps = line_of_keeps change (get m (key.TrustLine id held)) keeps
-
--- ---- offers
-
-offer_in_keeps : {old m : EntryMap} (change : OfferEntry → OfferEntry) (e : LedgerEntry) (of : LedgerEntryBody)
-    → Keeps old m → Keeps old (with_offer_in m e change of)
-offer_in_keeps change e (body.Offer offer) keeps = put_keeps (record e { body = body.Offer (change offer) }) keeps
-offer_in_keeps change e other keeps = keeps
-
-offer_of_keeps : {old m : EntryMap} (change : OfferEntry → OfferEntry) (found : Option LedgerEntry) → Keeps old m
-    → Keeps old (with_offer_of m change found)
-offer_of_keeps change None keeps = keeps
-offer_of_keeps change (Some e) keeps = offer_in_keeps change e e.body keeps
-
-pub with_offer_keeps : {old m : EntryMap} (seller : AccountId) (id : ℤ) (change : OfferEntry → OfferEntry)
-    → Keeps old m → Keeps old (with_offer m seller id change)
-unfolding with_offer
-with_offer_keeps {m = m} seller id change keeps = offer_of_keeps change (get m (key.Offer seller id)) keeps
-
--- ---- data
-
-data_in_keeps : {old m : EntryMap} (change : DataEntry → DataEntry) (e : LedgerEntry) (of : LedgerEntryBody)
-    → Keeps old m → Keeps old (with_data_in m e change of)
-data_in_keeps change e (body.Data entry) keeps = put_keeps (record e { body = body.Data (change entry) }) keeps
-data_in_keeps change e other keeps = keeps
-
-data_of_keeps : {old m : EntryMap} (change : DataEntry → DataEntry) (found : Option LedgerEntry) → Keeps old m
-    → Keeps old (with_data_of m change found)
-data_of_keeps change None keeps = keeps
-data_of_keeps change (Some e) keeps = data_in_keeps change e e.body keeps
-
-pub with_data_keeps : {old m : EntryMap} (id : AccountId) (name : List ℕ) (change : DataEntry → DataEntry)
-    → Keeps old m → Keeps old (with_data m id name change)
-unfolding with_data
-with_data_keeps {m = m} id name change keeps = data_of_keeps change (get m (key.Data id name)) keeps
-
--- ---- pools
-
-pool_in_keeps : {old m : EntryMap} (change : LiquidityPoolEntry → LiquidityPoolEntry) (e : LedgerEntry)
-    (of : LedgerEntryBody) → Keeps old m → Keeps old (with_pool_in m e change of)
-pool_in_keeps change e (body.LiquidityPool pool) keeps =
-    put_keeps (record e { body = body.LiquidityPool (change pool) }) keeps
-pool_in_keeps change e other keeps = keeps
-
-pool_of_keeps : {old m : EntryMap} (change : LiquidityPoolEntry → LiquidityPoolEntry) (found : Option LedgerEntry)
-    → Keeps old m → Keeps old (with_pool_of m change found)
-pool_of_keeps change None keeps = keeps
-pool_of_keeps change (Some e) keeps = pool_in_keeps change e e.body keeps
-
-pub with_pool_keeps : {old m : EntryMap} (id : Hash) (change : LiquidityPoolEntry → LiquidityPoolEntry)
-    → Keeps old m → Keeps old (with_pool m id change)
-unfolding with_pool
-with_pool_keeps {m = m} id change keeps = pool_of_keeps change (get m (key.LiquidityPool id)) keeps
+abbrev pub existing : EntryMap → Logic
+existing old = record {
+  inv = kept old;
+  answers = anything;
+  Context = λ ctx. Unit {0};
+  sponsor = λ ctx id context. tt;
+  opened = λ ctx one named context. tt;
+  closed = λ ctx index context. tt;
+  drawn = λ ctx ids context. tt;
+}

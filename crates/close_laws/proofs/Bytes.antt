@@ -1,17 +1,16 @@
 -- The bytes of entries: what no test of an operation says of them, and their formats do.
 use Rattle.close_laws.proofs.Prelude as prelude
-use prelude.{◌≡◌, ℕ, refl, List, [], ◌∷◌, All, Option, Some, None, Bool, true, false, cond, All-head, All-tail}
-use prelude.{option_map, ◌≤ℤ◌, find, get, account_of, AccountId, MuxedAccount, Signer, AccountEntry}
-use prelude.{AccountEntryExtensionV2, TrustLineAsset, TrustLineEntry, OfferEntry, DataEntry, Claimant}
-use prelude.{ClaimableBalanceEntry, LiquidityPoolEntry, LedgerEntry, LedgerEntryBody, LedgerEntryExtensionV1, LedgerKey}
+use prelude.{ℕ, List, [], ◌∷◌, All, Option, Some, None, Bool, true, false, cond, All-head, All-tail}
+use prelude.{option_map, ◌≤ℤ◌, find, account_of, AccountId, MuxedAccount, Signer, AccountEntry}
+use prelude.{AccountEntryExtensionV2, TrustLineEntry, OfferEntry, DataEntry, Claimant}
+use prelude.{ClaimableBalanceEntry, LiquidityPoolEntry, LedgerEntry, LedgerEntryBody}
 use prelude.{i64, fixed, var, constant, option, optional, account_id, muxed_account, signer_key, claimant, EntryMap}
-use prelude.{put, erase, EachEntry, put_each, erase_each, with_account, with_account_of, with_account_in, with_line}
-use prelude.{with_line_of, with_line_in, with_data, with_data_of, with_data_in, account_liabilities, second_in}
-use prelude.{sponsor_of, with_sponsor, with_sponsor_in, sponsor_in, greatest_i64, Ctx, is_same_account, open_sponsor}
-use prelude.{payer_by, payer_of, IsEncoded}
+use prelude.{EachEntry}
+use prelude.{account_liabilities, second_in}
+use prelude.{sponsor_of, greatest_i64, Ctx, is_same_account, open_sponsor}
+use prelude.{IsEncoded}
 use Rattle.close_rules.specs.ledger_types.declared.ids.MuxedAccount.TheVariants as muxed
 use Rattle.close_rules.specs.ledger_types.declared.entry.LedgerEntryBody.TheVariants as body
-use Rattle.close_rules.specs.ledger_types.declared.key.LedgerKey.TheVariants as key
 use Rattle.close_rules.specs.xdr_entries.Basic as basic
 use Rattle.close_rules.specs.sponsor_rules.declared.context.Sponsorship.{Sponsorship}
 
@@ -121,96 +120,11 @@ pub record AreEntryBytes (e : LedgerEntry) : Type 0 where
 abbrev pub AreBytes : EntryMap → Type 0
 AreBytes m = EachEntry (λ k e. AreEntryBytes e) m
 
--- ---- changes
-
-pub put_bytes : (m : EntryMap) (e : LedgerEntry) → AreBytes m → AreEntryBytes e → AreBytes (put m e)
-put_bytes m e each new = put_each (λ k x. AreEntryBytes x) m e each new
-
-pub erase_bytes : (m : EntryMap) (k : LedgerKey) → AreBytes m → AreBytes (erase m k)
-erase_bytes m k each = erase_each (λ q x. AreEntryBytes x) m k each
-
 -- a change that keeps the bytes of an account
 abbrev pub KeepsAccounts : (AccountEntry → AccountEntry) → Type 0
 KeepsAccounts change = (account : AccountEntry) → AreAccountBytes account → AreAccountBytes (change account)
 
-account_changed : (m : EntryMap) (change : AccountEntry → AccountEntry) (e : LedgerEntry) (of : LedgerEntryBody)
-    → KeepsAccounts change → AreBytes m → AreBodyBytes of → IsIdIf (sponsor_of e)
-    → AreBytes (with_account_in m e change of)
-account_changed m change e (body.Account account) keep each bytes sponsor =
-    put_bytes m (record e { body = body.Account (change account) }) each
-    (record { body = keep account bytes; sponsor = sponsor })
-account_changed m change e other keep each bytes sponsor = each
-
-account_found : (m : EntryMap) (k : LedgerKey) (change : AccountEntry → AccountEntry) (found : Option LedgerEntry)
-    → get m k ≡ found → KeepsAccounts change → AreBytes m → AreBytes (with_account_of m change found)
-account_found m k change None there keep each = each
-account_found m k change (Some e) there keep each =
-    account_changed m change e e.body keep each (each k e there).body (each k e there).sponsor
-
-pub with_account_bytes : (m : EntryMap) (id : AccountId) (change : AccountEntry → AccountEntry) → KeepsAccounts change
-    → AreBytes m → AreBytes (with_account m id change)
-unfolding with_account
-with_account_bytes m id change keep each =
-    account_found m (key.Account id) change (get m (key.Account id)) refl keep each
-
--- a change that keeps the bytes of a line
-abbrev pub KeepsLines : (TrustLineEntry → TrustLineEntry) → Type 0
-KeepsLines change = (held : TrustLineEntry) → AreLineBytes held → AreLineBytes (change held)
-
-line_changed : (m : EntryMap) (change : TrustLineEntry → TrustLineEntry) (e : LedgerEntry) (of : LedgerEntryBody)
-    → KeepsLines change → AreBytes m → AreBodyBytes of → IsIdIf (sponsor_of e) → AreBytes (with_line_in m e change of)
-line_changed m change e (body.TrustLine held) keep each bytes sponsor =
-    put_bytes m (record e { body = body.TrustLine (change held) }) each
-    (record { body = keep held bytes; sponsor = sponsor })
-line_changed m change e other keep each bytes sponsor = each
-
-line_found : (m : EntryMap) (k : LedgerKey) (change : TrustLineEntry → TrustLineEntry) (found : Option LedgerEntry)
-    → get m k ≡ found → KeepsLines change → AreBytes m → AreBytes (with_line_of m change found)
-line_found m k change None there keep each = each
-line_found m k change (Some e) there keep each =
-    line_changed m change e e.body keep each (each k e there).body (each k e there).sponsor
-
-pub with_line_bytes : (m : EntryMap) (id : AccountId) (held : TrustLineAsset)
-    (change : TrustLineEntry → TrustLineEntry) → KeepsLines change → AreBytes m → AreBytes (with_line m id held change)
-unfolding with_line
-with_line_bytes m id held change keep each =
-    line_found m (key.TrustLine id held) change (get m (key.TrustLine id held)) refl keep each
-
-data_changed : (m : EntryMap) (change : DataEntry → DataEntry) (e : LedgerEntry) (of : LedgerEntryBody)
-    → ((entry : DataEntry) → AreDataBytes entry → AreDataBytes (change entry)) → AreBytes m → AreBodyBytes of
-    → IsIdIf (sponsor_of e) → AreBytes (with_data_in m e change of)
-data_changed m change e (body.Data entry) keep each bytes sponsor =
-    put_bytes m (record e { body = body.Data (change entry) }) each
-    (record { body = keep entry bytes; sponsor = sponsor })
-data_changed m change e other keep each bytes sponsor = each
-
-data_found : (m : EntryMap) (k : LedgerKey) (change : DataEntry → DataEntry) (found : Option LedgerEntry)
-    → get m k ≡ found → ((entry : DataEntry) → AreDataBytes entry → AreDataBytes (change entry)) → AreBytes m
-    → AreBytes (with_data_of m change found)
-data_found m k change None there keep each = each
-data_found m k change (Some e) there keep each =
-    data_changed m change e e.body keep each (each k e there).body (each k e there).sponsor
-
-pub with_data_bytes : (m : EntryMap) (id : AccountId) (name : List ℕ) (change : DataEntry → DataEntry)
-    → ((entry : DataEntry) → AreDataBytes entry → AreDataBytes (change entry)) → AreBytes m
-    → AreBytes (with_data m id name change)
-unfolding with_data
-with_data_bytes m id name change keep each =
-    data_found m (key.Data id name) change (get m (key.Data id name)) refl keep each
-
 -- ---- sponsors
-
-recorded_sponsor : (sponsor : Option AccountId) (ext : Option LedgerEntryExtensionV1) → IsIdIf sponsor
-    → IsIdIf (sponsor_in (with_sponsor_in sponsor ext))
-recorded_sponsor None None named = no_id
-recorded_sponsor None (Some ext) named = named
-recorded_sponsor (Some id) None named = named
-recorded_sponsor (Some id) (Some ext) named = named
-
-pub with_sponsor_bytes : (sponsor : Option AccountId) (e : LedgerEntry) → AreEntryBytes e → IsIdIf sponsor
-    → AreEntryBytes (with_sponsor sponsor e)
-with_sponsor_bytes sponsor e bytes named =
-    record { body = bytes.body; sponsor = recorded_sponsor sponsor e.ext named }
 
 abbrev pub IsOpener : Sponsorship → Type 0
 IsOpener opened = IsId opened.sponsor
@@ -234,10 +148,3 @@ pub open_sponsor_id : (ctx : Ctx) (id : AccountId) → AreSponsors ctx → IsIdI
 unfolding open_sponsor
 open_sponsor_id ctx id sponsors =
     opened_by (λ opened. is_same_account opened.sponsored id) ctx.sponsorships sponsors.all
-
-pub payer_id : (owner : AccountId) (found : Option AccountId) → IsId owner → IsIdIf found → IsId (payer_by owner found)
-payer_id owner None id named = id
-payer_id owner (Some sponsor) id named = id_of_some sponsor named
-
-pub payer_of_id : (ctx : Ctx) (owner : AccountId) → IsId owner → AreSponsors ctx → IsId (payer_of ctx owner)
-payer_of_id ctx owner id sponsors = payer_id owner (open_sponsor ctx owner) id (open_sponsor_id ctx owner sponsors)

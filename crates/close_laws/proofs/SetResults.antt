@@ -1,16 +1,16 @@
 -- The results of sets keep the bounds on lengths.
 use Rattle.close_laws.proofs.Prelude as prelude
-use prelude.{◌≡◌, ℕ, suc, ◌+◌, ◌≤◌, refl, List, [], ◌∷◌, length, All, Option, Some, None, Bool, true, false}
+use prelude.{ℕ, suc, ◌+◌, ◌≤◌, refl, List, [], ◌∷◌, length, All, Option, Some, None, Bool, true, false}
 use prelude.{if◌then◌else◌, not, nat_eq, arith, ◌&&◌, All-nil, All-cons, All-head, All-tail, AllByRecursion, list_all}
-use prelude.{AccountId, Hash, AccountEntry, Operation, OperationBody, OperationResult, Transaction, FeeBumpTransaction}
+use prelude.{AccountId, Hash, Operation, OperationBody, OperationResult, Transaction, FeeBumpTransaction}
 use prelude.{TransactionEnvelope, TransactionOutcome, i64, fixed, constant, list, list_of, hash, account_id}
 use prelude.{claimable_balance_id, asset, operation_result_tr, operation_result, inner_transaction_outcome}
 use prelude.{inner_transaction_result, inner_transaction_result_pair, transaction_outcome, transaction_result}
 use prelude.{transaction_result_pair, transaction_result_set, EntryMap, account_at, Tests, first_fault, Ctx}
 use prelude.{map_after_removing_preauth, HeldSignature, apply_order_of, Low, AllLawful, TransactionLaws, LegalSettles}
-use prelude.{signed_hash_of, transaction_hash_of, operations_of, inserted, done_by, done_at, Ran, run, Setting, ctx_in}
+use prelude.{signed_hash_of, transaction_hash_of, operations_of, done_at, Ran, run, Setting, ctx_in}
 use prelude.{all_held, envelope_applied, result_pair, all_applied, envelopes_in_order, fees_taken_of, Auth, Auths}
-use prelude.{source_of, auth_of, auths_of, auth_result, auth_results, are_used, all_at, setting_in}
+use prelude.{auth_of, auths_of, auth_result, auth_results, are_used, all_at, setting_in}
 use Rattle.std.proofs.Common.{ℤ}
 use Rattle.close_rules.specs.op_types.declared.operation.OperationBody.TheVariants as body
 use Rattle.close_rules.specs.op_types.declared.transaction.TransactionEnvelope.TheVariants as envelope
@@ -24,12 +24,11 @@ use Rattle.close_rules.specs.op_types.InnerOutcome.{inner_outcome}
 use Rattle.close_rules.specs.tx_apply.InnerResult.{inner_pair, bump_outcome}
 use Rattle.close_rules.specs.tx_apply.Transaction as spec
 use Rattle.close_laws.specs.Results.{ResultsAreEncoded}
-use Rattle.close_laws.proofs.EncodedSets.{set_encoded, envelopes_few, body_encoded}
+use Rattle.close_laws.proofs.EncodedSets.{set_encoded, envelopes_few}
 use Rattle.close_laws.proofs.FewDrawn.{HasFew, set_few, envelopes_len}
 use Rattle.close_laws.proofs.Digests.{hash_len}
-use Rattle.close_laws.proofs.AnswerSteps.{IsAnswer, no_account, bad_auth}
-use Rattle.close_laws.proofs.OperationAnswers.{any_answers}
-use Rattle.close_laws.proofs.BytesSets.{AreRunning, here_encoded, here_id, here_work, here_can, rest_running, IsBegun}
+use Rattle.close_laws.proofs.Written.{IsAnswer, bad_auth}
+use Rattle.close_laws.proofs.BytesSets.{AreRunning, here_done, rest_running, IsBegun}
 use Rattle.close_laws.proofs.BytesSets.{begun_running, begun_after, MayApply, begun_v1, begun_bump, MayApplyAll}
 use Rattle.close_laws.proofs.BytesSets.{may_first, may_others, set_begun}
 use Rattle.close_laws.proofs.NextEntries.{map_bytes}
@@ -113,19 +112,9 @@ run_answers all ctx source index [] m running = no_answers 0
 run_answers all ctx source index (of ∷ operations) m running =
     let first = done_at ctx source index of m in
     one_answer (length operations) first.result (run first.ctx source (index + 1) operations first.entries).results
-    (by (account_at m (source_of source of)) refl)
+    (here_done ctx source index of operations m running).answer
     (run_answers all first.ctx source (index + 1) operations first.entries
     (rest_running ctx source index of operations m running all))
-  where
-    by : (found : Option AccountEntry) → account_at m (source_of source of) ≡ found
-        → IsAnswer (done_by (inserted ctx index (source_of source of)) of m found).result
-    by None at = no_account
-    by (Some account) at =
-        any_answers (inserted ctx index (source_of source of)) of.body m
-        (here_can ctx source index of operations m running account at)
-        (here_id ctx source index of operations m running)
-        (body_encoded of (here_encoded ctx source index of operations m running))
-        (here_work ctx source index of operations m running)
 
 -- ---- outcomes of transactions
 

@@ -1,16 +1,44 @@
--- Counts and signers that change leave the bytes of accounts.
-use Rattle.close_laws.proofs.Prelude.{ℕ, List, [], ◌∷◌, map, All, Option, Some, None, Bool, true, false, if◌then◌else◌}
-use Rattle.close_laws.proofs.Prelude.{nat_eq, slice_set, All-nil, All-cons, All-set, ◌≤ℤ◌, insert, remove, AccountId}
-use Rattle.close_laws.proofs.Prelude.{Signer, AccountEntry, AccountEntryExtensionV1, AccountEntryExtensionV2}
-use Rattle.close_laws.proofs.Prelude.{signer_key, EntryMap, liabilities_in, second_in, sponsorship_of, sponsorship_in}
-use Rattle.close_laws.proofs.Prelude.{with_sponsorship, greatest_i64, SubEntries, Sponsoring, Sponsored, count_in}
-use Rattle.close_laws.proofs.Prelude.{with_count, with_new_count, with_more, with_less, with_sponsors_in, with_sponsors}
-use Rattle.close_laws.proofs.Prelude.{with_signer_at, without_signer, with_signer_sponsor, IsEncoded}
+-- Numbers, counts, liabilities and signers that change leave the bytes of accounts.
+use Rattle.close_laws.proofs.Bytes.{AreAccountBytes, IsIdIf, IsKey, KeepsAccounts, no_id, sponsors_in}
+use Rattle.close_rules.proofs.ledger_types_proofs.Booleans.{if_either}
 use Rattle.close_rules.proofs.ledger_types_proofs.Lists.{all_insert, all_remove}
+use Rattle.close_rules.specs.State.{IsEncoded}
+use Rattle.close_rules.specs.entry_slots.AccountExtensions.{is_nothing, liabilities_in, second_in, sponsorship_in}
+use Rattle.close_rules.specs.entry_slots.AccountExtensions.{with_account_liabilities, with_liabilities_in}
+use Rattle.close_rules.specs.entry_slots.AccountExtensions.{sponsorship_of, with_sponsorship}
+use Rattle.close_rules.specs.ledger_types.declared.account.AccountEntry.{AccountEntry}
+use Rattle.close_rules.specs.ledger_types.declared.account.AccountEntryExtensionV1.{AccountEntryExtensionV1}
+use Rattle.close_rules.specs.ledger_types.declared.account.AccountEntryExtensionV2.{AccountEntryExtensionV2}
+use Rattle.close_rules.specs.ledger_types.declared.ids.AccountId.{AccountId}
+use Rattle.close_rules.specs.ledger_types.declared.price.Liabilities.{Liabilities}
+use Rattle.close_rules.specs.ledger_types.declared.signer.Signer.{Signer}
+use Rattle.close_rules.specs.op_options.OptionSigner.{with_signer_set}
+use Rattle.close_rules.specs.reserve_rules.Reserve.{greatest_i64}
+use Rattle.close_rules.specs.sponsor_rules.Counting.{count_in, with_count, with_new_count}
+use Rattle.close_rules.specs.sponsor_rules.SignerIndex.{with_signer_at, with_signer_sponsor, with_sponsors}
+use Rattle.close_rules.specs.sponsor_rules.SignerIndex.{with_sponsors_in, without_signer}
+use Rattle.close_rules.specs.sponsor_rules.declared.count.Count.TheVariants.{Sponsored, Sponsoring, SubEntries}
 use Rattle.close_rules.specs.sponsor_rules.declared.count.Count.{Count}
-use Rattle.close_rules.specs.sponsor_rules.Paying as paying
-use Rattle.close_laws.proofs.Bytes.{IsIdIf, no_id, sponsors_in, IsKey, AreAccountBytes, AreBytes}
-use Rattle.close_laws.proofs.Bytes.{KeepsAccounts, with_account_bytes}
+use Rattle.close_rules.specs.xdr_entries.Basic.{signer_key}
+use Rattle.std.proofs.Common.{arith, insert, slice_set}
+use Rattle.std.proofs.lemmas.Int.{ints}
+use Rattle.std.proofs.lemmas.List.Elements.{All-cons, All-nil, All-set}
+use Rattle.std.specs.List.{remove}
+use Rattle.std.specs.Prelude.{All, Bool, List, None, Option, Some, [], false, if◌then◌else◌, map, nat_eq, true, ℕ}
+use Rattle.std.specs.Prelude.{◌∷◌, ◌≤ℤ◌}
+
+-- a change of numbers alone
+pub numbers : (was account : AccountEntry) → AreAccountBytes was
+    → AreAccountBytes (record was { balance = account.balance; seq_num = account.seq_num })
+numbers was account bytes = record {
+  id = bytes.id;
+  inflation_dest = bytes.inflation_dest;
+  home_domain = bytes.home_domain;
+  thresholds = bytes.thresholds;
+  signers = bytes.signers;
+  sponsors = bytes.sponsors;
+  selling = bytes.selling;
+}
 
 -- ---- counts
 
@@ -53,55 +81,45 @@ new_count_bytes Sponsored n account bytes =
     sponsorship_bytes (record (sponsorship_of account) { num_sponsored = n }) account bytes
     (sponsors_of account.signers (second_in account.ext) bytes.sponsors)
 
-either_bytes : (b : Bool) (x y : AccountEntry) → AreAccountBytes x → AreAccountBytes y
-    → AreAccountBytes (if b then x else y)
-either_bytes true x y here there = here
-either_bytes false x y here there = there
-
 pub count_bytes : (count : Count) (n : ℕ) → KeepsAccounts (with_count count n)
 unfolding with_count
 count_bytes count n account bytes =
-    either_bytes (nat_eq n (count_in count account)) account (with_new_count count n account) bytes
+    if_either AreAccountBytes (nat_eq n (count_in count account)) account (with_new_count count n account) bytes
     (new_count_bytes count n account bytes)
 
-more_paid : (k : ℕ) (sponsor : Option AccountId) → KeepsAccounts (paying.with_more_paid k sponsor)
-more_paid k None account bytes = bytes
-more_paid k (Some sponsor) account bytes = count_bytes Sponsored _ account bytes
+-- ---- liabilities
 
-less_paid : (k : ℕ) (sponsor : Option AccountId) → KeepsAccounts (paying.with_less_paid k sponsor)
-less_paid k None account bytes = bytes
-less_paid k (Some sponsor) account bytes = count_bytes Sponsored _ account bytes
+either_selling : (b : Bool) (owed : Liabilities) → owed.selling ≤ℤ greatest_i64
+    → (liabilities_in (if b then None else Some (record { liabilities = owed; ext = None }))).selling ≤ℤ greatest_i64
+either_selling true owed le = omega (arith, ints)
+either_selling false owed le = le
 
-pub subentry_bytes : (k : ℕ) (sponsor : Option AccountId) → KeepsAccounts (paying.with_subentry k sponsor)
-subentry_bytes k sponsor account bytes =
-    more_paid k sponsor (with_more SubEntries k account) (count_bytes SubEntries _ account bytes)
+owed_selling : (owed : Liabilities) (ext : Option AccountEntryExtensionV1) → owed.selling ≤ℤ greatest_i64
+    → (liabilities_in (with_liabilities_in owed ext)).selling ≤ℤ greatest_i64
+owed_selling owed None le = either_selling (is_nothing owed) owed le
+owed_selling owed (Some ext) le = le
 
-pub without_subentry_bytes : (k : ℕ) (sponsor : Option AccountId) → KeepsAccounts (paying.without_subentry k sponsor)
-without_subentry_bytes k sponsor account bytes =
-    less_paid k sponsor (with_less SubEntries k account) (count_bytes SubEntries _ account bytes)
+either_sponsors : (b : Bool) (owed : Liabilities)
+    → All IsIdIf (sponsors_in (second_in (if b then None else Some (record { liabilities = owed; ext = None }))))
+either_sponsors true owed = All-nil IsIdIf
+either_sponsors false owed = All-nil IsIdIf
 
-pub other_payer_bytes : (k : ℕ) (old new : Option AccountId) → KeepsAccounts (paying.with_other_payer k old new)
-other_payer_bytes k old new account bytes =
-    more_paid k new (paying.with_less_paid k old account) (less_paid k old account bytes)
+owed_sponsors : (owed : Liabilities) (ext : Option AccountEntryExtensionV1) → All IsIdIf (sponsors_in (second_in ext))
+    → All IsIdIf (sponsors_in (second_in (with_liabilities_in owed ext)))
+owed_sponsors owed None all = either_sponsors (is_nothing owed) owed
+owed_sponsors owed (Some ext) all = all
 
--- ---- payers
-
-pub charging_bytes : (k : ℕ) (sponsor : Option AccountId) (m : EntryMap) → AreBytes m
-    → AreBytes (paying.map_after_charging k sponsor m)
-charging_bytes k None m each = each
-charging_bytes k (Some sponsor) m each =
-    with_account_bytes m sponsor (with_more Sponsoring k) (λ account bytes. count_bytes Sponsoring _ account bytes) each
-
-pub releasing_bytes : (k : ℕ) (sponsor : Option AccountId) (m : EntryMap) → AreBytes m
-    → AreBytes (paying.map_after_releasing k sponsor m)
-releasing_bytes k None m each = each
-releasing_bytes k (Some sponsor) m each =
-    with_account_bytes m sponsor (with_less Sponsoring k) (λ account bytes. count_bytes Sponsoring _ account bytes) each
-
-pub exchange_bytes : (k : ℕ) (old new : Option AccountId) (m : EntryMap) → AreBytes m
-    → AreBytes (paying.map_after_exchange k old new m)
-exchange_bytes k old new m each =
-    charging_bytes k new (paying.map_after_releasing k old m) (releasing_bytes k old m each)
+pub liable_bytes : (owed : Liabilities) (a : AccountEntry) → owed.selling ≤ℤ greatest_i64 → AreAccountBytes a
+    → AreAccountBytes (with_account_liabilities owed a)
+liable_bytes owed a le bytes = record {
+  id = bytes.id;
+  inflation_dest = bytes.inflation_dest;
+  home_domain = bytes.home_domain;
+  thresholds = bytes.thresholds;
+  signers = bytes.signers;
+  sponsors = owed_sponsors owed a.ext bytes.sponsors;
+  selling = owed_selling owed a.ext le;
+}
 
 -- ---- signers
 
@@ -162,4 +180,16 @@ signer_sponsor_bytes index sponsor named account bytes = record {
   sponsors = changed_sponsors (λ sponsors. slice_set sponsors index sponsor) account.ext
       (λ xs all. All-set IsIdIf xs index sponsor named all) bytes.sponsors;
   selling = same_selling (λ sponsors. slice_set sponsors index sponsor) account.ext bytes.selling;
+}
+
+pub set_signer : (index : ℕ) (one : Signer) → IsEncoded signer_key one.key
+    → KeepsAccounts (with_signer_set index one)
+set_signer index one encoded account bytes = record {
+  id = bytes.id;
+  inflation_dest = bytes.inflation_dest;
+  home_domain = bytes.home_domain;
+  thresholds = bytes.thresholds;
+  signers = All-set IsKey account.signers index one encoded bytes.signers;
+  sponsors = bytes.sponsors;
+  selling = bytes.selling;
 }

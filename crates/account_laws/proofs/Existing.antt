@@ -13,7 +13,6 @@ use Rattle.step_logic.proofs.Walks.{Logic}
 use Rattle.close_laws.specs.ledger_types.declared.entry.LedgerEntryBody.TheVariants as body
 use Rattle.close_laws.specs.ledger_types.declared.key.LedgerKey.TheVariants as key
 
-
 -- each account of the old entries exists
 pub record Keeps (old m : EntryMap) : Type 0 where
   pub each : DoAccountsExist old m

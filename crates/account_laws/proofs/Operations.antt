@@ -21,10 +21,10 @@ use Rattle.close_laws.specs.ledger_types.declared.asset.ChangeTrustAsset.TheVari
 use Rattle.close_laws.specs.op_offers.declared.answers.Kind.TheVariants as kind
 use Rattle.close_laws.specs.op_types.declared.operation.OperationBody.TheVariants as body
 
-
 -- ---- nothing is asked of what is put
 
-offer_free : (old : EntryMap) (ctx : Ctx) (m : EntryMap) (of : Kind) (ask : Ask) → OfferAsked (existing old) ctx m of ask
+offer_free : (old : EntryMap) (ctx : Ctx) (m : EntryMap) (of : Kind) (ask : Ask)
+    → OfferAsked (existing old) ctx m of ask
 offer_free old ctx m of ask = (
   λ asks. absurd asks,
   record { new = λ within. tt; old = λ was fits. tt },

@@ -116,7 +116,8 @@ module _ (v : Invariant) where
           let holds = begins.entries ctx tx.inner_tx.tx m begun in
           if_either Applies (checks.is_poor ctx (account_at m (bump.payer_of tx)))
           (spec.ended outcome.InsufficientBalance ctx m)
-          (if are_used after then bump.inner_applied base_fee ctx signed tx m else spec.ended outcome.BadAuthExtra ctx m)
+          (if are_used after then bump.inner_applied base_fee ctx signed tx m else spec.ended outcome.BadAuthExtra ctx
+          m)
           holds
           (if_either Applies (are_used after) (bump.inner_applied base_fee ctx signed tx m)
           (spec.ended outcome.BadAuthExtra ctx m)

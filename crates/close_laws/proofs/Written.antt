@@ -198,7 +198,8 @@ pub closed_sponsors : (ctx : Ctx) (index : ℕ) → AreSponsors ctx
     → AreSponsors (record ctx { sponsorships = remove ctx.sponsorships index })
 closed_sponsors ctx index sponsors = record {
   all = All-append IsOpener (take index ctx.sponsorships) (drop (suc index) ctx.sponsorships)
-      (All-take IsOpener index ctx.sponsorships sponsors.all) (All-drop IsOpener (suc index) ctx.sponsorships sponsors.all);
+      (All-take IsOpener index ctx.sponsorships sponsors.all)
+      (All-drop IsOpener (suc index) ctx.sponsorships sponsors.all);
 }
 
 abbrev pub writing : Logic

@@ -344,7 +344,8 @@ module _ (ctx : Ctx) (m : EntryMap) (can : CanTrade ctx m) (id : IsId ctx.op_sou
       let its = sent_named op encoded in (
         λ asked. can.under.settled.legal,
         its.named,
-        λ amount atoms few reported. sent_arrived atoms (account_of op.destination) op.dest_asset amount (few tt) reported
+        λ amount atoms few reported. sent_arrived atoms (account_of op.destination) op.dest_asset amount
+            (few tt) reported
             its.id its.named.to.within,
       )
   asked_encoded (body.ChangeTrust op) encoded = trust_fits ctx op.limit op.line id (line_encoded op encoded)

@@ -1,14 +1,16 @@
 -- BUMP_SEQUENCE is lawful.
-use Rattle.op_laws.proofs.Prelude.{◌≡◌, refl, ap, subst, ◌∙◌, ℕ, Bool, true, false, [], ◌∷◌, arith, inr, ints, ℤ, pos}
+use Rattle.op_laws.proofs.Prelude.{◌≡◌, refl, ap, ◌∙◌, ℕ, Bool, true, false, arith, inr, ints, ℤ, pos}
 use Rattle.op_laws.proofs.Prelude.{int_lt, ◌+ℤ◌, ◌-ℤ◌, ◌≤ℤ◌, if◌then◌else◌, AccountEntry, EntryMap, with_account}
 use Rattle.op_laws.proofs.Prelude.{HasAccount, greatest_i64, Ctx, KeepsAggregates, nothing_owed, IsAccountInRange}
 use Rattle.op_laws.proofs.Prelude.{lumens_of, account_legal, account_changed, legal_as, with_seq_num_from}
-use Rattle.op_laws.proofs.Prelude.{bump_sequence, success, IsLawful, IsBumpFit, AreLawfulWhere, IsNext, account_kept}
-use Rattle.op_laws.proofs.Prelude.{went_on, first_passed, add_zero, int_lt_false, sym}
+use Rattle.op_laws.proofs.Prelude.{bump_sequence, IsLawful, IsBumpFit, AreLawfulWhere, IsNext, account_kept}
+use Rattle.op_laws.proofs.Prelude.{add_zero, int_lt_false, sym}
 use Rattle.op_flags.specs.op_types.declared.account_results.BumpSequenceResult.TheVariants as bump
 use Rattle.op_account.specs.BumpSequence.{answer}
 use Rattle.op_laws.proofs.Lawful.{KeepsLegal, lawful_still}
 use Rattle.op_laws.proofs.Payments.{numbered_aggregates, numbered_range}
+use Rattle.step_logic.proofs.Steps.{done_so, anything}
+use Rattle.walks.proofs.AccountSteps.{bump_steps}
 
 -- ---- an account whose sequence number alone may differ
 
@@ -62,12 +64,8 @@ module _ (ctx : Ctx) (n : ℤ) (m : EntryMap) (exists : HasAccount m ctx.op_sour
 pub bump_sequence_is_lawful : AreLawfulWhere IsBumpFit bump_sequence
 bump_sequence_is_lawful ctx op m done fits under exists is =
     let new = with_account m ctx.op_source (with_seq_num_from op.bump_to) in
-    let went = went_on ((int_lt op.bump_to (pos 0), answer bump.BadSeq) ∷ []) (success ctx (answer bump.Success) new [])
-    done is in
-    let low = int_lt_false op.bump_to (pos 0)
-    (first_passed (int_lt op.bump_to (pos 0)) (answer bump.BadSeq) [] went.0).0 in
-    let same : record { result = answer bump.Success; entries = new; ctx = ctx; moves = [] } ≡ done = cc in
-    subst (IsLawful ctx m) same (lawful_still ctx m under (answer bump.Success) new
-    (bumped_legal ctx op.bump_to m exists low fits)
+    done_so anything (IsLawful ctx m) (bump_sequence ctx op m) done
+    (bump_steps anything (IsLawful ctx m) ctx op m (λ low. lawful_still ctx m under (answer bump.Success) new
+    (bumped_legal ctx op.bump_to m exists (int_lt_false op.bump_to (pos 0) low) fits)
     (account_kept ctx.base_reserve m under.settled.legal.keyed ctx.op_source (with_seq_num_from op.bump_to)
-    (λ a there. same_next ctx.base_reserve op.bump_to a (int_lt a.seq_num op.bump_to))))
+    (λ a there. same_next ctx.base_reserve op.bump_to a (int_lt a.seq_num op.bump_to))))) is

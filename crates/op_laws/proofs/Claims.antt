@@ -1,19 +1,19 @@
 -- CREATE_CLAIMABLE_BALANCE, CLAIM_CLAIMABLE_BALANCE and CLAWBACK_CLAIMABLE_BALANCE are lawful.
 use Rattle.op_laws.proofs.Prelude as prelude
-use prelude.{◌≡◌, ◌≢◌, refl, sym, ap, subst, ◌∙◌, ℕ, Bool, true, false, not, ◌||◌, ◌∷◌, [], length, map, is_some}
+use prelude.{◌≡◌, ◌≢◌, refl, sym, ap, subst, ◌∙◌, ℕ, Bool, true, false, not, ◌||◌, ◌∷◌, [], length, map}
 use prelude.{Option, Some, None, Ok, arith, ints, ℤ, pos, neg_ℤ, int_le, ◌+ℤ◌, ◌≤ℤ◌, if◌then◌else◌, get, is_eq}
 use prelude.{AccountId, ClaimableBalanceId, AccountEntry, Asset, TrustLineEntry, ClaimableBalanceEntry, LedgerEntry}
-use prelude.{LedgerKey, asset_cmp, key_of, OperationResult, NotSupported, is_valid_asset, EntryMap, erase, account_at}
-use prelude.{with_account, HasAccount, balance_at, sponsor_of, line_at, with_line, Tests, part, Ctx, map_after_adding}
+use prelude.{LedgerKey, asset_cmp, key_of, is_valid_asset, EntryMap, erase, account_at}
+use prelude.{with_account, HasAccount, sponsor_of, line_at, with_line, part, Ctx, map_after_adding}
 use prelude.{open_sponsor, payer_of, map_after_releasing, map_after_removing, map_after_removing_entry, nothing_owed}
 use prelude.{AreEntriesLegal, IsBodyInRange, IsBalanceInRange, of_asset, held, sponsors_ready, balance_added_so}
 use prelude.{balance_removed_so, line_entry, with_line_body, with_line_is, nothing_settled, account_entry}
-use prelude.{with_account_is, with_body, map_after_credit, map_after_debit, map_after_line_debit_of, line_debit_tests}
-use prelude.{is_issued_by, line_asset_of, Done, OfAccount, OfBalance, map_after_lumens_debit, with_less_lumens}
+use prelude.{with_account_is, with_body, map_after_debit, map_after_line_debit_of, line_debit_tests}
+use prelude.{is_issued_by, line_asset_of, OfAccount, OfBalance, map_after_lumens_debit, with_less_lumens}
 use prelude.{flagged_ext, fixed_claimant, IsLawful, AreLawful, AreLawfulWhere, AreClaimantsFew, issued, is_issuer}
 use prelude.{IsUnderway, IsMoved, unless_issuer, shifts_as, shifts_both, ok_of, releasing_kept, erased_left, none_more}
-use prelude.{both_more, under_key, still_holds, cancelled, Leaves, leaves_both, leaves_as, keeps_then, went_on}
-use prelude.{went_after_some, went_after_step, first_passed, went_after_charge, put_elsewhere, add_zero_at_most}
+use prelude.{both_more, under_key, still_holds, cancelled, Leaves, leaves_both, leaves_as, keeps_then}
+use prelude.{put_elsewhere, add_zero_at_most}
 use prelude.{nonnegative_from_positive, positive_from_int_le, not-false, or_parts, unless_first_ok, debit_is_given}
 use Rattle.op_flags.specs.ledger_types.declared.asset.Asset.TheVariants as asset
 use Rattle.op_flags.specs.ledger_types.declared.entry.LedgerEntryBody.TheVariants as body
@@ -37,6 +37,9 @@ use Rattle.op_laws.proofs.NewBalances.{IsBalanceEntry, balance_entry, claimants_
 use Rattle.op_laws.proofs.Described.{more_for, account_location, balance_location, moved, move_describes, more_turned}
 use Rattle.op_laws.proofs.Described.{redeemed_more}
 use Rattle.op_laws.proofs.Described.{balance_more}
+use Rattle.step_logic.proofs.Steps.{done_so, anything}
+use Rattle.step_logic.proofs.Walks.{succeeded}
+use Rattle.walks.proofs.ClaimSteps.{create_balance_steps, claim_steps, clawback_balance_steps}
 
 -- ---- what moves issue and give
 
@@ -103,63 +106,51 @@ module _ (id_pool base : ℕ) (m : EntryMap) (legal : AreEntriesLegal id_pool m)
 
 pub claim_claimable_balance_is_lawful : AreLawful claiming.claim_claimable_balance
 claim_claimable_balance_is_lawful ctx op m done under exists is =
+    done_so anything (IsLawful ctx m) (claiming.claim_claimable_balance ctx op m) done
+    (claim_steps anything (IsLawful ctx m) ctx op m (λ b taken there may took.
     let src = ctx.op_source in
-    let balance = went_after_some (balance_at m op.balance_id) (claiming.answer claim.DoesNotExist) _ done is in
-    let b = balance.0 in
-    let went = went_on (claiming.claim_tests ctx b) _ done balance.2 in
-    let found = balance_entry m op.balance_id b balance.1 in
+    let found = balance_entry m op.balance_id b there in
     let gone = balance_gone ctx.id_pool ctx.base_reserve m under.settled.legal op.balance_id b found in
     let range = its_range ctx.id_pool ctx.base_reserve m under.settled.legal op.balance_id b found in
     let low = nonnegative_from_positive b.amount range.amount in
     let now = map_after_removing (key.ClaimableBalance op.balance_id) m in
     let shift = λ (x : Asset). neg_ℤ (of_asset x b.asset b.amount) in
     let now_legal = shifted_after ctx m under none_more shift now gone.shifts in
-    let taken = went_after_step (map_after_credit src b.asset b.amount now) claiming.credit_result _ done went.1 in
-    let one = amount_taken ctx ctx.id_pool now now_legal src b.amount low taken.0 b.asset taken.1 in
+    let one = amount_taken ctx ctx.id_pool now now_legal src b.amount low taken b.asset took in
     let moves = claiming.claim_move ctx op b ∷ [] in
-    let also = taken.2 in
-    let made : Done = record { result = claiming.answer claim.Success; entries = taken.0; ctx = ctx; moves = moves } in
-    let same : made ≡ done = cc in
     let less = more_for b.asset (OfBalance op.balance_id) (neg_ℤ b.amount) in
     let more = more_for b.asset (OfAccount src) b.amount in
     let all = moved b.asset (OfBalance op.balance_id) (OfAccount src) b.amount in
-    subst (IsLawful ctx m) same (lawful_with ctx m under all (claiming.answer claim.Success) taken.0 moves
+    lawful_with ctx m under all (claiming.answer claim.Success) taken moves
     (shifts_as ctx.id_pool (λ x. neg_ℤ (of_asset x b.asset b.amount) +ℤ unless_issuer x b.asset src b.amount)
-    (λ x. issued x moves) m taken.0 (λ x. claimed_issued x b.asset op.balance_id src b.amount)
-    (shifts_both ctx.id_pool shift (λ x. unless_issuer x b.asset src b.amount) m now taken.0 gone.shifts one.shifts))
-    (leaves_as ctx.base_reserve (both_more less more) all m taken.0
-    (leaves_both ctx.base_reserve less more m now taken.0 gone.left one.left) (more_turned less more))
+    (λ x. issued x moves) m taken (λ x. claimed_issued x b.asset op.balance_id src b.amount)
+    (shifts_both ctx.id_pool shift (λ x. unless_issuer x b.asset src b.amount) m now taken gone.shifts one.shifts))
+    (leaves_as ctx.base_reserve (both_more less more) all m taken
+    (leaves_both ctx.base_reserve less more m now taken gone.left one.left) (more_turned less more))
     (move_describes b.asset (OfBalance op.balance_id) (OfAccount src) b.amount (balance_location b.asset op.balance_id)
-    (account_location b.asset src)))
+    (account_location b.asset src)))) is
 
 -- ---- CLAWBACK_CLAIMABLE_BALANCE
 
 pub clawback_claimable_balance_is_lawful : AreLawful clawing.clawback_claimable_balance
 clawback_claimable_balance_is_lawful ctx op m done under exists is =
+    done_so anything (IsLawful ctx m) (clawing.clawback_claimable_balance ctx op m) done
+    (clawback_balance_steps anything (IsLawful ctx m) ctx op m (λ b there may.
     let src = ctx.op_source in
-    let balance = went_after_some (balance_at m op.balance_id) (clawing.answer claw.DoesNotExist) _ done is in
-    let b = balance.0 in
-    let flag : Tests OperationResult =
-    (not (clawing.is_balance_clawback_enabled b), clawing.answer claw.NotClawbackEnabled) ∷ [] in
-    let went = went_on (clawing.balance_tests ctx b) _ done balance.2 in
-    let first = first_passed (not (is_issued_by b.asset src)) (clawing.answer claw.NotIssuer) flag went.0 in
-    let issuer = not-false (is_issued_by b.asset src) first.0 in
-    let found = balance_entry m op.balance_id b balance.1 in
+    let issuer = not-false (is_issued_by b.asset src) may.0 in
+    let found = balance_entry m op.balance_id b there in
     let gone = balance_gone ctx.id_pool ctx.base_reserve m under.settled.legal op.balance_id b found in
     let new = map_after_removing (key.ClaimableBalance op.balance_id) m in
     let moves = clawing.clawback_move ctx op b ∷ [] in
-    let also = went.1 in
-    let made : Done = record { result = clawing.answer claw.Success; entries = new; ctx = ctx; moves = moves } in
-    let same : made ≡ done = cc in
     let from = OfBalance op.balance_id in
     let all = moved b.asset from (OfAccount src) b.amount in
-    subst (IsLawful ctx m) same (lawful_with ctx m under all (clawing.answer claw.Success) new moves
+    lawful_with ctx m under all (clawing.answer claw.Success) new moves
     (shifts_as ctx.id_pool (λ x. neg_ℤ (of_asset x b.asset b.amount)) (λ x. issued x moves) m new
     (λ x. clawed_issued x b.asset op.balance_id src b.amount issuer) gone.shifts)
     (leaves_as ctx.base_reserve (more_for b.asset from (neg_ℤ b.amount)) all m new gone.left
     (redeemed_more b.asset from (OfAccount src) b.amount (sym (same_issuer b.asset src) ∙ issuer)))
     (move_describes b.asset from (OfAccount src) b.amount (balance_location b.asset op.balance_id)
-    (account_location b.asset src)))
+    (account_location b.asset src)))) is
 
 -- ---- what a debit leaves under other keys
 
@@ -210,7 +201,7 @@ module _ (ctx : Ctx) (id : AccountId) (n : ℤ) (m new : EntryMap) (balance : Cl
 
 -- ---- CREATE_CLAIMABLE_BALANCE
 
-module _ (ctx : Ctx) (op : CreateClaimableBalanceOp) (m : EntryMap) (done : Done) (few : AreClaimantsFew op)
+module _ (ctx : Ctx) (op : CreateClaimableBalanceOp) (m : EntryMap) (few : AreClaimantsFew op)
     (under : IsUnderway ctx m) (exists : HasAccount m ctx.op_source) (low : pos 1 ≤ℤ op.amount)
     (valid : is_valid_asset op.asset ≡ true) (good : creating.are_claimants_bad op.claimants ≡ false)
     (free : get m (key.ClaimableBalance (creating.new_id ctx)) ≡ None) where
@@ -243,32 +234,26 @@ module _ (ctx : Ctx) (op : CreateClaimableBalanceOp) (m : EntryMap) (done : Done
     claimants = claimants_in_range ctx.close_time op.claimants good few;
   }
 
-  given_added : creating.given_and_added ctx op m ≡ Ok done → IsLawful ctx m done
-  given_added is =
+  given_added : (now new : EntryMap) → map_after_debit ctx src op.asset op.amount m ≡ Ok now
+      → map_after_adding ctx src entry now ≡ Ok new
+      → IsLawful ctx m (succeeded ctx (creating.answer (create.Success (creating.new_id ctx))) new
+      (creating.create_move ctx op ∷ []))
+  given_added now new is also =
       let n = op.amount in
-      let first = went_after_step (map_after_debit ctx src op.asset n m) creating.debit_result _ done is in
-      let now = first.0 in
       let one = amount_given ctx ctx.id_pool m under.settled.legal src n
-      (nonnegative_from_positive n low) now op.asset first.1 in
+      (nonnegative_from_positive n low) now op.asset is in
       let shift = λ (x : Asset). unless_issuer x op.asset src (neg_ℤ n) in
       let now_legal = shifted_after ctx m under none_more shift now one.shifts in
-      let second = went_after_charge (map_after_adding ctx src entry now) (creating.answer create.LowReserve) _ done
-      first.2 in
-      let new = second.0 in
       let ready = sponsors_ready ctx m src under.sponsorships in
       let payer = payer_exists now src (open_sponsor ctx src) (one.left.exist src exists)
       (λ sponsor at. one.left.exist sponsor (ready.exists sponsor at)) in
       let moves = creating.create_move ctx op ∷ [] in
-      let also = second.2 in
-      let result = creating.answer (create.Success (creating.new_id ctx)) in
-      let made : Done = record { result = result; entries = new; ctx = ctx; moves = moves } in
-      let same : made ≡ done = cc in
       let to = OfBalance (creating.new_id ctx) in
       let less = more_for op.asset (OfAccount src) (neg_ℤ n) in
       let more = more_for op.asset to n in
       let all = moved op.asset (OfAccount src) to n in
-      let still_free = balance_beside ctx src n m now (creating.new_id ctx) op.asset first.1 ∙ free in
-      subst (IsLawful ctx m) same (lawful_with ctx m under all result new moves
+      let still_free = balance_beside ctx src n m now (creating.new_id ctx) op.asset is ∙ free in
+      lawful_with ctx m under all (creating.answer (create.Success (creating.new_id ctx))) new moves
       (shifts_as ctx.id_pool (λ x. unless_issuer x op.asset src (neg_ℤ n) +ℤ of_asset x op.asset n)
       (λ x. issued x moves) m new
       (λ x. put_aside_issued x op.asset src to n (balance_issues_none op.asset (creating.new_id ctx)))
@@ -277,28 +262,22 @@ module _ (ctx : Ctx) (op : CreateClaimableBalanceOp) (m : EntryMap) (done : Done
         free = still_free;
         unsponsored = refl;
         id_free = λ id. add_zero_at_most _ (pos 1) (legal.offers id);
-      }) entry_range payer second.1)))
+      }) entry_range payer also)))
       (leaves_as ctx.base_reserve (both_more less more) all m new
       (leaves_both ctx.base_reserve less more m now new one.left
       (leaves_as ctx.base_reserve (under_key (key_of entry) (λ x. held x entry)) more now new
-      (balance_left ctx now (payer_of ctx src) times entry new one.left.keyed (λ id at. absurd (cc)) still_free
-      second.1)
+      (balance_left ctx now (payer_of ctx src) times entry new one.left.keyed (λ id at. absurd (cc)) still_free also)
       (balance_more op.asset (creating.new_id ctx) n))) (more_turned less more))
       (move_describes op.asset (OfAccount src) to n (account_location op.asset src)
-      (balance_location op.asset (creating.new_id ctx))))
+      (balance_location op.asset (creating.new_id ctx)))
 
 pub create_claimable_balance_is_lawful : AreLawfulWhere AreClaimantsFew creating.create_claimable_balance
 create_claimable_balance_is_lawful ctx op m done few under exists is =
-    let went = went_on (creating.create_tests op) _ done is in
-    let none = int_le op.amount (pos 0) in
+    done_so anything (IsLawful ctx m) (creating.create_claimable_balance ctx op m) done
+    (create_balance_steps anything (IsLawful ctx m) ctx op m (λ given new pass free first also.
     let bad = not (is_valid_asset op.asset) in
-    let claimants = creating.are_claimants_bad op.claimants in
-    let test = first_passed (none || bad || claimants) (creating.answer create.Malformed) [] went.0 in
-    let last = or_parts (none || bad) claimants test.0 in
-    let first = or_parts none bad last.0 in
-    let there = is_some (balance_at m (creating.new_id ctx)) in
-    let second = went_on ((there, NotSupported) ∷ []) _ done went.1 in
-    let free = first_passed there NotSupported [] second.0 in
-    given_added ctx op m done few under exists (positive_from_int_le op.amount first.0)
-    (not-false (is_valid_asset op.asset) first.1)
-    last.1 (no_balance m (creating.new_id ctx) under.settled.legal.keyed free.0) second.1
+    let last = or_parts (int_le op.amount (pos 0) || bad) (creating.are_claimants_bad op.claimants) pass.0 in
+    let both = or_parts (int_le op.amount (pos 0)) bad last.0 in
+    given_added ctx op m few under exists (positive_from_int_le op.amount both.0)
+    (not-false (is_valid_asset op.asset) both.1) last.1
+    (no_balance m (creating.new_id ctx) under.settled.legal.keyed free) given new first also)) is

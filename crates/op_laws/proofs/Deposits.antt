@@ -1,15 +1,15 @@
 -- LIQUIDITY_POOL_DEPOSIT is lawful.
 use Rattle.op_laws.proofs.Prelude as prelude
-use prelude.{◌≡◌, inl, inr, refl, sym, ap, subst, ◌∙◌, ℕ, ◌*◌, ◌≤◌, zero, suc, Bool, true, false, ◌||◌, List, [], ◌∷◌}
-use prelude.{Option, Some, None, Ok, arith, ints, one-le-mul, ℤ, pos, neg_ℤ, ◌+ℤ◌, ◌-ℤ◌, ◌≤ℤ◌, ◌<ℤ◌, int_le, int_lt}
-use prelude.{unsigned_abs, AccountId, Hash, Asset, TrustLineEntry, LiquidityPoolEntry, LedgerKey, OperationResult}
-use prelude.{EntryMap, HasAccount, line_liabilities, line_at, pool_at, first_fault, total, greatest_i64, line_room}
+use prelude.{◌≡◌, inl, inr, sym, ap, subst, ◌∙◌, ℕ, ◌*◌, ◌≤◌, zero, suc, Bool, false, ◌||◌, List, [], ◌∷◌}
+use prelude.{Option, Some, arith, ints, one-le-mul, ℤ, pos, neg_ℤ, ◌+ℤ◌, ◌-ℤ◌, ◌≤ℤ◌, ◌<ℤ◌, int_le}
+use prelude.{unsigned_abs, AccountId, Hash, Asset, TrustLineEntry, LiquidityPoolEntry, LedgerKey}
+use prelude.{EntryMap, HasAccount, line_liabilities, line_at, pool_at, total, greatest_i64, line_room}
 use prelude.{unlimited, Ctx, Increase, both_more, view, nothing_owed, of_asset, held_of, holder, leaves_as, IsLegalLine}
-use prelude.{line_legal, first_passed, is_short_of, has_at, most_given, CanPay, CanShare, IsLegalPool, pool_legal}
-use prelude.{first_used, second_used, Done, OfAccount, OfPool, Move, is_price_bad, is_above, deposit_tests, is_unusable}
-use prelude.{do_shares_pass, deposit_by, is_price_outside, is_price_wrong, does_pass, is_pool_full, given_tests}
-use prelude.{map_after_depositing, put_in, liquidity_pool_deposit, IsLawful, AreLawful, issued, IsUnderway, IsMoved}
-use prelude.{unless_issuer, shifts_as, went_on, went_after_some, add_natural_nonnegative, int_lt_false}
+use prelude.{line_legal, is_short_of, has_at, most_given, CanPay, CanShare, IsLegalPool, pool_legal}
+use prelude.{first_used, second_used, OfAccount, OfPool, Move, is_price_bad, is_above}
+use prelude.{deposit_by, is_price_outside, does_pass, given_tests}
+use prelude.{map_after_depositing, liquidity_pool_deposit, IsLawful, AreLawful, issued, IsUnderway, IsMoved}
+use prelude.{unless_issuer, shifts_as, add_natural_nonnegative, int_lt_false}
 use prelude.{natural_positive_from_unequal, positive_from_int_le, unsigned_abs_positive, or_parts}
 use Rattle.op_flags.specs.legal_rules.Bounds.{IsFilledOrEmpty}
 use Rattle.std.specs.Prelude.{nat_eq}
@@ -21,7 +21,7 @@ use Rattle.op_flags.specs.op_types.declared.pool_results.LiquidityPoolDepositRes
 use Rattle.op_flags.specs.wide_math.Root.{IsRoot, square_root}
 use Rattle.op_flags.proofs.wide_math_proofs.Roots.{root_is}
 use Rattle.op_pool.specs.pool_math.Pools.{Deposit, deposited}
-use Rattle.op_pool.specs.Deposit.{answer, disabled_tests}
+use Rattle.op_pool.specs.Deposit.{answer}
 use Rattle.op_pool.specs.Deposit.{move_of_a, move_of_b}
 use Rattle.op_laws.proofs.AsideMoves.{pool_issues_none, put_aside_issued}
 use Rattle.op_laws.proofs.Issued.{issued_after}
@@ -30,19 +30,11 @@ use Rattle.op_laws.proofs.PoolPayments.{holder_exists, gives_so, shift_of, more_
 use Rattle.op_laws.proofs.PoolPayments.{both_given}
 use Rattle.op_laws.proofs.Described.{Describes, more_for, account_location, pool_location, moved, move_describes}
 use Rattle.op_laws.proofs.Described.{describes_both}
+use Rattle.step_logic.proofs.Steps.{done_so, anything, AllPass}
+use Rattle.step_logic.proofs.Walks.{succeeded}
+use Rattle.walks.proofs.PoolSteps.{deposit_steps}
 
 -- ---- tests that let a deposit through
-
-no_fault_tests_false : (a b c d e f : Bool) (u v w x y z : OperationResult)
-    → first_fault ((a, u) ∷ (b, v) ∷ (c, w) ∷ (d, x) ∷ (e, y) ∷ (f, z) ∷ []) ≡ None
-    → (c ≡ false) × (d ≡ false) × (e ≡ false) × (f ≡ false)
-no_fault_tests_false true b c d e f u v w x y z h = absurd (cc)
-no_fault_tests_false false true c d e f u v w x y z h = absurd (cc)
-no_fault_tests_false false false true d e f u v w x y z h = absurd (cc)
-no_fault_tests_false false false false true e f u v w x y z h = absurd (cc)
-no_fault_tests_false false false false false true f u v w x y z h = absurd (cc)
-no_fault_tests_false false false false false false true u v w x y z h = absurd (cc)
-no_fault_tests_false false false false false false false u v w x y z h = (refl, refl, refl, refl)
 
 -- ---- what may be put in
 
@@ -168,7 +160,7 @@ module _ (ctx : Ctx) (op : LiquidityPoolDepositOp) (p : LiquidityPoolEntry) (d :
 
 -- ---- the operation
 
-module _ (ctx : Ctx) (op : LiquidityPoolDepositOp) (m : EntryMap) (done : Done) (under : IsUnderway ctx m)
+module _ (ctx : Ctx) (op : LiquidityPoolDepositOp) (m : EntryMap) (under : IsUnderway ctx m)
     (source : HasAccount m ctx.op_source) (some_a : 1 ≤ unsigned_abs op.max_amount_a)
     (some_b : 1 ≤ unsigned_abs op.max_amount_b) (t : TrustLineEntry) (p : LiquidityPoolEntry)
     (has : line_at m ctx.op_source (line.PoolShare op.pool_id) ≡ Some t) (exists : pool_at m op.pool_id ≡ Some p) where
@@ -212,22 +204,17 @@ module _ (ctx : Ctx) (op : LiquidityPoolDepositOp) (m : EntryMap) (done : Done) 
       (second_used (view m) ctx.id_pool lumens m under.settled.legal ctx.op_source op.pool_id t has p exists))
       fits enough
 
-  put_in_lawful : put_in ctx op t p d m ≡ Ok done → IsLawful ctx m done
-  put_in_lawful is =
-      let tested = went_on (given_tests ctx op t p d m) _ done is in
-      let pass_a = does_pass p.reserve_a d.a in
-      let pass_b = does_pass p.reserve_b d.b in
-      let pass_shares = does_pass p.total_pool_shares d.shares in
+  put_in_lawful : AllPass (given_tests ctx op t p d m) → IsLawful ctx m
+      (succeeded ctx (answer depositing.Success) (map_after_depositing ctx.op_source op p d m) (moves ctx op p d))
+  put_in_lawful pass =
       let none_a = nat_eq d.a 0 in
       let none_b = nat_eq d.b 0 in
-      let tests = no_fault_tests_false (is_unusable m gives_a || is_unusable m gives_b) (do_shares_pass op p)
-      (short_a || short_b)
-      (is_price_wrong op d.a d.b) (int_lt (line_room t) (pos d.shares)) (is_pool_full p d)
-      (answer depositing.NotAuthorized) (answer depositing.PoolFull) (answer depositing.Underfunded)
-      (answer depositing.BadPrice) (answer depositing.LineFull) (answer depositing.PoolFull) tested.0 in
-      let enough = or_parts short_a short_b tests.0 in
-      let priced = or_parts none_a none_b (or_parts (none_a || none_b) (is_price_outside op d.a d.b) tests.1).0 in
-      let fits = or_parts pass_a pass_b (or_parts (pass_a || pass_b) pass_shares tests.3).0 in
+      let pass_a = does_pass p.reserve_a d.a in
+      let pass_b = does_pass p.reserve_b d.b in
+      let enough = or_parts short_a short_b pass.1.1.0 in
+      let priced = or_parts none_a none_b (or_parts (none_a || none_b) (is_price_outside op d.a d.b) pass.1.1.1.0).0 in
+      let fits = or_parts pass_a pass_b
+      (or_parts (pass_a || pass_b) (does_pass p.total_pool_shares d.shares) pass.1.1.1.1.1.0).0 in
       let fits_a = deposit_within_unlimited p.reserve_a d.a
       (int_lt_false greatest_i64 (p.reserve_a +ℤ pos d.a) fits.0) was.range.reserve_a in
       let fits_b = deposit_within_unlimited p.reserve_b d.b
@@ -236,39 +223,23 @@ module _ (ctx : Ctx) (op : LiquidityPoolDepositOp) (m : EntryMap) (done : Done) 
       (natural_positive_from_unequal d.b priced.1)
       (λ none. first_shares (unsigned_abs p.reserve_a) (unsigned_abs p.reserve_b) (unsigned_abs p.total_pool_shares)
       (unsigned_abs op.max_amount_a) (unsigned_abs op.max_amount_b) none some_a some_b)
-      (int_lt_false (line_room t) (pos d.shares) tests.2) in
+      (int_lt_false (line_room t) (pos d.shares) pass.1.1.1.1.0) in
       let both = both_given ctx.id_pool ctx.base_reserve m under.settled.legal ctx.op_source op.pool_id t p has exists
       (pos d.a) (pos d.b) (pos d.shares) can d.a d.b (gives_first enough.0 fits_a) (gives_second enough.1 fits_b) in
-      let also = tested.1 in
-      let made : Done = record {
-        result = answer depositing.Success;
-        entries = map_after_depositing ctx.op_source op p d m;
-        ctx = ctx;
-        moves = moves ctx op p d;
-      } in
-      let same : made ≡ done = cc in
-      subst (IsLawful ctx m) same (deposit_lawful ctx op p d m under both)
+      deposit_lawful ctx op p d m under both
 
 pub liquidity_pool_deposit_is_lawful : AreLawful liquidity_pool_deposit
 liquidity_pool_deposit_is_lawful ctx op m done under source is =
-    let enabled = went_on (disabled_tests ctx) _ done is in
-    let formed = went_on (deposit_tests op) _ done enabled.1 in
-    let line_found = went_after_some (line_at m ctx.op_source (line.PoolShare op.pool_id)) (answer depositing.NoTrust) _
-    done formed.1 in
-    let pool_found = went_after_some (pool_at m op.pool_id) (answer depositing.NoTrust) _ done line_found.2 in
     let none_a = int_le op.max_amount_a (pos 0) in
     let none_b = int_le op.max_amount_b (pos 0) in
     let bad_least = is_price_bad op.min_price in
     let bad_most = is_price_bad op.max_price in
     let crossed = is_above op.min_price.n op.min_price.d op.max_price.n op.max_price.d in
-    let test = first_passed (none_a || none_b || bad_least || bad_most || crossed) (answer depositing.Malformed) []
-    formed.0 in
-    let prices = or_parts (none_a || none_b || bad_least || bad_most) crossed test.0 in
+    done_so anything (IsLawful ctx m) (liquidity_pool_deposit ctx op m) done
+    (deposit_steps anything (IsLawful ctx m) ctx op m (λ t p pass has exists may.
+    let prices = or_parts (none_a || none_b || bad_least || bad_most) crossed pass.0 in
     let most = or_parts (none_a || none_b || bad_least) bad_most prices.0 in
-    let least = or_parts (none_a || none_b) bad_least most.0 in
-    let some = or_parts none_a none_b least.0 in
-    put_in_lawful ctx op m done under source
+    let some = or_parts none_a none_b (or_parts (none_a || none_b) bad_least most.0).0 in
+    put_in_lawful ctx op m under source
     (unsigned_abs_positive op.max_amount_a (positive_from_int_le op.max_amount_a some.0))
-    (unsigned_abs_positive op.max_amount_b (positive_from_int_le op.max_amount_b some.1)) line_found.0 pool_found.0
-    line_found.1
-    pool_found.1 pool_found.2
+    (unsigned_abs_positive op.max_amount_b (positive_from_int_le op.max_amount_b some.1)) t p has exists may)) is

@@ -1,15 +1,15 @@
 -- MANAGE_DATA is lawful.
 use Rattle.op_laws.proofs.Prelude as prelude
-use prelude.{◌≡◌, refl, sym, ap, subst, ◌∙◌, ℕ, ◌≤◌, false, not, ◌||◌, List, [], ◌∷◌, is_some, length, nat_eq, Option}
+use prelude.{List, Option, [], ap, is_some, length, nat_eq, not, refl, subst, sym, true, ℕ, ◌∙◌, ◌≡◌, ◌≤◌}
 use prelude.{Some, None, Ok, arith, ℤ, pos, get, AccountId, Asset, AccountEntry, LedgerEntry, LedgerEntryBody}
 use prelude.{LedgerKey, key_of, key_of_body, is_valid_text, EntryMap, put, erase, account_at, HasAccount, sponsor_of}
 use prelude.{part, Ctx, map_after_adding, without_subentry, map_after_discounting, map_after_removing}
 use prelude.{map_after_removing_entry, Kind, Subentries, View, view, weight, nothing_owed, IsEntryLegal, IsLegalOwing}
 use prelude.{IsDataInRange, held, held_in, sponsors_ready, subentry_added_so, nothing_settled, subentry_removed, owns}
-use prelude.{legal_as, replace_legal, subentry_of, Done, success, name_tests, new_data, with_value, removed, added}
-use prelude.{valued, managed, manage_data, IsLawful, AreLawful, IsUnderway, subentry_kept, discharged_kept, erased_kept}
-use prelude.{put_beside, IsKeyed, none_more, put_same, Leaves, keeps_both, accounts_kept, keyed_put, went_on}
-use prelude.{went_after_charge, first_passed, add_neg_zero, add_sub_self, add_zero, add_zero_at_most}
+use prelude.{legal_as, replace_legal, subentry_of, name_tests, new_data, with_value}
+use prelude.{manage_data, IsLawful, AreLawful, IsUnderway, subentry_kept, discharged_kept, erased_kept}
+use prelude.{put_beside, IsKeyed, none_more, put_same, Leaves, keeps_both, accounts_kept, keyed_put}
+use prelude.{add_neg_zero, add_sub_self, add_zero, add_zero_at_most}
 use prelude.{natural_positive_from_unequal, zero_sub_zero, zeros_add_to_zero, data_settled, not-false, or_parts}
 use Rattle.op_flags.specs.ledger_types.declared.data_entry.DataEntry.{DataEntry}
 use Rattle.op_flags.specs.ledger_types.declared.entry.LedgerEntryBody.TheVariants as body
@@ -18,6 +18,9 @@ use Rattle.op_flags.specs.entry_slots.DataEntries.{data_in, data_of, data_at, wi
 use Rattle.op_flags.specs.op_types.declared.account_results.ManageDataResult.TheVariants as manage
 use Rattle.op_options.specs.ManageData.{answer}
 use Rattle.op_laws.proofs.Lawful.{KeepsLegal, lawful_still}
+use Rattle.step_logic.proofs.Steps.{done_so, anything, AllPass}
+use Rattle.step_logic.proofs.Walks.{succeeded}
+use Rattle.walks.proofs.OptionSteps.{data_steps}
 
 -- ---- the entry of data
 
@@ -100,18 +103,13 @@ module _ (ctx : Ctx) (m : EntryMap) (under : IsUnderway ctx m) (exists : HasAcco
       (data_settled v entry (record { account_id = src; data_name = name; data_value = value })
       kind k)) (add_zero sum)
 
-  added_lawful : (value : List ℕ) (done : Done) → data_at m src name ≡ None → added ctx name value m ≡ Ok done
-      → IsLawful ctx m done
-  added_lawful value done none is =
-      let went = went_after_charge (map_after_adding ctx src (new_data ctx name value) m) (answer manage.LowReserve) _
-      done is in
-      let also = went.2 in
-      let made : Done = record { result = answer manage.Success; entries = went.0; ctx = ctx; moves = [] } in
-      let same : made ≡ done = cc in
-      subst (IsLawful ctx m) same (lawful_still ctx m under (answer manage.Success) went.0
-      (added_legal value went.0 none went.1)
-      (subentry_kept ctx m src 1 (new_data ctx name value) went.0 under.settled.legal.keyed (λ id at. absurd (cc))
-      (λ x. refl) (nothing_held m src name under.settled.legal.keyed) went.1))
+  added_lawful : (value : List ℕ) (new : EntryMap) → data_at m src name ≡ None
+      → map_after_adding ctx src (new_data ctx name value) m ≡ Ok new
+      → IsLawful ctx m (succeeded ctx (answer manage.Success) new [])
+  added_lawful value new none is =
+      lawful_still ctx m under (answer manage.Success) new (added_legal value new none is)
+      (subentry_kept ctx m src 1 (new_data ctx name value) new under.settled.legal.keyed (λ id at. absurd (cc))
+      (λ x. refl) (nothing_held m src name under.settled.legal.keyed) is)
 
   -- ---- another value
 
@@ -153,20 +151,17 @@ module _ (ctx : Ctx) (m : EntryMap) (under : IsUnderway ctx m) (exists : HasAcco
         filled = tt;
       })) (λ kind k. refl) (add_sub_self sum (pos 0))
 
-  valued_lawful : (value : List ℕ) (d : DataEntry) (done : Done) → data_at m src name ≡ Some d
-      → valued ctx name value m (Some d) ≡ Ok done → IsLawful ctx m done
-  valued_lawful value d done at is =
+  valued_lawful : (value : List ℕ) (d : DataEntry) → data_at m src name ≡ Some d
+      → IsLawful ctx m (succeeded ctx (answer manage.Success) (with_data m src name (with_value value)) [])
+  valued_lawful value d at =
       let found = data_entry m src name d at in
       let e1 = valued_entry found.0 (with_value value d) in
-      let new = with_data m src name (with_value value) in
-      let made : Done = record { result = answer manage.Success; entries = new; ctx = ctx; moves = [] } in
-      let same : made ≡ done = cc in
       let put_so = with_data_is value d found.0 found.1 in
-      subst (IsLawful ctx m) same (lawful_still ctx m under (answer manage.Success) new
+      lawful_still ctx m under (answer manage.Success) (with_data m src name (with_value value))
       (subst (KeepsLegal ctx.id_pool m) (sym put_so) (valued_legal value d found.0 found.1))
       (subst (Leaves ctx.base_reserve none_more m) (sym put_so) (accounts_kept ctx.base_reserve none_more m (put m e1)
       (keyed_put m e1 under.settled.legal.keyed) (put_beside m e1 (λ id same. absurd (cc)))
-      (put_same m e1 (λ x. sym (nothing_held m d.account_id d.data_name under.settled.legal.keyed x))))))
+      (put_same m e1 (λ x. sym (nothing_held m d.account_id d.data_name under.settled.legal.keyed x)))))
 
 -- ---- removing
 
@@ -203,55 +198,47 @@ module _ (id_pool base : ℕ) (m : EntryMap) (id : AccountId) (name : List ℕ) 
         keeps_both base m now (erase now its_key) first
         (erased_kept base now its_key first.keyed (λ other same. absurd (cc)) (nothing_held now id name first.keyed))
 
-removed_lawful : (ctx : Ctx) (m : EntryMap) → IsUnderway ctx m → (name : List ℕ) (done : Done)
-    → removed ctx name m ≡ Ok done → IsLawful ctx m done
-removed_lawful ctx m under name done is =
+removed_lawful : (ctx : Ctx) (m : EntryMap) → IsUnderway ctx m → (name : List ℕ)
+    → is_some (data_at m ctx.op_source name) ≡ true
+    → IsLawful ctx m (succeeded ctx (answer manage.Success) (map_after_removing (key.Data ctx.op_source name) m) [])
+removed_lawful ctx m under name some =
     let src = ctx.op_source in
     let k = key.Data src name in
-    let new = map_after_removing k m in
-    let went = went_on ((not (is_some (data_at m src name)), answer manage.NameNotFound) ∷ [])
-    (success ctx (answer manage.Success) new []) done is in
-    let test = first_passed (not (is_some (data_at m src name))) (answer manage.NameNotFound) [] went.0 in
-    let also = went.1 in
-    let made : Done = record { result = answer manage.Success; entries = new; ctx = ctx; moves = [] } in
-    let same : made ≡ done = cc in
-    let there = exists_then (data_at m src name) test.0 in
+    let there = exists_then (data_at m src name) some in
     let found = data_entry m src name there.0 there.1 in
     let is_so : found.0 ≡ record found.0 { body = body.Data there.0 } = λ i. record found.0 { body = found.1.is i } in
     let at = found.1.there ∙ ap Some is_so in
-    let removed_so : map_after_removing_entry k m (Some (record found.0 { body = body.Data there.0 })) ≡ new =
-    sym (ap (map_after_removing_entry k m) at) in
-    subst (IsLawful ctx m) same (lawful_still ctx m under (answer manage.Success) new
+    let removed_so : map_after_removing_entry k m (Some (record found.0 { body = body.Data there.0 }))
+    ≡ map_after_removing k m = sym (ap (map_after_removing_entry k m) at) in
+    lawful_still ctx m under (answer manage.Success) (map_after_removing k m)
     (subst (KeepsLegal ctx.id_pool m) removed_so
     (removed_legal ctx.id_pool ctx.base_reserve m src name found.0 there.0 at))
     (subst (Leaves ctx.base_reserve none_more m) removed_so
-    (removed_left ctx.id_pool ctx.base_reserve m src name found.0 there.0 at (view m) _ under.settled.legal)))
+    (removed_left ctx.id_pool ctx.base_reserve m src name found.0 there.0 at (view m) _ under.settled.legal))
   where
-    exists_then : (o : Option DataEntry) → not (is_some o) ≡ false → (d : DataEntry) × (o ≡ Some d)
+    exists_then : (o : Option DataEntry) → is_some o ≡ true → (d : DataEntry) × (o ≡ Some d)
     exists_then None test = absurd (cc)
     exists_then (Some d) test = (d, refl)
 
 -- ---- the operation
 
-module _ (ctx : Ctx) (m : EntryMap) (under : IsUnderway ctx m) (exists : HasAccount m ctx.op_source) (name : List ℕ)
-    (range : (value : List ℕ)
-    → IsDataInRange (record { account_id = ctx.op_source; data_name = name; data_value = value })) (done : Done) where
-  by_data : (value : List ℕ) (o : Option DataEntry) → data_at m ctx.op_source name ≡ o
-      → valued ctx name value m o ≡ Ok done → IsLawful ctx m done
-  by_data value None at is = added_lawful ctx m under exists name range value done at is
-  by_data value (Some d) at is = valued_lawful ctx m under exists name range value d done at is
-
-  by_value : (o : Option (List ℕ)) → managed ctx name m o ≡ Ok done → IsLawful ctx m done
-  by_value None is = removed_lawful ctx m under name done is
-  by_value (Some value) is = by_data value (data_at m ctx.op_source name) refl is
+in_range : (id : AccountId) (name : List ℕ) → AllPass (name_tests name) → (value : List ℕ)
+    → IsDataInRange (record { account_id = id; data_name = name; data_value = value })
+in_range id name pass value =
+    let both = or_parts (nat_eq (length name) 0) (not (is_valid_text name)) pass.0 in
+    record {
+      some = natural_positive_from_unequal (length name) both.0;
+      name = not-false (is_valid_text name) both.1;
+    }
 
 pub manage_data_is_lawful : AreLawful manage_data
 manage_data_is_lawful ctx op m done under exists is =
-    let went = went_on (name_tests op.data_name) (managed ctx op.data_name m op.data_value) done is in
-    let test = first_passed (nat_eq (length op.data_name) 0 || not (is_valid_text op.data_name))
-    (answer manage.InvalidName) [] went.0 in
-    let both = or_parts (nat_eq (length op.data_name) 0) (not (is_valid_text op.data_name)) test.0 in
-    by_value ctx m under exists op.data_name (λ value. record {
-      some = natural_positive_from_unequal (length op.data_name) both.0;
-      name = not-false (is_valid_text op.data_name) both.1;
-    }) done op.data_value went.1
+    let name = op.data_name in
+    done_so anything (IsLawful ctx m) (manage_data ctx op m) done
+    (data_steps anything (IsLawful ctx m) ctx op m (record {
+      removed = λ pass none there. removed_lawful ctx m under name there;
+      added = λ value new pass given none made.
+          added_lawful ctx m under exists name (in_range ctx.op_source name pass) value new none made;
+      changed = λ value was pass given at.
+          valued_lawful ctx m under exists name (in_range ctx.op_source name pass) value was at;
+    })) is

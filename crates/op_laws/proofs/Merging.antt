@@ -1,21 +1,21 @@
 -- ACCOUNT_MERGE is lawful.
 use Rattle.op_laws.proofs.Prelude as prelude
-use prelude.{◌≡◌, ◌≢◌, refl, sym, ap, subst, ◌∙◌, ℕ, ◌-◌, ◌<◌, Bool, true, false, not, ◌||◌, nat_eq, nat_lt, cond}
-use prelude.{is_some, bit_and, List, [], ◌∷◌, length, get_or, All, Option, Some, None, Ok, arith, ints, eqb-true}
-use prelude.{All-nil, All-cons, position_or_len_is, ℤ, pos, neg_ℤ, int_le, ◌+ℤ◌, ◌≤ℤ◌, if◌then◌else◌, list_any, is_eq}
+use prelude.{◌≡◌, ◌≢◌, refl, sym, ap, subst, ◌∙◌, ℕ, ◌-◌, ◌<◌, Bool, true, false, not, nat_eq, nat_lt, cond}
+use prelude.{List, [], ◌∷◌, length, get_or, All, Option, Some, None, arith, ints, eqb-true}
+use prelude.{All-nil, All-cons, position_or_len_is, ℤ, pos, neg_ℤ, ◌+ℤ◌, ◌≤ℤ◌, if◌then◌else◌, list_any, is_eq}
 use prelude.{AccountId, Asset, AccountEntry, Signer, account_of, asset_cmp, signer_key_cmp, EntryMap, erase}
-use prelude.{account_in_entry, account_at, with_account, num_sponsoring, signer_sponsor, sponsor_of, Tests, part, Ctx}
+use prelude.{account_in_entry, account_at, with_account, num_sponsoring, signer_sponsor, sponsor_of, part, Ctx}
 use prelude.{Sponsorship, charge_of, count_in, with_less, map_after_releasing, without_subentry, is_same_account}
 use prelude.{map_without_charge, map_after_removing, map_after_removing_entry, index_of, found_at, found_signer}
 use prelude.{without_counted_signer, map_without_signer, map_after_removing_signer, same_account, apart_accounts}
 use prelude.{with_count_is, with_count_keeps, counts_edited, View, view, nothing_owed, IsLegalOwing}
 use prelude.{AreSponsorshipsSound, held, held_in, lumens_of, account_legal, nothing_settled, account_after}
 use prelude.{account_elsewhere, counts_sponsoring, paid_by_other, signer_removed, account_entry, legal_as}
-use prelude.{OperationResult, NoAccount, map_without_signers, map_without_account, taken_and_removed, merge_of}
-use prelude.{account_merge, Done, with_more_lumens, map_after_lumens_credit, is_open_sponsor, unless_refused, IsLawful}
+use prelude.{map_without_signers, map_without_account}
+use prelude.{account_merge, with_more_lumens, map_after_lumens_credit, is_open_sponsor, IsLawful}
 use prelude.{AreLawful, IsUnderway, releasing_kept, erase_beside, IsTaken, taken_legal, taken_left, pays_less, IsKeyed}
 use prelude.{none_more, both_more, for_one, HoldsMore, holds_both, holds_as, still_holds, erase_holds, cancelled}
-use prelude.{IsAfter, Leaves, leaves_itself, leaves_both, keeps_both, went_on, went_after_some, first_passed}
+use prelude.{IsAfter, Leaves, leaves_itself, leaves_both, keeps_both}
 use prelude.{erase_there, suc_minus_one, zero_add, not-false, or_parts, credit_is_taken}
 use Rattle.std.proofs.Common.{remove}
 use Rattle.op_flags.specs.ledger_types.declared.asset.Asset.TheVariants as asset
@@ -25,12 +25,14 @@ use Rattle.op_flags.proofs.sponsor_laws_proofs.Accounts.{with_count-keeps}
 use Rattle.op_flags.proofs.legal_rules_proofs.Merging.{removed_account}
 use Rattle.op_flags.specs.op_types.declared.account_ops.AccountMergeOp.{AccountMergeOp}
 use Rattle.op_flags.specs.op_types.declared.account_results.AccountMergeResult.TheVariants as merge
-use Rattle.op_account.specs.AccountMerge.{answer, destination_tests, source_tests}
-use Rattle.op_flags.specs.op_form.Sequences.{first_seq}
+use Rattle.op_account.specs.AccountMerge.{answer, merge_move}
 use Rattle.op_laws.proofs.Lawful.{KeepsLegal, AreEachAfter, terms_kept, lawful_by}
-use Rattle.op_laws.proofs.Lumens.{lumens_move, lumens_described, none_issued}
+use Rattle.op_laws.proofs.Lumens.{lumens_described, none_issued}
 use Rattle.op_laws.proofs.Signers.{signer_kept, without_core}
 use Rattle.op_laws.proofs.SetOptions.{is_its_key}
+use Rattle.step_logic.proofs.Steps.{done_so, anything}
+use Rattle.step_logic.proofs.Walks.{succeeded}
+use Rattle.walks.proofs.AccountSteps.{merge_steps}
 
 -- ---- an account without its first signer
 
@@ -233,7 +235,7 @@ no_sponsor ctx id is = none_passes (λ s. is_same_account s.sponsor id) ctx.spon
 none_between : (d e : ℤ) → ((d +ℤ pos 0) +ℤ e) ≡ (d +ℤ e)
 none_between d e = omega (arith, ints)
 
-module _ (ctx : Ctx) (op : AccountMergeOp) (m : EntryMap) (done : Done) (under : IsUnderway ctx m) (a : AccountEntry)
+module _ (ctx : Ctx) (op : AccountMergeOp) (m : EntryMap) (under : IsUnderway ctx m) (a : AccountEntry)
     (existing : account_at m ctx.op_source ≡ Some a) (apart : account_of op.destination ≢ ctx.op_source)
     (signed : a.num_sub_entries ≡ length a.signers) (pays : num_sponsoring a ≡ 0)
     (opens : is_open_sponsor ctx ctx.op_source ≡ false) where
@@ -317,49 +319,20 @@ module _ (ctx : Ctx) (op : AccountMergeOp) (m : EntryMap) (done : Done) (under :
           (had.0, gone.others sponsor (apart_accounts sponsor src (no_sponsor ctx src opens k d lt)) ∙ had.1);
     }
 
-  merged : taken_and_removed ctx op a m ≡ Ok done → IsLawful ctx m done
-  merged is =
-      let went = went_after_some (map_after_lumens_credit dest a.balance m) (answer merge.DestFull) _ done is in
-      let paid = went.0 in
-      let also = went.2 in
-      let h = credit_is_taken dest a.balance m paid went.1 in
-      let made : Done = record {
-        result = answer (merge.Success a.balance);
-        entries = map_without_account src a paid;
-        ctx = ctx;
-        moves = lumens_move src dest a.balance ∷ [];
-      } in
-      let same : made ≡ done = cc in
-      subst (IsLawful ctx m) same (lawful_by ctx m under
-      (both_more (for_one dest a.balance) (for_one src (neg_ℤ a.balance))) made (merged_legal paid h)
-      (merged_each paid h) (merged_holds paid h) (lumens_described src dest a.balance) (none_issued src dest a.balance)
-      (terms_kept ctx) refl (merged_sound paid h))
-
-with_source : (ctx : Ctx) (op : AccountMergeOp) (m : EntryMap) (done : Done) → IsUnderway ctx m → (a : AccountEntry)
-    → account_at m ctx.op_source ≡ Some a → account_of op.destination ≢ ctx.op_source
-    → unless_refused (source_tests ctx a) (taken_and_removed ctx op a m) ≡ Ok done → IsLawful ctx m done
-with_source ctx op m done under a existing apart is =
-    let last = not (nat_eq (num_sponsoring a) 0) || is_open_sponsor ctx ctx.op_source in
-    let fourth : Tests OperationResult = (last, answer merge.IsSponsor) ∷ [] in
-    let third : Tests OperationResult = (int_le (first_seq ctx) a.seq_num, answer merge.SeqnumTooFar) ∷ fourth in
-    let subs = not (nat_eq a.num_sub_entries (length a.signers)) in
-    let went = went_on (source_tests ctx a) (taken_and_removed ctx op a m) done is in
-    let one = first_passed (not (nat_eq (bit_and a.flags 4) 0)) (answer merge.ImmutableSet)
-    ((subs, answer merge.HasSubEntries) ∷ third) went.0 in
-    let two = first_passed subs (answer merge.HasSubEntries) third one.1 in
-    let three = first_passed (int_le (first_seq ctx) a.seq_num) (answer merge.SeqnumTooFar) fourth two.1 in
-    let four = first_passed last (answer merge.IsSponsor) [] three.1 in
-    let both = or_parts (not (nat_eq (num_sponsoring a) 0)) (is_open_sponsor ctx ctx.op_source) four.0 in
-    merged ctx op m done under a existing apart (eqb-true a.num_sub_entries (length a.signers) (not-false _ two.0))
-    (eqb-true (num_sponsoring a) 0 (not-false _ both.0)) both.1 went.1
+  merged : (paid : EntryMap) → map_after_lumens_credit dest a.balance m ≡ Some paid
+      → IsLawful ctx m (succeeded ctx (answer (merge.Success a.balance)) (map_without_account src a paid)
+      (merge_move ctx op a ∷ []))
+  merged paid is =
+      let h = credit_is_taken dest a.balance m paid is in
+      lawful_by ctx m under (both_more (for_one dest a.balance) (for_one src (neg_ℤ a.balance))) _
+      (merged_legal paid h) (merged_each paid h) (merged_holds paid h) (lumens_described src dest a.balance)
+      (none_issued src dest a.balance) (terms_kept ctx) refl (merged_sound paid h)
 
 pub account_merge_is_lawful : AreLawful account_merge
 account_merge_is_lawful ctx op m done under existing is =
-    let src = ctx.op_source in
-    let dest = account_of op.destination in
-    let exists : Tests OperationResult = (not (is_some (account_at m dest)), answer merge.NoAccount) ∷ [] in
-    let went = went_on (destination_tests ctx op m) (merge_of ctx op m (account_at m src)) done is in
-    let first = first_passed (is_same_account dest src) (answer merge.Malformed) exists went.0 in
-    let source = went_after_some (account_at m src) NoAccount
-    (λ a. unless_refused (source_tests ctx a) (taken_and_removed ctx op a m)) done went.1 in
-    with_source ctx op m done under source.0 source.1 (apart_accounts dest src first.0) source.2
+    done_so anything (IsLawful ctx m) (account_merge ctx op m) done (merge_steps anything (IsLawful ctx m) ctx op m
+    (λ a paid pass there may taken.
+    let both = or_parts (not (nat_eq (num_sponsoring a) 0)) (is_open_sponsor ctx ctx.op_source) may.1.1.1.0 in
+    merged ctx op m under a there (apart_accounts (account_of op.destination) ctx.op_source pass.0)
+    (eqb-true a.num_sub_entries (length a.signers) (not-false _ may.1.0))
+    (eqb-true (num_sponsoring a) 0 (not-false _ both.0)) both.1 paid taken)) is

@@ -1,6 +1,6 @@
 -- CREATE_ACCOUNT is lawful.
 use Rattle.op_laws.proofs.Prelude as prelude
-use prelude.{◌≡◌, ◌≢◌, refl, sym, ap, subst, ◌∙◌, ℕ, ◌+◌, ◌*◌, ◌^◌, ◌<◌, true, false, ◌||◌, is_some, [], ◌∷◌, Option}
+use prelude.{◌≡◌, ◌≢◌, refl, sym, ap, subst, ◌∙◌, ℕ, ◌+◌, ◌*◌, ◌^◌, ◌<◌, true, false, is_some, [], ◌∷◌, Option}
 use prelude.{Some, None, Ok, inl, arith, ints, ℤ, pos, neg_ℤ, int_lt, ◌+ℤ◌, ◌-ℤ◌, ◌*ℤ◌, ◌≤ℤ◌, get, is_eq, is_lt}
 use prelude.{int_cmp, AccountId, Asset, AccountEntry, is_valid_text, total, part, has_flag, LedgerEntry}
 use prelude.{LedgerEntryBody, key_of, key_of_body, asset_cmp, EntryMap, put, account_in, account_at, HasAccount}
@@ -8,11 +8,11 @@ use prelude.{account_liabilities, available, greatest_i64, Ctx, own_tests, spons
 use prelude.{map_after_adding_account, map_after_adding, with_more, map_after_charging, is_same_account, open_sponsor}
 use prelude.{payer_tests_at, same_account, apart_accounts, view, nothing_owed, IsEntryLegal, IsSponsorReady, held}
 use prelude.{held_in, lumens_of, account_legal, not_above_balance, sponsors_ready, account_added_so, absent_after}
-use prelude.{legal_as, OperationResult, new_account, new_entry, start_tests, added_and_paid, create_account, Done}
-use prelude.{map_after_lumens_debit, Tests, IsLawful, AreLawful, IsUnderway, payers_had, charging_kept, IsChargedFrom}
+use prelude.{legal_as, new_account, new_entry, create_account}
+use prelude.{map_after_lumens_debit, IsLawful, AreLawful, IsUnderway, payers_had, charging_kept, IsChargedFrom}
 use prelude.{charged_at, IsGiven, given_legal, given_left, given_back, reserves_of, pays_more, paid_more, IsKeyed}
 use prelude.{none_more, both_more, under_key, for_one, HoldsMore, put_holds, IsAfter, Leaves, is_itself_after}
-use prelude.{leaves_both, leaves_as, keyed_put, first_passed, went_on, went_after_some, went_after_charge}
+use prelude.{leaves_both, leaves_as, keyed_put, first_passed}
 use prelude.{put_elsewhere, put_there, add_zero_at_most, int_cmp_not_less, int_lt_false, natural_nonnegative, zero_add}
 use prelude.{or_parts, unless_first_ok, debit_is_given}
 use Rattle.op_flags.specs.ledger_types.declared.asset.Asset.TheVariants as asset
@@ -24,10 +24,13 @@ use Rattle.op_flags.specs.sponsor_rules.declared.count.Count.TheVariants as coun
 use Rattle.op_flags.specs.sponsor_rules.declared.fault.AddFault.TheVariants.{LowReserve}
 use Rattle.op_flags.specs.op_types.declared.account_ops.CreateAccountOp.{CreateAccountOp}
 use Rattle.op_flags.specs.op_types.declared.payment_results.CreateAccountResult.TheVariants as create
-use Rattle.op_account.specs.CreateAccount.{answer}
+use Rattle.op_account.specs.CreateAccount.{answer, start_move}
 use Rattle.op_laws.proofs.Lawful.{KeepsLegal, lawful_here}
 use Rattle.op_laws.proofs.Lumens.{lumens_move, lumens_described, none_issued}
 use Rattle.op_flags.proofs.legal_rules_proofs.Multiples.{still_available}
+use Rattle.step_logic.proofs.Steps.{done_so, anything}
+use Rattle.step_logic.proofs.Walks.{succeeded}
+use Rattle.walks.proofs.AccountSteps.{create_steps}
 
 -- ---- where no account exists
 
@@ -266,7 +269,7 @@ under_all n s w b buying g one two most low fits =
     last : (n b buying g : ℤ) → n ≤ℤ b → pos 0 ≤ℤ buying → (b +ℤ buying) ≤ℤ g → n ≤ℤ g
     last n b buying g le low fits = omega (arith, ints)
 
-module _ (ctx : Ctx) (op : CreateAccountOp) (m : EntryMap) (done : Done) (under : IsUnderway ctx m)
+module _ (ctx : Ctx) (op : CreateAccountOp) (m : EntryMap) (under : IsUnderway ctx m)
     (low : pos 0 ≤ℤ op.starting_balance) (apart : op.destination ≢ ctx.op_source)
     (none : account_at m op.destination ≡ None) where
   abbrev src : AccountId
@@ -309,41 +312,24 @@ module _ (ctx : Ctx) (op : CreateAccountOp) (m : EntryMap) (done : Done) (under 
       }) (new_legal ctx op ctx.id_pool under.seq low high) ready is)) (λ kind k. refl)
       (given_back (is_eq (asset_cmp v.asset asset.Native)) sum amount)
 
-  created : added_and_paid ctx op m ≡ Ok done → IsLawful ctx m done
-  created is =
-      let first = went_after_charge (map_after_adding ctx dest (new_entry ctx op) m) (answer create.LowReserve) _ done
-      is
-      in
-      let added = first.0 in
-      let second = went_after_some (map_after_lumens_debit ctx src amount added)
-      (answer create.Underfunded) _ done first.2 in
-      let new = second.0 in
-      let also = second.2 in
-      let h = debit_is_given ctx src amount added new second.1 in
-      let left = added_by ctx op m under.settled.legal.keyed low none (open_sponsor ctx dest) ready.exists added first.1
-      in
-      let made : Done = record {
-        result = answer create.Success;
-        entries = new;
-        ctx = ctx;
-        moves = lumens_move src dest amount ∷ [];
-      } in
-      let same : made ≡ done = cc in
+  created : (added new : EntryMap) → map_after_adding ctx dest (new_entry ctx op) m ≡ Ok added
+      → map_after_lumens_debit ctx src amount added ≡ Some new
+      → IsLawful ctx m (succeeded ctx (answer create.Success) new (start_move ctx op ∷ []))
+  created added new is also =
+      let h = debit_is_given ctx src amount added new also in
+      let left = added_by ctx op m under.settled.legal.keyed low none (open_sponsor ctx dest) ready.exists added is in
       let more = both_more (for_one dest amount) (for_one src (neg_ℤ amount)) in
-      subst (IsLawful ctx m) same
-      (lawful_here ctx m under more (answer create.Success) new (lumens_move src dest amount ∷ [])
-      (created_legal added new first.1 h (amount_fits added new left h))
+      lawful_here ctx m under more (answer create.Success) new (lumens_move src dest amount ∷ [])
+      (created_legal added new is h (amount_fits added new left h))
       (leaves_both ctx.base_reserve (for_one dest amount) (for_one src (neg_ℤ amount)) m added new left.leaves
       (given_left ctx.base_reserve src amount added new h left.leaves.keyed))
-      (lumens_described src dest amount) (none_issued src dest amount))
+      (lumens_described src dest amount) (none_issued src dest amount)
 
 pub create_account_is_lawful : AreLawful create_account
 create_account_is_lawful ctx op m done under existing is =
-    let exists : Tests OperationResult = (is_some (account_at m op.destination), answer create.AlreadyExist) ∷ [] in
-    let went = went_on (start_tests ctx op m) (added_and_paid ctx op m) done is in
-    let first = first_passed (int_lt op.starting_balance (pos 0) || is_same_account op.destination ctx.op_source)
-    (answer create.Malformed) exists went.0 in
-    let both = or_parts (int_lt op.starting_balance (pos 0)) (is_same_account op.destination ctx.op_source) first.0 in
-    let second = first_passed (is_some (account_at m op.destination)) (answer create.AlreadyExist) [] first.1 in
-    created ctx op m done under (int_lt_false op.starting_balance (pos 0) both.0)
-    (apart_accounts op.destination ctx.op_source both.1) (none_of (account_at m op.destination) second.0) went.1
+    done_so anything (IsLawful ctx m) (create_account ctx op m) done (create_steps anything (IsLawful ctx m) ctx op m
+    (λ added new pass first also.
+    let both = or_parts (int_lt op.starting_balance (pos 0)) (is_same_account op.destination ctx.op_source) pass.0 in
+    created ctx op m under (int_lt_false op.starting_balance (pos 0) both.0)
+    (apart_accounts op.destination ctx.op_source both.1) (none_of (account_at m op.destination) pass.1.0) added new
+    first also)) is

@@ -2,11 +2,11 @@
 use Rattle.op_laws.proofs.Prelude.{◌≡◌, ◌≢◌, refl, sym, ap, subst, ◌∙◌, ℕ, ◌+◌, Bool, true, false, All, [], Some, None}
 use Rattle.op_laws.proofs.Prelude.{Ok, arith, ints, All-nil, All-cons, All-append, ℤ, pos, ◌≤ℤ◌, get, AccountId, Hash}
 use Rattle.op_laws.proofs.Prelude.{Asset, PoolParams, TrustLineAsset, LedgerEntry, LedgerKey, EntryMap, HasAccount}
-use Rattle.op_laws.proofs.Prelude.{line_of, line_at, pool_at, first_fault, part, greatest_i64, Ctx, map_after_adding}
+use Rattle.op_laws.proofs.Prelude.{line_of, line_at, pool_at, part, greatest_i64, Ctx, map_after_adding}
 use Rattle.op_laws.proofs.Prelude.{is_same_account, View, none_more, pools_in, nothing_owed, IsEntryLegal, IsLegalOwing}
 use Rattle.op_laws.proofs.Prelude.{needed_line, IsSponsorReady, held, subentry_kept, sponsors_ready, Leaves, keeps_both}
-use Rattle.op_laws.proofs.Prelude.{map_with_pool, counts_left, IsLegalNow, when_nothing_owed, Done, answer}
-use Rattle.op_laws.proofs.Prelude.{went_after_charge, IsLawful, IsUnderway, nonnegative_from_positive}
+use Rattle.op_laws.proofs.Prelude.{map_with_pool, counts_left, IsLegalNow, when_nothing_owed, answer}
+use Rattle.op_laws.proofs.Prelude.{IsLawful, IsUnderway, nonnegative_from_positive}
 use Rattle.std.proofs.Common.{if◌then◌else◌}
 use Rattle.op_flags.specs.ledger_types.declared.asset.Asset.TheVariants as asset
 use Rattle.op_flags.specs.ledger_types.declared.asset.TrustLineAsset.TheVariants as line
@@ -20,6 +20,8 @@ use Rattle.op_laws.proofs.Lawful.{sound_after}
 use Rattle.op_laws.proofs.Parts.{lawful_now}
 use Rattle.op_laws.proofs.SharePools.{IsPooled, pooled}
 use Rattle.op_laws.proofs.TrustLines.{no_line}
+use Rattle.step_logic.proofs.Steps.{AllPass}
+use Rattle.walks.proofs.TrustSteps.{trusted}
 
 -- ---- the lines that the account needs
 
@@ -30,21 +32,21 @@ module _ (m now : EntryMap) (id : AccountId)
   abbrev Exists : LedgerKey → Type 0
   Exists k = get now k ≢ None
 
-  line_exists : (a : TrustLineAsset) → first_fault (spec.needed_tests (line_at m id a)) ≡ None
+  line_exists : (a : TrustLineAsset) → AllPass (spec.needed_tests (line_at m id a))
       → Exists (key.TrustLine id a)
   unfolding line_at
   line_exists a passed missing =
       let none = sym (same id a) ∙ missing in
-      let is = ap (λ o. first_fault (spec.needed_tests (line_of o))) (sym none) ∙ passed in
+      let wrong : true ≡ false = (subst (λ o. AllPass (spec.needed_tests (line_of o))) none passed).0 in
       absurd (cc)
 
   key_exists : (b : Bool) (a : TrustLineAsset)
-      → first_fault (spec.needed_tests_at m (if b then None else Some (key.TrustLine id a))) ≡ None
+      → AllPass (spec.needed_tests_at m (if b then None else Some (key.TrustLine id a)))
       → All Exists (keys_in (if b then None else Some (key.TrustLine id a)))
   key_exists true a passed = All-nil Exists
   key_exists false a passed = All-cons Exists (key.TrustLine id a) [] (line_exists a passed) (All-nil Exists)
 
-  needed_exists : (x : Asset) → first_fault (spec.needed_tests_at m (needed_line id x)) ≡ None
+  needed_exists : (x : Asset) → AllPass (spec.needed_tests_at m (needed_line id x))
       → All Exists (keys_in (needed_line id x))
   needed_exists asset.Native passed = All-nil Exists
   needed_exists (asset.Alphanum4 code issuer) passed =
@@ -52,8 +54,8 @@ module _ (m now : EntryMap) (id : AccountId)
   needed_exists (asset.Alphanum12 code issuer) passed =
       key_exists (is_same_account issuer id) (line.Alphanum12 code issuer) passed
 
-  both_exist : (params : PoolParams) → first_fault (spec.needed_tests_at m (needed_line id params.asset_a)) ≡ None
-      → first_fault (spec.needed_tests_at m (needed_line id params.asset_b)) ≡ None → HasNeededLines now id params
+  both_exist : (params : PoolParams) → AllPass (spec.needed_tests_at m (needed_line id params.asset_a))
+      → AllPass (spec.needed_tests_at m (needed_line id params.asset_b)) → HasNeededLines now id params
   both_exist params first second =
       All-append Exists (keys_in (needed_line id params.asset_a)) (keys_in (needed_line id params.asset_b))
       (needed_exists params.asset_a first) (needed_exists params.asset_b second)
@@ -101,8 +103,8 @@ module _ (ctx : Ctx) (m : EntryMap) (under : IsUnderway ctx m) (owner : HasAccou
   new added = map_with_share_lines (pos 1) id pool params added
 
   module _ (none : line_at m id (line.PoolShare pool) ≡ None) (low : pos 1 ≤ℤ limit) (high : limit ≤ℤ greatest_i64)
-      (needs_a : first_fault (spec.needed_tests_at m (needed_line id params.asset_a)) ≡ None)
-      (needs_b : first_fault (spec.needed_tests_at m (needed_line id params.asset_b)) ≡ None) where
+      (needs_a : AllPass (spec.needed_tests_at m (needed_line id params.asset_a)))
+      (needs_b : AllPass (spec.needed_tests_at m (needed_line id params.asset_b))) where
     module _ (now : EntryMap) (its : IsPooled ctx.id_pool ctx.base_reserve pool params m now) (added : EntryMap)
         (done : map_after_adding ctx id new_line now ≡ Ok added) where
       free : get now (key.TrustLine id (line.PoolShare pool)) ≡ None
@@ -137,14 +139,11 @@ module _ (ctx : Ctx) (m : EntryMap) (under : IsUnderway ctx m) (owner : HasAccou
 
     -- A line is added that passed its tests.
     pub share_added_lawful : spec.is_pool_bad params ≡ false → spec.is_taken params (pool_at m pool) ≡ false
-        → (done : Done) → spec.share_added ctx params limit m ≡ Ok done → IsLawful ctx m done
-    share_added_lawful good free done is =
+        → (added : EntryMap)
+        → map_after_adding ctx id new_line (map_with_pool (ctx.seq + 1) pool params m) ≡ Ok added
+        → IsLawful ctx m (trusted ctx (new added))
+    share_added_lawful good free added is =
         let now = map_with_pool (ctx.seq + 1) pool params m in
-        let went = went_after_charge (map_after_adding ctx id new_line now) (answer trust.LowReserve) _ done is in
-        let also = went.2 in
-        let made : Done =
-        record { result = answer trust.Success; entries = new went.0; ctx = ctx; moves = [] } in
-        let same : made ≡ done = cc in
         let its = pooled ctx.id_pool ctx.base_reserve (ctx.seq + 1) params m under.settled.legal.keyed good free in
-        subst (IsLawful ctx m) same (lawful_now ctx m under (answer trust.Success) (new went.0)
-        (added_legal now its went.0 went.1) (added_left now its went.0 went.1))
+        lawful_now ctx m under (answer trust.Success) (new added) (added_legal now its added is)
+        (added_left now its added is)

@@ -1,11 +1,11 @@
 -- Payments along paths are lawful.
-use Rattle.op_laws.proofs.Prelude.{◌≡◌, refl, sym, ap, subst, ◌∙◌, ℕ, ◌≤◌, ◌||◌, List, [], ◌∷◌, ◌++◌, Ok, Err, Result}
-use Rattle.op_laws.proofs.Prelude.{ℤ, pos, neg_ℤ, ◌≤ℤ◌, int_le, unsigned_abs, AccountId, ClaimAtom, account_of}
-use Rattle.op_laws.proofs.Prelude.{EntryMap, Ctx, none_more, first_passed, map_after_credit, map_after_debit, Done}
-use Rattle.op_laws.proofs.Prelude.{Attempt, PathFault, arrived, path_moves, Carried, set_out, received, sent}
-use Rattle.op_laws.proofs.Prelude.{path_payment_strict_receive, path_payment_strict_send, unless_issuer, went_on}
-use Rattle.op_laws.proofs.Prelude.{went_after_step, IsLawful, AreLawful, IsUnderway, natural_nonnegative}
-use Rattle.op_laws.proofs.Prelude.{nonnegative_from_int_le, unsigned_abs_nonnegative, or_parts}
+use Rattle.op_laws.proofs.Prelude.{◌≡◌, refl, sym, ap, subst, ◌∙◌, ℕ, List, [], ◌∷◌, ◌++◌, Ok}
+use Rattle.op_laws.proofs.Prelude.{ℤ, pos, neg_ℤ, ◌≤ℤ◌, unsigned_abs, AccountId, ClaimAtom, account_of}
+use Rattle.op_laws.proofs.Prelude.{EntryMap, Ctx, none_more, map_after_credit, map_after_debit, Done}
+use Rattle.op_laws.proofs.Prelude.{arrived, path_moves, Carried, set_out, received, sent}
+use Rattle.op_laws.proofs.Prelude.{path_payment_strict_receive, path_payment_strict_send, unless_issuer}
+use Rattle.op_laws.proofs.Prelude.{IsLawful, AreLawful, IsUnderway, natural_nonnegative}
+use Rattle.op_laws.proofs.Prelude.{unsigned_abs_nonnegative}
 use Rattle.op_flags.specs.op_types.declared.payment_ops.PathPaymentStrictReceiveOp.{PathPaymentStrictReceiveOp}
 use Rattle.op_flags.specs.op_types.declared.payment_ops.PathPaymentStrictSendOp.{PathPaymentStrictSendOp}
 use Rattle.op_flags.specs.op_types.declared.payment_results.PathPaymentStrictReceiveResult.TheVariants as path
@@ -17,22 +17,14 @@ use Rattle.op_laws.proofs.Carrying.{IsCarried}
 use Rattle.op_laws.proofs.Hopping.{path_back, path_on}
 use Rattle.op_laws.proofs.Lawful.{shifted_after}
 use Rattle.op_laws.proofs.PathPayments.{received_lawful, sent_lawful}
-
-went_along_back : (step : Result Carried PathFault) (next : Carried → Attempt) (done : Done)
-    → receive.after_path step next ≡ Ok done → (carried : Carried) × (step ≡ Ok carried) × (next carried ≡ Ok done)
-went_along_back (Err fault) next done is = absurd (cc)
-went_along_back (Ok carried) next done is = (carried, refl, is)
-
-went_along_on : (step : Result Carried PathFault) (next : Carried → Attempt) (done : Done)
-    → send.after_path step next ≡ Ok done → (carried : Carried) × (step ≡ Ok carried) × (next carried ≡ Ok done)
-went_along_on (Err fault) next done is = absurd (cc)
-went_along_on (Ok carried) next done is = (carried, refl, is)
+use Rattle.step_logic.proofs.Steps.{done_so, anything}
+use Rattle.walks.proofs.PathSteps.{receive_steps, send_steps, received_so, sent_so, received_low, sent_low}
 
 nothing_after : (l : List ClaimAtom) → l ++ [] ≡ l
 nothing_after [] = refl
 nothing_after (first ∷ l) = ap (λ (k : List ClaimAtom). first ∷ k) (nothing_after l)
 
-module _ (ctx : Ctx) (op : PathPaymentStrictReceiveOp) (m : EntryMap) (done : Done) (under : IsUnderway ctx m)
+module _ (ctx : Ctx) (op : PathPaymentStrictReceiveOp) (m : EntryMap) (under : IsUnderway ctx m)
     (amount : pos 0 ≤ℤ op.dest_amount) where
   abbrev got_by : AccountId
   got_by = account_of op.destination
@@ -55,8 +47,8 @@ module _ (ctx : Ctx) (op : PathPaymentStrictReceiveOp) (m : EntryMap) (done : Do
       → received ctx op.send_asset op.path op.dest_asset (set_out op.dest_amount taken) ≡ Ok carried
       → (new : EntryMap)
       → map_after_debit ctx ctx.op_source op.send_asset (pos carried.amount) carried.entries ≡ Ok new
-      → receive.done ctx op carried new ≡ Ok done → IsLawful ctx m done
-  received_done taken took carried along new gave is =
+      → IsLawful ctx m (received_so ctx op carried new)
+  received_done taken took carried along new gave =
       let all = unsigned_abs_nonnegative op.dest_amount amount in
       let one = amount_taken ctx ctx.id_pool m under.settled.legal got_by (pos needed)
       (natural_nonnegative needed) taken op.dest_asset
@@ -71,34 +63,17 @@ module _ (ctx : Ctx) (op : PathPaymentStrictReceiveOp) (m : EntryMap) (done : Do
       let went = subst (λ (l : List ClaimAtom).
       IsCarried ctx.id_pool ctx.base_reserve op.send_asset carried.amount op.dest_asset needed taken carried.entries l)
       atoms back.went.carried in
-      let lawful = received_lawful ctx got_by op.send_asset carried.amount carried.atoms op.dest_asset needed m taken
-      carried.entries new under (received_of carried new op.dest_amount).result one went two in
-      let same : received_of carried new op.dest_amount ≡ done = cc in
-      subst (IsLawful ctx m) same (subst (λ n. IsLawful ctx m (received_of carried new n)) all lawful)
-
-  received_steps : receive.taken_and_given ctx op m ≡ Ok done → IsLawful ctx m done
-  received_steps is =
-      let taken = went_after_step (map_after_credit got_by op.dest_asset op.dest_amount m) receive.credit_result _ done
-      is in
-      let along = went_along_back
-      (received ctx op.send_asset op.path op.dest_asset (set_out op.dest_amount taken.0)) (receive.given ctx op) done
-      taken.2 in
-      let cost = went_on (receive.cost_tests op along.0.amount) _ done along.2 in
-      let gave = went_after_step
-      (map_after_debit ctx ctx.op_source op.send_asset (pos along.0.amount) along.0.entries) receive.debit_result _ done
-      cost.1 in
-      received_done taken.0 taken.1 along.0 along.1 gave.0 gave.1 gave.2
+      subst (λ n. IsLawful ctx m (received_of carried new n)) all
+      (received_lawful ctx got_by op.send_asset carried.amount carried.atoms op.dest_asset needed m taken
+      carried.entries new under (received_of carried new op.dest_amount).result one went two)
 
 pub path_receive_is_lawful : AreLawful path_payment_strict_receive
 path_receive_is_lawful ctx op m done under exists is =
-    let asked = went_on (receive.asked_tests op) _ done is in
-    let test = first_passed _ _ [] asked.0 in
-    let amounts = or_parts (int_le op.send_max (pos 0) || int_le op.dest_amount (pos 0)) _ test.0 in
-    let amount = nonnegative_from_int_le op.dest_amount
-    (or_parts (int_le op.send_max (pos 0)) (int_le op.dest_amount (pos 0)) amounts.0).1 in
-    received_steps ctx op m done under amount (went_on (receive.destination_tests op m) _ done asked.1).1
+    done_so anything (IsLawful ctx m) (path_payment_strict_receive ctx op m) done
+    (receive_steps anything (IsLawful ctx m) ctx op m (λ taken carried new pass took along gave.
+    received_done ctx op m under (received_low op pass) taken took carried along new gave)) is
 
-module _ (ctx : Ctx) (op : PathPaymentStrictSendOp) (m : EntryMap) (done : Done) (under : IsUnderway ctx m)
+module _ (ctx : Ctx) (op : PathPaymentStrictSendOp) (m : EntryMap) (under : IsUnderway ctx m)
     (amount : pos 0 ≤ℤ op.send_amount) where
   abbrev sent_to : AccountId
   sent_to = account_of op.destination
@@ -121,8 +96,8 @@ module _ (ctx : Ctx) (op : PathPaymentStrictSendOp) (m : EntryMap) (done : Done)
       → sent ctx op.send_asset op.path op.dest_asset (set_out op.send_amount given) ≡ Ok carried
       → (new : EntryMap)
       → map_after_credit sent_to op.dest_asset (pos carried.amount) carried.entries ≡ Ok new
-      → send.done ctx op carried new ≡ Ok done → IsLawful ctx m done
-  sent_done given gave carried along new took is =
+      → IsLawful ctx m (sent_so ctx op carried new)
+  sent_done given gave carried along new took =
       let all = unsigned_abs_nonnegative op.send_amount amount in
       let one = amount_given ctx ctx.id_pool m under.settled.legal ctx.op_source (pos all_sent)
       (natural_nonnegative all_sent) given
@@ -138,27 +113,12 @@ module _ (ctx : Ctx) (op : PathPaymentStrictSendOp) (m : EntryMap) (done : Done)
       IsCarried ctx.id_pool ctx.base_reserve op.send_asset all_sent op.dest_asset carried.amount given carried.entries
       l)
       (sym on.listed) on.went.carried in
-      let lawful = sent_lawful ctx sent_to op.send_asset all_sent carried.atoms op.dest_asset carried.amount m given
-      carried.entries new under (sent_of carried new op.send_amount).result one went two in
-      let same : sent_of carried new op.send_amount ≡ done = cc in
-      subst (IsLawful ctx m) same (subst (λ n. IsLawful ctx m (sent_of carried new n)) all lawful)
-
-  sent_steps : send.given_and_taken ctx op m ≡ Ok done → IsLawful ctx m done
-  sent_steps is =
-      let given = went_after_step (map_after_debit ctx ctx.op_source op.send_asset op.send_amount m) send.debit_result _
-      done is in
-      let along = went_along_on (sent ctx op.send_asset op.path op.dest_asset (set_out op.send_amount given.0))
-      (send.taken ctx op) done given.2 in
-      let least = went_on (send.least_tests op along.0.amount) _ done along.2 in
-      let took = went_after_step (map_after_credit sent_to op.dest_asset (pos along.0.amount) along.0.entries)
-      send.credit_result _ done least.1 in
-      sent_done given.0 given.1 along.0 along.1 took.0 took.1 took.2
+      subst (λ n. IsLawful ctx m (sent_of carried new n)) all
+      (sent_lawful ctx sent_to op.send_asset all_sent carried.atoms op.dest_asset carried.amount m given
+      carried.entries new under (sent_of carried new op.send_amount).result one went two)
 
 pub path_send_is_lawful : AreLawful path_payment_strict_send
 path_send_is_lawful ctx op m done under exists is =
-    let asked = went_on (send.asked_tests op) _ done is in
-    let test = first_passed _ _ [] asked.0 in
-    let amounts = or_parts (int_le op.send_amount (pos 0) || int_le op.dest_min (pos 0)) _ test.0 in
-    let amount = nonnegative_from_int_le op.send_amount
-    (or_parts (int_le op.send_amount (pos 0)) (int_le op.dest_min (pos 0)) amounts.0).0 in
-    sent_steps ctx op m done under amount (went_on (send.destination_tests op m) _ done asked.1).1
+    done_so anything (IsLawful ctx m) (path_payment_strict_send ctx op m) done
+    (send_steps anything (IsLawful ctx m) ctx op m (λ given carried new pass gave along took.
+    sent_done ctx op m under (sent_low op pass) given gave carried along new took)) is

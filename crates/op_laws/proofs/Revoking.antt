@@ -1,24 +1,26 @@
 -- REVOKE_SPONSORSHIP is lawful.
 use Rattle.op_laws.proofs.Prelude as prelude
-use prelude.{◌≡◌, subst, ℕ, [], ◌∷◌, List, Option, Some, None, Ok, slice_set, pos, get, AccountId, AccountEntry}
-use prelude.{LedgerEntry, LedgerKey, SignerKey, EntryMap, account_at, with_account, HasAccount, sponsor_of, first_fault}
+use prelude.{◌≡◌, subst, ℕ, List, Option, Some, None, Ok, slice_set, pos, get, AccountId, AccountEntry}
+use prelude.{LedgerEntry, LedgerKey, EntryMap, account_at, with_account, HasAccount, sponsor_of, first_fault}
 use prelude.{Ctx, charge_of, map_after_exchange, with_other_payer, open_sponsor, payer_other_than, payer_tests_at}
 use prelude.{move_tests_at, found_signer, with_moved_signer, map_after_moving_signer_between, map_after_moving_found}
-use prelude.{map_after_moving_signer, counts_edited, with_sponsors_core, nothing_owed, sponsors_ready, entry_moved_so}
-use prelude.{nothing_settled, signer_moved_so, Done, is_malformed, entry_tests, entry_moved, entry_revoked}
-use prelude.{signer_tests, signer_moved, revoke_sponsorship, IsLawful, AreLawful, IsUnderway, exchanged_kept}
+use prelude.{counts_edited, with_sponsors_core, nothing_owed, sponsors_ready, entry_moved_so}
+use prelude.{nothing_settled, signer_moved_so}
+use prelude.{revoke_sponsorship, IsLawful, AreLawful, IsUnderway, exchanged_kept}
 use prelude.{exchange_kept, payers_had, next_payer, moved_between, sponsor_kept, next_edited, IsKeyed, none_more}
-use prelude.{IsNext, Leaves, leaves_itself, keeps_both, went_on, went_after_some, went_after_charge, unless_first_ok}
+use prelude.{IsNext, Leaves, leaves_itself, keeps_both, unless_first_ok}
 use Rattle.op_flags.specs.sponsor_rules.declared.charge.Charge.{Charge}
 use Rattle.op_flags.specs.sponsor_rules.declared.charge.Charge.TheVariants as charge
 use Rattle.op_flags.specs.sponsor_rules.declared.signer_index.FoundSigner.{FoundSigner}
 use Rattle.op_flags.specs.sponsor_rules.Moving.{map_with_sponsor, map_after_moving_balance, map_after_moving_by}
-use Rattle.op_flags.specs.sponsor_rules.Moving.{map_after_moving_entry, map_after_moving}
+use Rattle.op_flags.specs.sponsor_rules.Moving.{map_after_moving_entry}
 use Rattle.op_flags.specs.op_types.declared.sponsor_ops.RevokeSponsorshipOp.{RevokeSponsorshipOp}
 use Rattle.op_flags.specs.op_types.declared.sponsor_ops.RevokeSponsorshipOp.TheVariants as revoked
 use Rattle.op_flags.specs.op_types.declared.sponsor_results.RevokeSponsorshipResult.TheVariants as revoke
 use Rattle.op_sponsor.specs.RevokeSponsorship.{answer}
 use Rattle.op_laws.proofs.Lawful.{lawful_still}
+use Rattle.step_logic.proofs.Steps.{done_so, anything}
+use Rattle.walks.proofs.SponsorSteps.{revoke_steps, RevokeSuccesses}
 
 module _ (ctx : Ctx) (m new : EntryMap) (keyed : IsKeyed m) where
   abbrev IsLeft : EntryMap → Type 0
@@ -99,44 +101,25 @@ module _ (ctx : Ctx) (m new : EntryMap) (keyed : IsKeyed m) where
 
 -- ---- the operation
 
-module _ (ctx : Ctx) (m : EntryMap) (done : Done) (under : IsUnderway ctx m) where
+module _ (ctx : Ctx) (m : EntryMap) (under : IsUnderway ctx m) where
   abbrev payer : Option AccountId
   payer = open_sponsor ctx ctx.op_source
 
   payer_exists : (x : AccountId) → payer ≡ Some x → HasAccount m x
   payer_exists = (sponsors_ready ctx m ctx.op_source under.sponsorships).exists
 
-  entry_lawful : (k : LedgerKey) → entry_moved ctx k m ≡ Ok done → IsLawful ctx m done
-  entry_lawful k is =
-      let went = went_after_charge (map_after_moving ctx k payer m) (answer revoke.LowReserve) _ done is in
-      let also = went.2 in
-      let made : Done = record { result = answer revoke.Success; entries = went.0; ctx = ctx; moves = [] } in
-      let same : made ≡ done = cc in
-      subst (IsLawful ctx m) same (lawful_still ctx m under (answer revoke.Success) went.0
-      (λ v sum legal. entry_moved_so v ctx.id_pool nothing_owed sum ctx k payer m went.0 legal nothing_settled
-      payer_exists went.1)
-      (entry_left ctx m went.0 under.settled.legal.keyed k payer (get m k) went.1))
-
-  signer_lawful : (id : AccountId) (which : SignerKey) → signer_moved ctx id which m ≡ Ok done → IsLawful ctx m done
-  signer_lawful id which is =
-      let went = went_after_charge (map_after_moving_signer ctx id which payer m) (answer revoke.LowReserve) _ done is
-      in
-      let also = went.2 in
-      let made : Done = record { result = answer revoke.Success; entries = went.0; ctx = ctx; moves = [] } in
-      let same : made ≡ done = cc in
-      subst (IsLawful ctx m) same (lawful_still ctx m under (answer revoke.Success) went.0
-      (λ v sum legal. signer_moved_so v ctx.id_pool nothing_owed sum ctx id which payer m went.0 legal nothing_settled
-      payer_exists went.1)
-      (found_left ctx m went.0 under.settled.legal.keyed id payer (found_signer which (account_at m id)) went.1))
-
-  by_thing : (op : RevokeSponsorshipOp) → revoke_sponsorship ctx op m ≡ Ok done → IsLawful ctx m done
-  by_thing (revoked.LedgerEntry k) is =
-      let first = went_on ((is_malformed k, answer revoke.Malformed) ∷ []) (entry_revoked ctx k m (get m k)) done is in
-      let second = went_after_some (get m k) (answer revoke.DoesNotExist) _ done first.1 in
-      entry_lawful k (went_on (entry_tests ctx second.0) (entry_moved ctx k m) done second.2).1
-  by_thing (revoked.Signer id which) is =
-      let first = went_after_some (found_signer which (account_at m id)) (answer revoke.DoesNotExist) _ done is in
-      signer_lawful id which (went_on (signer_tests ctx id first.0) (signer_moved ctx id which m) done first.2).1
+  by_thing : (op : RevokeSponsorshipOp) → RevokeSuccesses (IsLawful ctx m) ctx m op
+  by_thing (revoked.LedgerEntry k) = λ e moved formed there may is.
+      lawful_still ctx m under (answer revoke.Success) moved
+      (λ v sum legal. entry_moved_so v ctx.id_pool nothing_owed sum ctx k payer m moved legal nothing_settled
+      payer_exists is) (entry_left ctx m moved under.settled.legal.keyed k payer (get m k) is)
+  by_thing (revoked.Signer id which) = λ one moved there may is.
+      lawful_still ctx m under (answer revoke.Success) moved
+      (λ v sum legal. signer_moved_so v ctx.id_pool nothing_owed sum ctx id which payer m moved legal nothing_settled
+      payer_exists is)
+      (found_left ctx m moved under.settled.legal.keyed id payer (found_signer which (account_at m id)) is)
 
 pub revoke_sponsorship_is_lawful : AreLawful revoke_sponsorship
-revoke_sponsorship_is_lawful ctx op m done under exists is = by_thing ctx m done under op is
+revoke_sponsorship_is_lawful ctx op m done under exists is =
+    done_so anything (IsLawful ctx m) (revoke_sponsorship ctx op m) done
+    (revoke_steps anything (IsLawful ctx m) ctx m op (by_thing ctx m under op)) is

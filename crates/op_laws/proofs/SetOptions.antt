@@ -1,35 +1,37 @@
 -- SET_OPTIONS is lawful.
 use Rattle.op_laws.proofs.Prelude as prelude
-use prelude.{◌≡◌, ◌≢◌, inr, refl, sym, ap, subst, ◌∙◌, ℕ, ◌<◌, ◌≤◌, Bool, true, false, cond, not, ◌&&◌, ◌||◌, nat_eq}
-use prelude.{nat_lt, nat_le, bit_and, List, [], ◌∷◌, length, get_or, All, insert, Option, Some, None, Result, Ok, arith}
+use prelude.{◌≡◌, ◌≢◌, inr, refl, sym, ap, subst, ◌∙◌, ℕ, ◌<◌, ◌≤◌, Bool, true, false, cond, not, ◌&&◌, nat_eq}
+use prelude.{nat_lt, nat_le, bit_and, List, [], length, get_or, All, insert, Option, Some, None, Result, Ok, arith}
 use prelude.{ints, position-Some, fails_before_first, pos, unwrap_or, if◌then◌else◌, position_or_len, is_eq}
 use prelude.{ordering_reverse, Ordering, Less, Equal, Greater, bytes_eq-Decides, AccountId, AccountEntry, Signer}
 use prelude.{SignerKey, signer_key_cmp, signer_keys_total, signer_keys_exact, is_valid_text, EntryMap, account_at}
-use prelude.{with_account, signer_sponsor, Tests, first_fault, Ctx, with_more, KeepsCore, map_after_charging}
+use prelude.{with_account, signer_sponsor, first_fault, Ctx, with_more, KeepsCore, map_after_charging}
 use prelude.{map_after_releasing, with_subentry, open_sponsor, subentry_tests_at, index_for, index_of, found_at}
 use prelude.{found_signer, with_counted_signer, map_with_signer, map_after_adding_signer, without_counted_signer}
 use prelude.{map_without_signer, map_after_removing_signer, counts_edited, with_sponsors_core, core_kept_twice}
 use prelude.{index_within_signers, KeepsAggregates, view, nothing_owed, IsAccountInRange, IsSponsorReady, lumens_of}
 use prelude.{account_legal, account_changed, sponsors_ready, nothing_settled, account_after, account_elsewhere}
-use prelude.{signer_added, signer_removed, legal_as, SetOptionsOp, OperationResult, NoAccount, Done, unless_refused}
-use prelude.{after_charge, with_signer_set, count_tests, map_after_weighing, map_after_signer, flags_in, has_unknown}
-use prelude.{is_out_of_range, is_own_key, is_bad_signer, is_bad_domain, inflation_tests, new_flags, source_tests}
-use prelude.{with_options, options_set, options_of, set_options, IsLawful, AreLawful, IsUnderway, charged_kept}
+use prelude.{signer_added, signer_removed, legal_as, SetOptionsOp, OperationResult}
+use prelude.{after_charge, with_signer_set, count_tests, map_after_weighing, map_after_signer, has_unknown}
+use prelude.{is_own_key, is_bad_signer, is_bad_domain, new_flags, source_tests}
+use prelude.{with_options, set_options, IsLawful, AreLawful, IsUnderway, charged_kept}
 use prelude.{charging_left, releasing_kept, released_at, pays_more, subentry_charged, next_edited, IsKeyed, none_more}
-use prelude.{IsNext, Leaves, leaves_itself, keeps_both, account_kept, first_passed, went_on, went_after}
-use prelude.{went_after_some, went_after_charge, add_sub_self, add_zero, not-false, or_parts, Equal-is, unless_first_ok}
+use prelude.{IsNext, Leaves, leaves_itself, keeps_both, account_kept, first_passed, went_on}
+use prelude.{went_after_charge, add_sub_self, add_zero, not-false, or_parts, Equal-is, unless_first_ok}
 use borrow.Author.Tests.{ltb-false}
 use Rattle.op_flags.specs.ledger_types.declared.signer.SignerKey.TheVariants as signer
 use Rattle.op_flags.specs.sponsor_rules.declared.count.Count.TheVariants as count
 use Rattle.op_flags.specs.legal_rules.SignerLaws.{IsNewSigner}
 use Rattle.op_flags.specs.op_types.declared.account_results.SetOptionsResult.TheVariants as set
 use Rattle.op_options.specs.OptionTests.{answer}
-use Rattle.op_options.specs.OptionTests.{given_tests}
 use Rattle.op_laws.proofs.Flags.{flags_set}
 use Rattle.op_laws.proofs.Lawful.{KeepsLegal, lawful_still}
 use Rattle.op_laws.proofs.Signers.{without_core}
 use Rattle.op_laws.proofs.Signers.{signer_kept}
 use Rattle.op_laws.proofs.SignerWeights.{weighed_legal, weighed_left}
+use Rattle.step_logic.proofs.Steps.{done_so, anything, AllPass}
+use Rattle.step_logic.proofs.Walks.{succeeded}
+use Rattle.walks.proofs.OptionSteps.{options_steps}
 
 -- ---- keys of signers
 
@@ -314,64 +316,29 @@ options_next op base a = record {
 
 -- ---- the operation
 
-module _ (ctx : Ctx) (op : SetOptionsOp) (m : EntryMap) (done : Done) (under : IsUnderway ctx m)
+module _ (ctx : Ctx) (op : SetOptionsOp) (m : EntryMap) (under : IsUnderway ctx m)
     (unknown : has_unknown op.set_flags ≡ false) (bad : is_bad_signer ctx.op_source op.signer ≡ false)
     (domain : is_bad_domain op.home_domain ≡ false) where
-  options_lawful : (a : AccountEntry) → account_at m ctx.op_source ≡ Some a
-      → (not (nat_eq (bit_and (new_flags op a.flags) 8) 0) && nat_eq (bit_and (new_flags op a.flags) 2) 0) ≡ false
-      → options_set ctx op a m ≡ Ok done → IsLawful ctx m done
-  options_lawful a exists clawback is =
+  options_lawful : (a : AccountEntry) (signed : EntryMap) → account_at m ctx.op_source ≡ Some a
+      → AllPass (source_tests op a) → map_after_signer ctx a m op.signer ≡ Ok signed
+      → IsLawful ctx m (succeeded ctx (answer set.Success) (with_account signed ctx.op_source (with_options op)) [])
+  options_lawful a signed exists pass is =
       let src = ctx.op_source in
       let base = ctx.base_reserve in
-      let went = went_after (map_after_signer ctx a m op.signer) _ done is in
-      let signed = went.0 in
-      let also = went.2 in
-      let h = by_signer ctx m under a exists op.signer bad signed went.1 in
+      let h = by_signer ctx m under a exists op.signer bad signed is in
       let at = h.leaves.exist src (a, exists) in
       let flags = h.flags at.0 at.1 in
       let new = with_account signed src (with_options op) in
-      let made : Done = record { result = answer set.Success; entries = new; ctx = ctx; moves = [] } in
-      let same : made ≡ done = cc in
-      subst (IsLawful ctx m) same (lawful_still ctx m under (answer set.Success) new
+      lawful_still ctx m under (answer set.Success) new
       (λ v sum legal. options_legal op at.0 unknown domain
-      (ap (λ n. not (nat_eq (bit_and (new_flags op n) 8) 0) && nat_eq (bit_and (new_flags op n) 2) 0) flags ∙ clawback)
+      (ap (λ n. not (nat_eq (bit_and (new_flags op n) 8) 0) && nat_eq (bit_and (new_flags op n) 2) 0) flags ∙ pass.1.0)
       ctx.id_pool signed src at.1 v sum (h.legal v sum legal))
       (keeps_both base m signed new h.leaves (account_kept base signed h.leaves.keyed src (with_options op)
-      (λ b there. options_next op base b))))
-
-  with_source : (a : AccountEntry) → account_at m ctx.op_source ≡ Some a
-      → unless_refused (source_tests op a) (options_set ctx op a m) ≡ Ok done → IsLawful ctx m done
-  with_source a exists is =
-      let second : Tests OperationResult = (
-        not (nat_eq (bit_and (new_flags op a.flags) 8) 0) && nat_eq (bit_and (new_flags op a.flags) 2) 0,
-        answer set.AuthRevocableRequired,
-      ) ∷ [] in
-      let went = went_on (source_tests op a) (options_set ctx op a m) done is in
-      let first = first_passed (not (nat_eq (bit_and a.flags 4) 0)
-      && (not (nat_eq (flags_in op.clear_flags) 0) || not (nat_eq (flags_in op.set_flags) 0))) (answer set.CantChange)
-      second went.0 in
-      let test = first_passed
-      (not (nat_eq (bit_and (new_flags op a.flags) 8) 0) && nat_eq (bit_and (new_flags op a.flags) 2) 0)
-      (answer set.AuthRevocableRequired) [] first.1 in
-      options_lawful a exists test.0 went.1
+      (λ b there. options_next op base b)))
 
 pub set_options_is_lawful : AreLawful set_options
 set_options_is_lawful ctx op m done under exists is =
-    let src = ctx.op_source in
-    let fifth : Tests OperationResult = (is_bad_domain op.home_domain, answer set.InvalidHomeDomain) ∷ [] in
-    let fourth : Tests OperationResult = (is_bad_signer src op.signer, answer set.BadSigner) ∷ fifth in
-    let third : Tests OperationResult = (is_out_of_range op, answer set.ThresholdOutOfRange) ∷ fourth in
-    let clash = not (nat_eq (bit_and (flags_in op.set_flags) (flags_in op.clear_flags)) 0) in
-    let next = options_of ctx op m (account_at m src) in
-    let went = went_on (given_tests src op) (unless_refused (inflation_tests op m) next) done is in
-    let one = first_passed (has_unknown op.set_flags || has_unknown op.clear_flags) (answer set.UnknownFlag)
-    ((clash, answer set.BadFlags) ∷ third) went.0 in
-    let two = first_passed clash (answer set.BadFlags) third one.1 in
-    let three = first_passed (is_out_of_range op) (answer set.ThresholdOutOfRange) fourth two.1 in
-    let four = first_passed (is_bad_signer src op.signer) (answer set.BadSigner) fifth three.1 in
-    let five = first_passed (is_bad_domain op.home_domain) (answer set.InvalidHomeDomain) [] four.1 in
-    let later = went_on (inflation_tests op m) next done went.1 in
-    let source = went_after_some (account_at m src) NoAccount
-    (λ a. unless_refused (source_tests op a) (options_set ctx op a m)) done later.1 in
-    with_source ctx op m done under (or_parts (has_unknown op.set_flags) (has_unknown op.clear_flags) one.0).0 four.0
-    five.0 source.0 source.1 source.2
+    done_so anything (IsLawful ctx m) (set_options ctx op m) done (options_steps anything (IsLawful ctx m) ctx op m
+    (λ a signed given there may made. options_lawful ctx op m under
+    (or_parts (has_unknown op.set_flags) (has_unknown op.clear_flags) given.0).0 given.1.1.1.0 given.1.1.1.1.0 a signed
+    there may made)) is

@@ -1,15 +1,13 @@
 -- BEGIN_SPONSORING_FUTURE_RESERVES and END_SPONSORING_FUTURE_RESERVES are lawful.
-use Rattle.op_laws.proofs.Prelude.{◌≡◌, ◌≢◌, refl, sym, subst, ℕ, suc, take, drop, ◌<◌, Bool, true, false, cond, ◌||◌}
+use Rattle.op_laws.proofs.Prelude.{◌≡◌, ◌≢◌, refl, sym, ℕ, suc, take, drop, ◌<◌, Bool, true, false, cond}
 use Rattle.op_laws.proofs.Prelude.{is_some, List, [], ◌∷◌, ◌++◌, length, get_or, All, Option, Some, None, All-nil}
 use Rattle.op_laws.proofs.Prelude.{All-cons, All-append, All-take, All-drop, All-push, all_pairs_push, all_pairs_remove}
-use Rattle.op_laws.proofs.Prelude.{position-Some, find, remove, AccountId, EntryMap, HasAccount, account_at, Tests, Ctx}
+use Rattle.op_laws.proofs.Prelude.{position-Some, find, remove, AccountId, EntryMap, HasAccount, account_at, Ctx}
 use Rattle.op_laws.proofs.Prelude.{Sponsorship, is_same_account, open_sponsor, apart_accounts, AreSponsorshipsSound}
-use Rattle.op_laws.proofs.Prelude.{OperationResult, Done, is_open_sponsor, success, IsLawful, AreLawful, IsUnderway}
-use Rattle.op_laws.proofs.Prelude.{none_more, holds_itself, is_itself_after, went_on, went_after_some, first_passed}
+use Rattle.op_laws.proofs.Prelude.{OperationResult, IsLawful, AreLawful, IsUnderway}
+use Rattle.op_laws.proofs.Prelude.{none_more, holds_itself, is_itself_after}
 use Rattle.std.specs.Option.{option_map}
-use Rattle.op_flags.specs.op_types.declared.sponsor_ops.BeginSponsoringFutureReservesOp.{
-  BeginSponsoringFutureReservesOp,
-}
+use Rattle.op_flags.specs.op_types.declared.sponsor_ops.BeginSponsoringFutureReservesOp.{BeginSponsoringFutureReservesOp}
 use Rattle.op_flags.specs.op_types.declared.sponsor_results.BeginSponsoringFutureReservesResult.TheVariants as begin
 use Rattle.op_flags.specs.op_types.declared.sponsor_results.EndSponsoringFutureReservesResult.TheVariants as end
 use Rattle.op_sponsor.specs.BeginSponsoringFutureReserves as begins
@@ -17,6 +15,8 @@ use Rattle.op_sponsor.specs.EndSponsoringFutureReserves as ends
 use Rattle.op_laws.proofs.Lawful.{lawful_by}
 use Rattle.op_laws.proofs.Lumens.{nothing_issued}
 use Rattle.op_laws.proofs.Described.{describes_nothing}
+use Rattle.step_logic.proofs.Steps.{done_so, anything}
+use Rattle.walks.proofs.SponsorSteps.{begin_steps, end_steps}
 
 -- ---- other sponsorships
 
@@ -87,21 +87,10 @@ opened_sound ctx op m sound exists apart none =
 
 pub begin_sponsoring_is_lawful : AreLawful begins.begin_sponsoring
 begin_sponsoring_is_lawful ctx op m done under exists is =
-    let opened = begins.with_sponsorship_opened op ctx in
-    let went = went_on (begins.begin_tests ctx op) (success opened (begins.answer begin.Success) m []) done is in
-    let third : Tests OperationResult = (
-      is_some (open_sponsor ctx ctx.op_source) || is_open_sponsor ctx op.sponsored_id,
-      begins.answer begin.Recursive,
-    ) ∷ [] in
-    let first = first_passed (is_same_account op.sponsored_id ctx.op_source) (begins.answer begin.Malformed)
-    ((is_some (open_sponsor ctx op.sponsored_id), begins.answer begin.AlreadySponsored) ∷ third) went.0 in
-    let second = first_passed (is_some (open_sponsor ctx op.sponsored_id)) (begins.answer begin.AlreadySponsored) third
-    first.1 in
-    let made : Done = record { result = begins.answer begin.Success; entries = m; ctx = opened; moves = [] } in
-    let same : made ≡ done = cc in
-    subst (IsLawful ctx m) same (opened_so ctx m under (begins.answer begin.Success)
+    done_so anything (IsLawful ctx m) (begins.begin_sponsoring ctx op m) done
+    (begin_steps anything (IsLawful ctx m) ctx op m (λ pass. opened_so ctx m under (begins.answer begin.Success)
     (ctx.sponsorships ++ begins.new_sponsorship ctx op ∷ [])
-    (opened_sound ctx op m under.sponsorships exists first.0 second.0))
+    (opened_sound ctx op m under.sponsorships exists pass.0 pass.1.0))) is
 
 -- ---- end
 
@@ -127,15 +116,6 @@ within_open ctx index is =
 
 pub end_sponsoring_is_lawful : AreLawful (λ ctx (_ : Unit {0}) m. ends.end_sponsoring ctx m)
 end_sponsoring_is_lawful ctx op m done under exists is =
-    let went = went_after_some (ends.index_of_sponsorship ctx) (ends.answer end.NotSponsored) _ done is in
-    let index = went.0 in
-    let made : Done = record {
-      result = ends.answer end.Success;
-      entries = m;
-      ctx = ends.without_sponsorship index ctx;
-      moves = [];
-    } in
-    let also = went.2 in
-    let same : made ≡ done = cc in
-    subst (IsLawful ctx m) same (opened_so ctx m under (ends.answer end.Success) (remove ctx.sponsorships index)
-    (ended_sound ctx m index under.sponsorships (within_open ctx index went.1)))
+    done_so anything (IsLawful ctx m) (ends.end_sponsoring ctx m) done
+    (end_steps anything (IsLawful ctx m) ctx m (λ index at. opened_so ctx m under (ends.answer end.Success)
+    (remove ctx.sponsorships index) (ended_sound ctx m index under.sponsorships (within_open ctx index at)))) is

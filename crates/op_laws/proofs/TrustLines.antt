@@ -1,28 +1,29 @@
 -- CHANGE_TRUST of a line in an asset is lawful.
 use Rattle.op_laws.proofs.Prelude as prelude
-use prelude.{◌≡◌, ◌≢◌, refl, sym, ap, subst, ◌∙◌, ℕ, ◌%◌, ◌≤◌, Bool, true, false, not, ◌||◌, ◌∷◌, [], is_some, bit_or}
+use prelude.{◌≡◌, ◌≢◌, refl, sym, ap, subst, ◌∙◌, ℕ, ◌%◌, ◌≤◌, Bool, true, false, not, ◌||◌, bit_or}
 use prelude.{Option, Some, None, Ok, arith, ints, ℤ, pos, neg_ℤ, int_lt, ◌+ℤ◌, ◌≤ℤ◌, if◌then◌else◌, get, int_eq}
 use prelude.{AccountId, AccountEntry, Asset, TrustLineAsset, TrustLineEntry, LedgerEntry, LedgerEntryBody, LedgerKey}
 use prelude.{key_of, key_of_body, is_valid_asset, EntryMap, erase, account_at, HasAccount, sponsor_of, line_liabilities}
-use prelude.{use_count, line_in, line_of, line_at, with_line, part, greatest_i64, Ctx, map_after_adding}
+use prelude.{use_count, line_in, line_of, line_at, part, greatest_i64, Ctx, map_after_adding}
 use prelude.{line_multiplicity, without_subentry, map_after_discounting, map_after_removing, map_after_removing_entry}
 use prelude.{apart_accounts, is_key, Kind, Subentries, Sponsoring, Sponsored, Selling, Buying, Shares, ShareLines, Uses}
 use prelude.{View, view, weighed, nothing_owed, beside_reserves, IsEntryLegal, IsHeldIn, AreLineFlags}
 use prelude.{IsTrustLineInRange, of_line, held_of, sponsors_ready, subentry_added_so, nothing_settled, subentry_removed}
-use prelude.{owns, legal_as, line_entry, with_line_body, subentry_of, is_native, is_issued_by, issuer_at, line_asset_of}
-use prelude.{line_of_asset, Done, is_auth_required, is_account_clawback_enabled, success, IsLawful, IsUnderway}
+use prelude.{owns, legal_as, line_entry, with_line_body, subentry_of, is_native, is_issued_by, line_asset_of}
+use prelude.{Done, is_auth_required, is_account_clawback_enabled, IsLawful, IsUnderway}
 use prelude.{subentry_kept, discharged_kept, erased_kept, line_legal, IsKeyed, none_more, still_holds, Leaves}
-use prelude.{keeps_both, went_on, went_after_some, went_after_charge, first_passed, add_zero, add_zero_at_most}
+use prelude.{keeps_both, add_zero, add_zero_at_most}
 use prelude.{int_eq_true, int_lt_false, zero_sub_if_zero, zero_sub_zero, zeros_add_to_zero, of_line_zero, not-false}
 use prelude.{or_parts}
 use Rattle.op_flags.specs.ledger_types.declared.asset.Asset.TheVariants as asset
-use Rattle.op_flags.specs.ledger_types.declared.asset.TrustLineAsset.TheVariants as line
 use Rattle.op_flags.specs.ledger_types.declared.entry.LedgerEntryBody.TheVariants as body
 use Rattle.op_flags.specs.ledger_types.declared.key.LedgerKey.TheVariants as key
 use Rattle.op_flags.specs.op_types.declared.trust_results.ChangeTrustResult.TheVariants as trust
 use Rattle.op_trust.specs.ChangeTrust as spec
 use Rattle.op_laws.proofs.Lawful.{KeepsLegal, lawful_still}
 use Rattle.op_laws.proofs.LineLimits.{not_zero, nothing_in_line, line_limited_lawful}
+use Rattle.step_logic.proofs.Steps.{done_so, anything, AllPass}
+use Rattle.walks.proofs.TrustSteps.{trust_steps, trusted}
 
 -- ---- keys
 
@@ -175,35 +176,18 @@ module _ (ctx : Ctx) (m : EntryMap) (under : IsUnderway ctx m) (exists : HasAcco
         (record { asset = refl; selling = refl; buying = refl; uses = refl }) kind k))
         (ap (λ n. sum +ℤ n) (of_line_zero v.asset its) ∙ add_zero sum)
 
-    added_lawful : (done : Done) → line_at m src its ≡ None → spec.added ctx held limit issuer m ≡ Ok done
-        → IsLawful ctx m done
-    added_lawful done none is =
-        let went = went_after_charge (map_after_adding ctx src entry m) (spec.answer trust.LowReserve) _ done is in
-        let also = went.2 in
-        let made : Done = record { result = spec.answer trust.Success; entries = went.0; ctx = ctx; moves = [] } in
-        let same : made ≡ done = cc in
-        subst (IsLawful ctx m) same (lawful_still ctx m under (spec.answer trust.Success) went.0
-        (added_legal went.0 none went.1)
-        (subentry_kept ctx m src (line_multiplicity its) entry went.0 under.settled.legal.keyed
+    added_lawful : (new : EntryMap) → line_at m src its ≡ None → map_after_adding ctx src entry m ≡ Ok new
+        → IsLawful ctx m (trusted ctx new)
+    added_lawful new none is =
+        lawful_still ctx m under (spec.answer trust.Success) new (added_legal new none is)
+        (subentry_kept ctx m src (line_multiplicity its) entry new under.settled.legal.keyed
         (λ id at. absurd (cc)) (λ x. of_line_zero x its)
-        (λ x. ap (part (held_of x)) (no_line m src its under.settled.legal.keyed none)) went.1))
+        (λ x. ap (part (held_of x)) (no_line m src its under.settled.legal.keyed none)) is)
 
   -- ---- another limit
 
   module _ (t : TrustLineEntry) (there : line_at m ctx.op_source (line_asset_of held) ≡ Some t)
       (exceeded : spec.is_exceeded limit t ≡ false) (low : pos 0 ≤ℤ limit) where
-    limited_lawful : (done : Done) → int_eq limit (pos 0) ≡ false → limit ≤ℤ greatest_i64
-        → spec.limited ctx held limit m ≡ Ok done → IsLawful ctx m done
-    limited_lawful done some high is =
-        let new = with_line m src its (spec.with_limit limit) in
-        let went = went_on ((not (is_some (issuer_at m held)), spec.answer trust.NoIssuer) ∷ [])
-        (success ctx (spec.answer trust.Success) new []) done is in
-        let also = went.1 in
-        let made : Done = record { result = spec.answer trust.Success; entries = new; ctx = ctx; moves = [] } in
-        let same : made ≡ done = cc in
-        subst (IsLawful ctx m) same
-        (line_limited_lawful ctx m under its limit t there exceeded (not_zero limit low some) high)
-
     -- ---- removing
 
     abbrev its_key : LedgerKey
@@ -261,64 +245,55 @@ module _ (ctx : Ctx) (m : EntryMap) (under : IsUnderway ctx m) (exists : HasAcco
             (λ x. still_holds m now first.holds its_key x ∙ ap (part (held_of x)) at
             ∙ ap (of_line x t.asset) nothing_in.0 ∙ of_line_zero x t.asset))
 
-    removed_lawful : (done : Done) → int_eq limit (pos 0) ≡ true → spec.removed ctx held t m ≡ Ok done
-        → IsLawful ctx m done
-    removed_lawful done none is =
-        let new = map_after_removing its_key m in
-        let went = went_on ((not (int_eq (use_count t) (pos 0)), spec.answer trust.CannotDelete) ∷ [])
-        (success ctx (spec.answer trust.Success) new []) done is in
-        let test = first_passed (not (int_eq (use_count t) (pos 0))) (spec.answer trust.CannotDelete) [] went.0 in
-        let unused = int_eq_true (use_count t) (pos 0) (not-false (int_eq (use_count t) (pos 0)) test.0) in
-        let also = went.1 in
-        let made : Done = record { result = spec.answer trust.Success; entries = new; ctx = ctx; moves = [] } in
-        let same : made ≡ done = cc in
+    removed_lawful : int_eq limit (pos 0) ≡ true → not (int_eq (use_count t) (pos 0)) ≡ false
+        → IsLawful ctx m (trusted ctx (map_after_removing its_key m))
+    removed_lawful none some =
+        let unused = int_eq_true (use_count t) (pos 0) (not-false (int_eq (use_count t) (pos 0)) some) in
         let found = line_entry m src its t there in
         let at = found.1.there ∙ ap Some (λ i. record found.0 { body = found.1.is i }) in
-        let removed_so : map_after_removing_entry its_key m (Some (with_line_body found.0 t)) ≡ new =
-        sym (ap (map_after_removing_entry its_key m) at) in
-        subst (IsLawful ctx m) same (lawful_still ctx m under (spec.answer trust.Success) new
+        let removed_so : map_after_removing_entry its_key m (Some (with_line_body found.0 t))
+        ≡ map_after_removing its_key m = sym (ap (map_after_removing_entry its_key m) at) in
+        lawful_still ctx m under (spec.answer trust.Success) (map_after_removing its_key m)
         (subst (KeepsLegal ctx.id_pool m) removed_so (removed_legal none unused found.0 at))
-        (subst (Leaves ctx.base_reserve none_more m) removed_so (removed_left none unused found.0 at)))
+        (subst (Leaves ctx.base_reserve none_more m) removed_so (removed_left none unused found.0 at))
 
 -- ---- CHANGE_TRUST of a line in an asset
 
-module _ (ctx : Ctx) (m : EntryMap) (done : Done) (under : IsUnderway ctx m) (exists : HasAccount m ctx.op_source)
-    (limit : ℤ) (high : limit ≤ℤ greatest_i64) where
-  module _ (held : Asset) (issued_asset : is_native held ≡ false) (low : pos 0 ≤ℤ limit)
-      (valid : is_valid_asset held ≡ true) (other : is_issued_by held ctx.op_source ≡ false) where
-    by_limit : (t : TrustLineEntry) → line_at m ctx.op_source (line_asset_of held) ≡ Some t
-        → spec.is_exceeded limit t ≡ false → (b : Bool) → int_eq limit (pos 0) ≡ b
-        → (if b then spec.removed ctx held t m else spec.limited ctx held limit m) ≡ Ok done → IsLawful ctx m done
-    by_limit t there exceeded true none is =
-        removed_lawful ctx m under exists held issued_asset limit t there exceeded low done none is
-    by_limit t there exceeded false some is =
-        limited_lawful ctx m under exists held issued_asset limit t there exceeded low done some high is
+-- what the tests of what is asked for leave
+record IsAskedFor (ctx : Ctx) (held : Asset) (limit : ℤ) : Type 0 where
+  issued_asset : is_native held ≡ false
+  low : pos 0 ≤ℤ limit
+  valid : is_valid_asset held ≡ true
+  other : is_issued_by held ctx.op_source ≡ false
 
-    by_line : (o : Option TrustLineEntry) → line_at m ctx.op_source (line_asset_of held) ≡ o
-        → spec.changed ctx held limit m o ≡ Ok done → IsLawful ctx m done
-    by_line (Some t) there is =
-        let went = went_on (spec.limit_tests limit t)
-        (if int_eq limit (pos 0) then spec.removed ctx held t m else spec.limited ctx held limit m) done is in
-        let test = first_passed (spec.is_exceeded limit t) (spec.answer trust.InvalidLimit) [] went.0 in
-        by_limit t there test.0 (int_eq limit (pos 0)) refl went.1
-    by_line None there is =
-        let went = went_on ((int_eq limit (pos 0), spec.answer trust.InvalidLimit) ∷ []) _ done is in
-        let test = first_passed (int_eq limit (pos 0)) (spec.answer trust.InvalidLimit) [] went.0 in
-        let issuer = went_after_some (issuer_at m held) (spec.answer trust.NoIssuer) _ done went.1 in
-        added_lawful ctx m under exists held issued_asset limit valid other (not_zero limit low test.0) high issuer.0
-        done there issuer.2
+asked_for : (ctx : Ctx) (held : Asset) (limit : ℤ) → AllPass (spec.asked_tests ctx held limit)
+    → IsAskedFor ctx held limit
+asked_for ctx held limit pass =
+    let below = int_lt limit (pos 0) in
+    let bad = not (is_valid_asset held) in
+    let last = or_parts (below || is_native held || bad) (is_issued_by held ctx.op_source) pass.0 in
+    let third = or_parts (below || is_native held) bad last.0 in
+    let first = or_parts below (is_native held) third.0 in
+    record {
+      issued_asset = first.1;
+      low = int_lt_false limit (pos 0) first.0;
+      valid = not-false (is_valid_asset held) third.1;
+      other = last.1;
+    }
 
-  -- Each CHANGE_TRUST of a line in an asset that succeeds is lawful.
-  pub asset_trust_is_lawful : (held : Asset) → spec.asset_trust ctx held limit m ≡ Ok done → IsLawful ctx m done
-  asset_trust_is_lawful held is =
-      let went = went_on (spec.asked_tests ctx held limit) _ done is in
-      let below = int_lt limit (pos 0) in
-      let native = is_native held in
-      let bad = not (is_valid_asset held) in
-      let own = is_issued_by held ctx.op_source in
-      let test = first_passed (below || native || bad || own) (spec.answer trust.Malformed) [] went.0 in
-      let last = or_parts (below || native || bad) own test.0 in
-      let third = or_parts (below || native) bad last.0 in
-      let first = or_parts below native third.0 in
-      by_line held first.1 (int_lt_false limit (pos 0) first.0) (not-false (is_valid_asset held) third.1) last.1
-      (line_of_asset m ctx.op_source held) refl went.1
+-- Each CHANGE_TRUST of a line in an asset that succeeds is lawful.
+pub asset_trust_is_lawful : (ctx : Ctx) (m : EntryMap) (done : Done) → IsUnderway ctx m → HasAccount m ctx.op_source
+    → (limit : ℤ) → limit ≤ℤ greatest_i64 → (held : Asset) → spec.asset_trust ctx held limit m ≡ Ok done
+    → IsLawful ctx m done
+asset_trust_is_lawful ctx m done under exists limit high held is =
+    let asks = asked_for ctx held limit in
+    done_so anything (IsLawful ctx m) (spec.asset_trust ctx held limit m) done
+    (trust_steps anything (IsLawful ctx m) ctx held limit m (record {
+      removed = λ t pass there within zero unused. removed_lawful ctx m under exists held
+          (asks pass).issued_asset limit t
+          there within.0 (asks pass).low zero unused;
+      limited = λ t pass there within some. line_limited_lawful ctx m under (line_asset_of held) limit t there within.0
+          (not_zero limit (asks pass).low some) high;
+      added = λ issuer new pass there some made. added_lawful ctx m under exists held (asks pass).issued_asset limit
+          (asks pass).valid (asks pass).other (not_zero limit (asks pass).low some) high issuer new there made;
+    })) is

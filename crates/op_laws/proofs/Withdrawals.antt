@@ -1,13 +1,13 @@
 -- LIQUIDITY_POOL_WITHDRAW is lawful.
 use Rattle.op_laws.proofs.Prelude as prelude
-use prelude.{◌≡◌, sym, subst, ◌∙◌, false, ◌||◌, List, [], ◌∷◌, Option, Some, Ok, ℤ, pos, neg_ℤ, ◌+ℤ◌, ◌≤ℤ◌, int_le}
+use prelude.{◌≡◌, sym, ◌∙◌, false, ◌||◌, List, [], ◌∷◌, Option, Some, ℤ, pos, neg_ℤ, ◌+ℤ◌, ◌≤ℤ◌, int_le}
 use prelude.{int_lt, AccountId, Hash, Asset, TrustLineEntry, LiquidityPoolEntry, LedgerKey, EntryMap, HasAccount}
 use prelude.{line_at, pool_at, total, Ctx, Increase, both_more, view, nothing_owed, of_asset, held_of, holder}
-use prelude.{leaves_as, IsLegalLine, line_legal, first_passed, most_taken, CanPay, Part, part_of, IsLegalPool}
-use prelude.{pool_legal, first_used, second_used, sound_of, Done, OfAccount, OfPool, Move, disabled_tests}
-use prelude.{withdraw_tests, share_tests, taken_tests, map_after_taking, move_of_a, move_of_b, taken}
+use prelude.{leaves_as, IsLegalLine, line_legal, most_taken, CanPay, Part, part_of, IsLegalPool}
+use prelude.{pool_legal, first_used, second_used, sound_of, OfAccount, OfPool, Move}
+use prelude.{taken_tests, map_after_taking, move_of_a, move_of_b}
 use prelude.{liquidity_pool_withdraw, IsLawful, AreLawful, issued, IsUnderway, IsMoved, unless_issuer, shifts_as}
-use prelude.{went_on, went_after_some, at_most_trans, int_lt_false, nonnegative_from_positive, positive_from_int_le}
+use prelude.{at_most_trans, int_lt_false, nonnegative_from_positive, positive_from_int_le}
 use prelude.{or_parts}
 use Rattle.std.specs.Prelude.{nat_lt}
 use Rattle.op_flags.specs.ledger_types.declared.asset.Asset.TheVariants as asset
@@ -23,6 +23,9 @@ use Rattle.op_laws.proofs.PoolPayments.{holder_exists, takes_so, shift_of, more_
 use Rattle.op_laws.proofs.PoolPayments.{both_taken}
 use Rattle.op_laws.proofs.Described.{Describes, more_for, account_location, pool_location, moved, move_describes}
 use Rattle.op_laws.proofs.Described.{describes_both}
+use Rattle.step_logic.proofs.Steps.{done_so, anything, AllPass}
+use Rattle.step_logic.proofs.Walks.{succeeded}
+use Rattle.walks.proofs.PoolSteps.{withdraw_steps}
 
 -- ---- what a withdrawal moves
 
@@ -92,7 +95,7 @@ module _ (ctx : Ctx) (op : LiquidityPoolWithdrawOp) (p : LiquidityPoolEntry) (pa
 
 -- ---- the operation
 
-module _ (ctx : Ctx) (op : LiquidityPoolWithdrawOp) (m : EntryMap) (done : Done) (under : IsUnderway ctx m)
+module _ (ctx : Ctx) (op : LiquidityPoolWithdrawOp) (m : EntryMap) (under : IsUnderway ctx m)
     (source : HasAccount m ctx.op_source) (some : pos 1 ≤ℤ op.amount) (t : TrustLineEntry) (p : LiquidityPoolEntry)
     (has : line_at m ctx.op_source (line.PoolShare op.pool_id) ≡ Some t) (exists : pool_at m op.pool_id ≡ Some p)
     (enough : op.amount ≤ℤ t.balance) where
@@ -130,48 +133,23 @@ module _ (ctx : Ctx) (op : LiquidityPoolWithdrawOp) (m : EntryMap) (done : Done)
       (holder_exists m ctx.op_source source p.params.asset_b
       (second_used (view m) ctx.id_pool lumens m under.settled.legal ctx.op_source op.pool_id t has p exists)) room
 
-  taken_lawful : taken ctx op p part_out m ≡ Ok done → IsLawful ctx m done
-  taken_lawful is =
-      let tested = went_on (taken_tests ctx op p part_out m) _ done is in
-      let under_a = int_lt (pos part_out.a) op.min_amount_a in
-      let under_b = int_lt (pos part_out.b) op.min_amount_b in
-      let full_a = nat_lt (most_taken m takes_a) part_out.a in
-      let full_b = nat_lt (most_taken m takes_b) part_out.b in
-      let first = first_passed (under_a || under_b) (answer withdrawing.UnderMinimum)
-      ((full_a || full_b, answer withdrawing.LineFull) ∷ []) tested.0 in
-      let second = first_passed (full_a || full_b) (answer withdrawing.LineFull) [] first.1 in
-      let room = or_parts full_a full_b second.0 in
-      let both = both_taken ctx.id_pool ctx.base_reserve m under.settled.legal ctx.op_source op.pool_id t p has exists
+  taken_lawful : AllPass (taken_tests ctx op p part_out m) → IsLawful ctx m (succeeded ctx (answer withdrawing.Success)
+      (map_after_taking ctx.op_source op p part_out m) (moves ctx op p part_out))
+  taken_lawful pass =
+      let room = or_parts (nat_lt (most_taken m takes_a) part_out.a) (nat_lt (most_taken m takes_b) part_out.b) pass.1.0
+      in
+      withdrawal_lawful ctx op p part_out m under
+      (both_taken ctx.id_pool ctx.base_reserve m under.settled.legal ctx.op_source op.pool_id t p has exists
       (neg_ℤ (pos part_out.a)) (neg_ℤ (pos part_out.b)) (neg_ℤ op.amount)
-      (can_withdraw ctx.op_source op.pool_id t p op.amount its was
-      (nonnegative_from_positive op.amount some) enough of_all) part_out.a
-      part_out.b (takes_first room.0)
-      (takes_second room.1) in
-      let also = tested.1 in
-      let made : Done = record {
-        result = answer withdrawing.Success;
-        entries = map_after_taking ctx.op_source op p part_out m;
-        ctx = ctx;
-        moves = moves ctx op p part_out;
-      } in
-      let same : made ≡ done = cc in
-      subst (IsLawful ctx m) same (withdrawal_lawful ctx op p part_out m under both)
+      (can_withdraw ctx.op_source op.pool_id t p op.amount its was (nonnegative_from_positive op.amount some) enough
+      of_all) part_out.a part_out.b (takes_first room.0) (takes_second room.1))
 
 pub liquidity_pool_withdraw_is_lawful : AreLawful liquidity_pool_withdraw
 liquidity_pool_withdraw_is_lawful ctx op m done under source is =
-    let enabled = went_on (disabled_tests ctx) _ done is in
-    let formed = went_on (withdraw_tests op) _ done enabled.1 in
-    let line_found = went_after_some (line_at m ctx.op_source (line.PoolShare op.pool_id)) (answer withdrawing.NoTrust)
-    _ done formed.1 in
-    let held = went_on (share_tests op line_found.0) _ done line_found.2 in
-    let pool_found = went_after_some (pool_at m op.pool_id) (answer withdrawing.NoTrust) _ done held.1 in
     let none = int_le op.amount (pos 0) in
     let below_a = int_lt op.min_amount_a (pos 0) in
-    let below_b = int_lt op.min_amount_b (pos 0) in
-    let test = first_passed (none || below_a || below_b) (answer withdrawing.Malformed) [] formed.0 in
-    let least = or_parts (none || below_a) below_b test.0 in
-    let some = or_parts none below_a least.0 in
-    let short = first_passed (int_lt line_found.0.balance op.amount) (answer withdrawing.Underfunded) [] held.0 in
-    taken_lawful ctx op m done under source
-    (positive_from_int_le op.amount some.0) line_found.0 pool_found.0 line_found.1
-    pool_found.1 (int_lt_false line_found.0.balance op.amount short.0) pool_found.2
+    done_so anything (IsLawful ctx m) (liquidity_pool_withdraw ctx op m) done
+    (withdraw_steps anything (IsLawful ctx m) ctx op m (λ t p pass has enough exists may.
+    let some = or_parts none below_a (or_parts (none || below_a) (int_lt op.min_amount_b (pos 0)) pass.0).0 in
+    taken_lawful ctx op m under source (positive_from_int_le op.amount some.0) t p has exists
+    (int_lt_false t.balance op.amount enough.0) may)) is

@@ -53,13 +53,15 @@ module _ (v : Invariant) where
         → HoldsIf v (amounts.map_after_line_credit_of id held n m o)
     line_taken held None = record { holds = tt }
     line_taken held (Some t) =
-        unless_holds v _ _ (line_changed v (amounts.with_more n) (λ t fits. v.same_line t _ refl refl fits) m id held holds)
+        unless_holds v _ _ (line_changed v (amounts.with_more n)
+        (λ t fits. v.same_line t _ refl refl fits) m id held holds)
 
     line_given : (held : TrustLineAsset) (o : Option TrustLineEntry)
         → HoldsIf v (amounts.map_after_line_debit_of id held n m o)
     line_given held None = record { holds = tt }
     line_given held (Some t) =
-        unless_holds v _ _ (line_changed v (amounts.with_less n) (λ t fits. v.same_line t _ refl refl fits) m id held holds)
+        unless_holds v _ _ (line_changed v (amounts.with_less n)
+        (λ t fits. v.same_line t _ refl refl fits) m id held holds)
 
     issued_taken : (held : Asset) → HoldsIf v (amounts.map_after_issued_credit id held n m)
     issued_taken held =

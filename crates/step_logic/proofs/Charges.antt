@@ -41,7 +41,8 @@ recorded of (Some id) None nobody named = named
 recorded of (Some id) (Some ext) nobody named = named
 
 -- who pays for an owner: its sponsor, or itself
-pub payer_named : (v : Invariant) (owner : AccountId) (o : Option AccountId) → v.of.Sponsor (Some owner) → v.of.Sponsor o
+pub payer_named : (v : Invariant) (owner : AccountId) (o : Option AccountId) → v.of.Sponsor (Some owner)
+    → v.of.Sponsor o
     → v.of.Sponsor (Some (payer_by owner o))
 payer_named v owner None own named = own
 payer_named v owner (Some sponsor) own named = named

@@ -1,4 +1,4 @@
--- The steps of an operation, one behind another: what holds of what they give, and of the results that they end with.
+-- The steps of an operation, one after another: what holds of what they give, and of the results that they end with.
 use Rattle.entry_map.specs.EntryMap.{EntryMap}
 use Rattle.entry_slots.specs.Tests.{Tests, first_fault}
 use Rattle.op_form.specs.Faults.{fault_result}
@@ -89,7 +89,8 @@ abbrev pub AllPass : {F : Type 0} → Tests F → Type 0
 AllPass [] = Unit {0}
 AllPass (test ∷ others) = (test.0 ≡ false) × AllPass others
 
-pub charged : (x : Answering) (found : AddFault) (low : OperationResult) → x.Answer low → x.Answer (fault_result found low)
+pub charged : (x : Answering) (found : AddFault) (low : OperationResult) → x.Answer low
+    → x.Answer (fault_result found low)
 charged x fault.TooManySubentries low answer = x.too_many_subentries
 charged x fault.TooManySponsoring low answer = x.too_many_sponsoring
 charged x fault.LowReserve low answer = answer

@@ -32,7 +32,7 @@ pub record Before (w : Logic) (ctx : Ctx) (m : EntryMap) : Type 0 where
   pub entries : w.inv.Holds m
   pub context : w.Context ctx
 
--- and behind it
+-- and after it
 pub record Left (w : Logic) (done : Done) : Type 0 where
   pub entries : w.inv.Holds done.entries
   pub context : w.Context done.ctx

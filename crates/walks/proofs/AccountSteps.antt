@@ -56,7 +56,8 @@ create_steps x Q ctx op m done =
 pub account_created : (w : Logic) (ctx : Ctx) (op : CreateAccountOp) (m : EntryMap) → Before w ctx m
     → w.inv.of.Account (creating.new_account ctx op) → Leaves w (creating.create_account ctx op m)
 account_created w ctx op m before fits =
-    create_steps w.answers (Left w) ctx op m (λ added paid pass is also. left (tr.CreateAccount create.Success) tt before
+    create_steps w.answers (Left w) ctx op m
+    (λ added paid pass is also. left (tr.CreateAccount create.Success) tt before
     (found_holds w.inv _ paid also (lumens_debit_holds w.inv ctx ctx.op_source op.starting_balance added
     (made_holds w.inv _ added is (adding_account w.inv ctx op.destination (creating.new_entry ctx op)
     (creating.new_account ctx op) m refl (record { body = fits; sponsor = w.inv.nobody }) fits

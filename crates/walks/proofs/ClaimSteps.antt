@@ -48,14 +48,18 @@ use Rattle.op_types.specs.declared.trust_results.ClawbackResult.TheVariants as c
 
 pub create_balance_steps : (x : Answering) (Q : Done → Type 0) (ctx : Ctx) (op : CreateClaimableBalanceOp)
     (m : EntryMap)
-    → ((given added : EntryMap) → AllPass (creating.create_tests op) → is_some (balance_at m (creating.new_id ctx)) ≡ false
+    → ((given added : EntryMap) → AllPass (creating.create_tests op)
+    → is_some (balance_at m (creating.new_id ctx)) ≡ false
     → map_after_debit ctx ctx.op_source op.asset op.amount m ≡ Ok given
-    → map_after_adding ctx ctx.op_source (creating.new_balance ctx op (creating.can_claw_back ctx op m)) given ≡ Ok added
-    → Q (succeeded ctx (creating.answer (create.Success (creating.new_id ctx))) added (creating.create_move ctx op ∷ [])))
+    → map_after_adding ctx ctx.op_source (creating.new_balance ctx op (creating.can_claw_back ctx op m)) given
+    ≡ Ok added
+    → Q (succeeded ctx (creating.answer (create.Success (creating.new_id ctx))) added
+    (creating.create_move ctx op ∷ [])))
     → Ends x Q (creating.create_claimable_balance ctx op m)
 create_balance_steps x Q ctx op m done =
     past (creating.create_tests op) _ (x.bare (tr.CreateClaimableBalance create.Malformed) tt, tt)
-    (λ pass. past ((is_some (balance_at m (creating.new_id ctx)), NotSupported) ∷ []) (creating.given_and_added ctx op m)
+    (λ pass. past ((is_some (balance_at m (creating.new_id ctx)), NotSupported) ∷ [])
+    (creating.given_and_added ctx op m)
     (x.not_supported, tt)
     (λ free. past_step (map_after_debit ctx ctx.op_source op.asset op.amount m) creating.debit_result _ not_given
     (λ given is. past_charge
@@ -124,7 +128,8 @@ pub clawback_steps : (x : Answering) (Q : Done → Type 0) (ctx : Ctx) (op : Cla
     → ((line : TrustLineEntry) → AllPass (clawing.clawback_tests ctx op)
     → line_of_asset m (account_of op.from) op.asset ≡ Some line → AllPass (clawing.line_tests op.amount line)
     → Q (succeeded ctx (clawing.answer clawback.Success)
-    (with_line m (account_of op.from) (line_asset_of op.asset) (with_less op.amount)) (clawing.clawback_move ctx op ∷ [])))
+    (with_line m (account_of op.from) (line_asset_of op.asset) (with_less op.amount))
+    (clawing.clawback_move ctx op ∷ [])))
     → Ends x Q (clawing.clawback ctx op m)
 clawback_steps x Q ctx op m done =
     past (clawing.clawback_tests ctx op) _ (code clawback.Malformed, tt)

@@ -148,7 +148,8 @@ module _ (base : ℕ) (rounding : Rounding) (left : Left) (o : OfferEntry) (m : 
         (same_given t o (new j) open_t.exists refl refl base w)
         (sells_fit k.view k.id_pool base k.owed k.right o sum_then t open_t j amount is) in
         still_may t (now j) w (pos (bound_of (new j)).wheat) (account_keeps t o (new j) open_t.exists refl refl)
-        (available_may k.view k.id_pool owed_t sum_then t open_t.legal base covered w (bound_of (new j)).wheat has_wheat)
+        (available_may k.view k.id_pool owed_t sum_then t open_t.legal base covered w
+        (bound_of (new j)).wheat has_wheat)
 
     then_crossable : IsCrossable (step base rounding left o m).entries
     then_crossable = record {

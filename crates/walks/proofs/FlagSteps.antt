@@ -26,7 +26,8 @@ use Rattle.op_types.specs.declared.trust_results.AllowTrustResult.TheVariants as
 use Rattle.op_types.specs.declared.trust_results.SetTrustLineFlagsResult.TheVariants as set
 
 module _ (w : Logic) (ctx : Ctx) (m : EntryMap) (before : Before w ctx m) where
-  line_flagged : (low succeeds : OperationResultTr) → IsBare low → IsBare succeeds → (trustor : AccountId) (held : Asset)
+  line_flagged : (low succeeds : OperationResultTr) → IsBare low → IsBare succeeds
+      → (trustor : AccountId) (held : Asset)
       (flags : ℕ) (line : TrustLineEntry) → DoBalancesFit w.inv ctx trustor → w.inv.of.Sponsor (Some trustor)
       → (w.inv.Asks → CanRevoke trustor m)
       → Leaves w (flagging.flagged ctx trustor held flags (Inner low) (Inner succeeds) line m)
@@ -46,7 +47,8 @@ module _ (w : Logic) (ctx : Ctx) (m : EntryMap) (before : Before w ctx m) where
       → (w.inv.Asks → CanRevoke op.trustor m) → Leaves w (allowing.allow_trust ctx op m)
   trust_allowed op fits named can =
       past (allowing.allow_tests ctx op) _ (w.answers.bare (tr.AllowTrust allow.Malformed) tt, tt)
-      (λ pass. past_some (line_of_asset m op.trustor (allowing.asset_allowed ctx op)) (allowing.answer allow.NoTrustLine)
+      (λ pass. past_some (line_of_asset m op.trustor (allowing.asset_allowed ctx op))
+      (allowing.answer allow.NoTrustLine)
       _ (w.answers.bare (tr.AllowTrust allow.NoTrustLine) tt)
       (λ line there. past_some (account_at m ctx.op_source) NoAccount _ w.answers.no_account
       (λ source exists. past (allowing.revoke_tests op source line) _

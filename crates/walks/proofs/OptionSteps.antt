@@ -76,7 +76,10 @@ pub options_steps : (x : Answering) (Q : Done → Type 0) (ctx : Ctx) (op : SetO
 options_steps x Q ctx op m done =
     past (tests.given_tests ctx.op_source op) _ (
       code x set.UnknownFlag,
-      (code x set.BadFlags, (code x set.ThresholdOutOfRange, (code x set.BadSigner, (code x set.InvalidHomeDomain, tt)))),
+      (
+        code x set.BadFlags,
+        (code x set.ThresholdOutOfRange, (code x set.BadSigner, (code x set.InvalidHomeDomain, tt))),
+      ),
     )
     (λ given. past (tests.inflation_tests op m) (options.options_of ctx op m (account_at m ctx.op_source))
     (code x set.InvalidInflation, tt)
@@ -99,7 +102,8 @@ pub options_set : (w : Logic) (ctx : Ctx) (op : SetOptionsOp) (m : EntryMap) →
     → Leaves w (options.set_options ctx op m)
 options_set w ctx op m before key keep =
     options_steps w.answers (Left w) ctx op m (λ account signed given there may is.
-    left (tr.SetOptions set.Success) tt before (account_changed w.inv (options.with_options op) (keep given.1.1.0) signed
+    left (tr.SetOptions set.Success) tt before
+    (account_changed w.inv (options.with_options op) (keep given.1.1.0) signed
     ctx.op_source (done_so w.answers w.inv.Holds (signers.map_after_signer ctx account m op.signer) signed
     (signer_steps w.answers w.inv.Holds ctx m account op.signer (record {
       same = before.entries;
@@ -166,7 +170,8 @@ data_managed w ctx op m before fits =
           (removing_holds w.inv (key.Data ctx.op_source op.data_name) m (w.inv.others _ tt) before.entries);
       added = λ value new pass given is made. left (tr.ManageData manage.Success) tt before
           (made_holds w.inv _ new made (adding_subentry w.inv ctx ctx.op_source
-          (managing.new_data ctx op.data_name value) 1 m (fits value given).0 (w.sponsor ctx ctx.op_source before.context)
+          (managing.new_data ctx op.data_name value) 1 m (fits value given).0
+          (w.sponsor ctx ctx.op_source before.context)
           before.entries));
       changed = λ value was pass given is. left (tr.ManageData manage.Success) tt before
           (data_changed w.inv (managing.with_value value) (fits value given).1 m ctx.op_source op.data_name

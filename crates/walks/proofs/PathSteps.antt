@@ -96,7 +96,8 @@ module _ (x : Answering) where
 abbrev pub received_so : Ctx → PathPaymentStrictReceiveOp → Carried → EntryMap → Done
 received_so ctx op carried new =
     succeeded ctx
-    (receiving.answer (got_code.Success (arrived carried.atoms (account_of op.destination) op.dest_asset op.dest_amount)))
+    (receiving.answer (got_code.Success
+    (arrived carried.atoms (account_of op.destination) op.dest_asset op.dest_amount)))
     new (path_moves ctx (account_of op.destination) op.send_asset (pos carried.amount) carried.atoms op.dest_asset
     op.dest_amount)
 

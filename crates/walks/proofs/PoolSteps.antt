@@ -45,7 +45,8 @@ pub deposit_steps : (x : Answering) (Q : Done → Type 0) (ctx : Ctx) (op : Liqu
 deposit_steps x Q ctx op m done =
     past (depositing_into.disabled_tests ctx) _ (x.not_supported, tt)
     (λ enabled. past (depositing_into.deposit_tests op) _ (code depositing.Malformed, tt)
-    (λ pass. past_some (line_at m ctx.op_source (line.PoolShare op.pool_id)) (depositing_into.answer depositing.NoTrust) _
+    (λ pass. past_some (line_at m ctx.op_source (line.PoolShare op.pool_id))
+    (depositing_into.answer depositing.NoTrust) _
     (code depositing.NoTrust)
     (λ share held. past_some (pool_at m op.pool_id) (depositing_into.answer depositing.NoTrust) _
     (code depositing.NoTrust)
@@ -78,7 +79,8 @@ may_take p d less =
       counted = λ le. le;
     }
 
-that_pool : (m : EntryMap) (id : Hash) (p q : LiquidityPoolEntry) → pool_at m id ≡ Some p → pool_at m id ≡ Some q → p ≡ q
+that_pool : (m : EntryMap) (id : Hash) (p q : LiquidityPoolEntry) → pool_at m id ≡ Some p → pool_at m id ≡ Some q
+    → p ≡ q
 that_pool m id p q exists at = cc
 
 pub deposited : (w : Logic) (ctx : Ctx) (op : LiquidityPoolDepositOp) (m : EntryMap) → Before w ctx m
@@ -111,7 +113,8 @@ withdraw_steps x Q ctx op m done =
     (λ pass. past_some (line_at m ctx.op_source (line.PoolShare op.pool_id))
     (withdrawing_from.answer withdrawing.NoTrust) _ (code withdrawing.NoTrust)
     (λ share held. past (withdrawing_from.share_tests op share) _ (code withdrawing.Underfunded, tt)
-    (λ enough. past_some (pool_at m op.pool_id) (withdrawing_from.answer withdrawing.NoTrust) _ (code withdrawing.NoTrust)
+    (λ enough. past_some (pool_at m op.pool_id) (withdrawing_from.answer withdrawing.NoTrust) _
+    (code withdrawing.NoTrust)
     (λ pool exists. past (withdrawing_from.taken_tests ctx op pool (part_of pool op.amount) m) _
     (code withdrawing.UnderMinimum, (code withdrawing.LineFull, tt))
     (λ may. record { ends = done share pool pass held enough exists may }))))))

@@ -34,7 +34,8 @@ pub begin_steps : (x : Answering) (Q : Done → Type 0) (ctx : Ctx) (op : BeginS
     → Q (succeeded (beginning.with_sponsorship_opened op ctx) (beginning.answer begin.Success) m []))
     → Ends x Q (beginning.begin_sponsoring ctx op m)
 begin_steps x Q ctx op m done =
-    past (beginning.begin_tests ctx op) _ (code begin.Malformed, (code begin.AlreadySponsored, (code begin.Recursive, tt)))
+    past (beginning.begin_tests ctx op) _
+    (code begin.Malformed, (code begin.AlreadySponsored, (code begin.Recursive, tt)))
     (λ pass. record { ends = done pass })
   where
     code : (c : BeginSponsoringFutureReservesResult) → x.Answer (beginning.answer c)

@@ -62,7 +62,8 @@ module _ (x : Answering) (Q : Done → Type 0) (ctx : Ctx) (held : Asset) (limit
       past ((int_eq limit (pos 0), trusting.answer trust.InvalidLimit) ∷ []) _ (code x trust.InvalidLimit, tt)
       (λ some. past_some (issuer_at m held) (trusting.answer trust.NoIssuer) _ (code x trust.NoIssuer)
       (λ issuer known. past_charge
-      (map_after_adding ctx ctx.op_source (trusting.new_line ctx held limit issuer) m) (trusting.answer trust.LowReserve)
+      (map_after_adding ctx ctx.op_source (trusting.new_line ctx held limit issuer) m)
+      (trusting.answer trust.LowReserve)
       _ (code x trust.LowReserve) (λ new made. record { ends = all.added issuer new pass there some.0 made })))
 
   pub trust_steps : Successes → Ends x Q (trusting.asset_trust ctx held limit m)

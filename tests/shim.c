@@ -31,6 +31,7 @@
 #include <sys/stat.h>
 #include <sys/syscall.h>
 #include <time.h>
+#include <sys/uio.h>
 #include <unistd.h>
 
 enum { DESCRIPTORS = 1024, FILES = 4, OTHER = FILES + 1 };
@@ -82,19 +83,18 @@ static int fails(void) {
 
 static void note(char kind, int file, uint64_t offset, const void *bytes, uint64_t count) {
     static int notes = -1;
-    static ssize_t (*real_write)(int, const void *, size_t);
     if (notes == -1) {
         const char *path = getenv("NOTES");
         int (*real_open)(const char *, int, ...) = dlsym(RTLD_NEXT, "open");
-        real_write = dlsym(RTLD_NEXT, "write");
         notes = path ? real_open(path, O_WRONLY | O_CREAT | O_APPEND, 0600) : -2;
     }
     if (notes < 0) return;
     char head[18] = {kind, (char)file};
     memcpy(head + 2, &offset, 8);
     memcpy(head + 10, &count, 8);
-    if (real_write(notes, head, 18) != 18) abort();
-    if (bytes && count && real_write(notes, bytes, count) != (ssize_t)count) abort();
+    /* in one call, since several threads write notes */
+    struct iovec parts[2] = {{head, 18}, {(void *)bytes, bytes ? count : 0}};
+    if (writev(notes, parts, 2) != (ssize_t)(18 + parts[1].iov_len)) abort();
 }
 
 int open(const char *path, int flags, ...) {

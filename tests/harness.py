@@ -17,6 +17,8 @@ from typing import Dict, Iterable, Iterator, List, Optional, Sequence, Tuple, Un
 TESTS = os.path.dirname(os.path.abspath(__file__))
 NETWORK = "Test SDF Network ; September 2015"
 FILES = ("image0", "image1", "journal0", "journal1")
+# the file of the store's lock, which has no bytes
+LOCK = "lock"
 # more seconds than any run here takes
 LIMIT = 120
 
@@ -92,7 +94,7 @@ def files_in(folder: str) -> Store:
     if not os.path.isdir(f"{folder}/ledger-store"):
         return {}
     found = {name: read_if_any(f"{folder}/ledger-store/{name}") for name in os.listdir(f"{folder}/ledger-store")}
-    return {name: data for name, data in found.items() if data or name not in FILES}
+    return {name: data for name, data in found.items() if data or name not in (*FILES, LOCK)}
 
 
 Note = Tuple[str, int, int, bytes]

@@ -38,6 +38,7 @@ import bridge_whole
 import cases
 import crate_list
 import generated
+import locks
 import stops
 import words
 from harness import TESTS, Program, Tally
@@ -87,7 +88,8 @@ def built(name: str, words: List[str]) -> str:
 
 def jobs_of(program: Program) -> List[Job]:
     """What is to be tried of a program, longest first."""
-    parts = [(module.check, (program, part)) for module in (beside, stops, adopting, words) for part in module.PARTS]
+    modules = (beside, stops, locks, adopting, words)
+    parts = [(module.check, (program, part)) for module in modules for part in module.PARTS]
     parts += [(bridge_made.check_program, (program, part)) for part in bridge_made.PARTS]
     return parts + [(cases.check, (program, name)) for name in cases.names()]
 

@@ -15,6 +15,8 @@
  *   AWAIT=1        a read of standard input waits until each thread that was started has found nothing to do
  *   TAKEN=1        each write to standard output is noted, as a letter m, with the bytes of memory that the first thread took so far as
  *                  its offset
+ *   OTHER_MAKER=1  another process makes the directory `ledger-store`, and a file in it, just before the program would
+ *                  make it
  *   REFUSED=N      the N-th call for memory is refused; with WORKERS_ALONE=1 calls of the first thread don't count
  *   COUNTED=PATH   the number of calls for memory is written to this file as the program ends
  */
@@ -28,10 +30,10 @@
 #include <stdio.h>
 #include <stdlib.h>
 #include <string.h>
+#include <sys/file.h>
 #include <sys/stat.h>
 #include <sys/syscall.h>
 #include <time.h>
-#include <sys/uio.h>
 #include <unistd.h>
 
 enum { DESCRIPTORS = 1024, FILES = 4, OTHER = FILES + 1 };
@@ -83,18 +85,19 @@ static int fails(void) {
 
 static void note(char kind, int file, uint64_t offset, const void *bytes, uint64_t count) {
     static int notes = -1;
+    static ssize_t (*real_write)(int, const void *, size_t);
     if (notes == -1) {
         const char *path = getenv("NOTES");
         int (*real_open)(const char *, int, ...) = dlsym(RTLD_NEXT, "open");
+        real_write = dlsym(RTLD_NEXT, "write");
         notes = path ? real_open(path, O_WRONLY | O_CREAT | O_APPEND, 0600) : -2;
     }
     if (notes < 0) return;
     char head[18] = {kind, (char)file};
     memcpy(head + 2, &offset, 8);
     memcpy(head + 10, &count, 8);
-    /* in one call, since several threads write notes */
-    struct iovec parts[2] = {{head, 18}, {(void *)bytes, bytes ? count : 0}};
-    if (writev(notes, parts, 2) != (ssize_t)(18 + parts[1].iov_len)) abort();
+    if (real_write(notes, head, 18) != 18) abort();
+    if (bytes && count && real_write(notes, bytes, count) != (ssize_t)count) abort();
 }
 
 int open(const char *path, int flags, ...) {
@@ -226,6 +229,29 @@ int fsync(int descriptor) {
     int done = real(descriptor);
     if (!done && store_file(descriptor)) note('s', store_file(descriptor), 0, 0, 0);
     return done;
+}
+
+int flock(int descriptor, int how) {
+    static int (*real)(int, int);
+    if (!real) real = dlsym(RTLD_NEXT, "flock");
+    if (store_file(descriptor) && fails()) return -1;
+    return real(descriptor, how);
+}
+
+int mkdir(const char *path, mode_t mode) {
+    static int (*real)(const char *, mode_t);
+    static int (*real_open)(const char *, int, ...);
+    if (!real) {
+        real = dlsym(RTLD_NEXT, "mkdir");
+        real_open = dlsym(RTLD_NEXT, "open");
+    }
+    if (file_of(path) && fails()) return -1;
+    if (file_of(path) && setting("OTHER_MAKER") > 0) {
+        real(path, mode);
+        int descriptor = real_open("ledger-store/image0", O_WRONLY | O_CREAT, 0600);
+        if (descriptor < 0 || ftruncate(descriptor, 1)) abort();
+    }
+    return real(path, mode);
 }
 
 int close(int descriptor) {

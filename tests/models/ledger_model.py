@@ -160,7 +160,7 @@ def set_options(frame, layer, source, op):
     refuse(sets & clears, -3)
     weights = [op[name] for name in ("master", "low", "medium", "high")]
     refuse(any((weight or 0) > 255 for weight in weights), -7)
-    refuse(signer is not None and (signer["key"] == (0, source) or signer["weight"] > 255), -8)
+    refuse(signer is not None and (signer["key"] == (0, source) or signer["weight"] > 255 or signer["key"][0] == 3), -8)
     refuse(op["domain"] is not None and not is_text(op["domain"]), -9)
     refuse(op["inflation"] is not None and layer.account(op["inflation"][1]) is None, -4)
     account = layer.account(source)
@@ -373,7 +373,9 @@ def source_of(tx_source, op):
 
 def checked(header, frame, layer, tx, source, signatures, pays):
     """What a transaction ends with before its operations, if it does. Its sequence number is used up on the way."""
-    operations, bounds = tx["operations"], tx["bounds"]
+    operations, (form, bounds) = tx["operations"], tx["asked"]
+    if form == 2:
+        return i32(-12)
     if not operations:
         return i32(-4)
     if bounds and bounds["least"] > frame.time:

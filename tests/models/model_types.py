@@ -1,4 +1,4 @@
-"""The types of the ledger of these models: the codec's table (tools/stellar_xdr.py), as protocol 18 has it, with the
+"""The types of the ledger of these models: the codec's table (tools/stellar_xdr.py), as the program has it, with the
 short names of these models.
 
 A value of a struct is a dict by the names below; of a union the number of its arm and what the arm holds, or None; of
@@ -78,7 +78,7 @@ class Encoded(Type):
 
 OPERATIONS = [kind for _, _, kind in xdr.OPERATIONS]
 PATH = "asset amount destination to_asset to_amount path"
-AFTER_SOURCE = "fee seq bounds memo operations ext"
+AFTER_SEQ = "memo operations ext"
 SIGNED = "tx signatures"
 SIDES = "a b fee reserve_a reserve_b shares lines"
 OFFERED = "selling buying amount price"
@@ -107,7 +107,7 @@ NAMES = {id(kind): names.split() for kind, names in [
     (OPERATIONS[19], "asset source amount"), (OPERATIONS[21], "trustor asset clear set"),
     (OPERATIONS[22], "pool a b least most"), (OPERATIONS[23], "pool amount a b"), (xdr.OPERATION, "source body"),
     (xdr.TIME_BOUNDS, "least most"), (xdr.SIGNATURES.item, "hint signature"),
-    (xdr.TRANSACTION_V0, f"source {AFTER_SOURCE}"), (xdr.TRANSACTION, f"source {AFTER_SOURCE}"),
+    (xdr.TRANSACTION_V0, f"source fee seq bounds {AFTER_SEQ}"), (xdr.TRANSACTION, f"source fee seq asked {AFTER_SEQ}"),
     (xdr.FEE_BUMP_TRANSACTION, "source fee inner ext"),
     *((kind, SIGNED) for _, _, kind in xdr.TRANSACTION_ENVELOPE.arms.values()), (xdr.TRANSACTION_SET, "previous txs"),
     (xdr.STELLAR_VALUE, "set time upgrades ext"), (xdr.STELLAR_VALUE.fields["ext"].arms[1][2], "node signature"),

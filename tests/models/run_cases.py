@@ -210,7 +210,7 @@ def bad_records():
     bad("four bytes after it", lambda story: story.record() + bytes(4), "BadXdr 88 Trailing")
     bad("an extension 2", lambda story: story.record()[:-4] + u32(2), "BadXdr 84 BadEnum")
     bad("seven upgrades", lambda story: story.record(upgrades=[b""] * 7), "BadXdr 80 TooLong")
-    # with one: its type at 40, the source, the fee, the number, the flag of time bounds at 92, the memo at 96, and where it is empty the
+    # with one: its type at 40, the source, the fee, the number, the preconditions at 92, the memo at 96, and where it is empty the
     # count of operations at 100
 
     def with_bytes(at, data, envelope):
@@ -218,7 +218,9 @@ def bad_records():
 
     plain, noted = sent("a", 1, NOTHING), sent("a", 1, NOTHING, memo=u32(1) + var(b"x"))
     bad("an envelope of type 1", with_bytes(40, u32(1), plain), "BadXdr 40 BadEnum")
-    bad("a flag of 2", with_bytes(92, u32(2), plain), "BadXdr 92 BadFlag")
+    bad("preconditions 3", with_bytes(92, u32(3), plain), "BadXdr 92 BadEnum")
+    # the first version has no type of its source: there the low half of the number is the flag
+    bad("a flag of 2", with_bytes(40, u32(0), sent("a", 2, NOTHING)), "BadXdr 88 BadFlag")
     bad("a memo that isn't filled up with zeros", with_bytes(105, b"\1", noted), "BadXdr 105 Padding")
     # a count far above what follows takes no more room than what follows asks for: the bytes run out at once, and not the memory
     bad("a count of 4294967295 envelopes and 8 bytes", lambda story: story.record()[:36] + u32(2**32 - 1) + u32(2) + u32(0), "BadXdr 48 Short")

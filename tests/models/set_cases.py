@@ -395,12 +395,14 @@ NOTHING = bump_sequence(0)
 
 
 class Tx:
-    def __init__(self, source, seq, operations, fee=100, bounds=None, memo=u32(0)):
+    def __init__(self, source, seq, operations, fee=100, bounds=None, memo=u32(0), asked=None):
+        """`asked` has preconditions as bytes, in place of bounds."""
         self.source, self.seq, self.operations, self.fee, self.bounds, self.memo = source, seq, operations, fee, bounds, memo
+        self.asked = asked
 
     def tail(self):
-        bounds = maybe(None if self.bounds is None else u64(self.bounds[0]) + u64(self.bounds[1]))
-        return u32(self.fee) + i64(self.seq) + bounds + self.memo + many(self.operations) + u32(0)
+        asked = self.asked or maybe(None if self.bounds is None else u64(self.bounds[0]) + u64(self.bounds[1]))
+        return u32(self.fee) + i64(self.seq) + asked + self.memo + many(self.operations) + u32(0)
 
     def xdr(self):
         return muxed(self.source) + self.tail()
@@ -451,11 +453,20 @@ class Bump:
         return u32(5) + self.bump + many(self.signatures)
 
 
-def sent(source, seq, *operations, fee=100, signers=None, signatures=None, bounds=None, memo=u32(0)):
+def second_form(bounds=None, ledgers=None, seq=None, age=0, gap=0, signers=()):
+    """Preconditions of the second form."""
+    return (
+        u32(2) + maybe(None if bounds is None else u64(bounds[0]) + u64(bounds[1]))
+        + maybe(None if ledgers is None else u32(ledgers[0]) + u32(ledgers[1])) + maybe(None if seq is None else i64(seq))
+        + u64(age) + u32(gap) + many(signers)
+    )
+
+
+def sent(source, seq, *operations, fee=100, signers=None, signatures=None, bounds=None, memo=u32(0), asked=None):
     """A transaction that its source signs, or that `signers` sign."""
     if signatures is None:
         signatures = by(*([account_name(source)] if signers is None else signers))
-    return Signed(Tx(source, seq, list(operations), fee, bounds, memo), signatures)
+    return Signed(Tx(source, seq, list(operations), fee, bounds, memo, asked), signatures)
 
 
 def bumped(payer, fee, inner, signers=None, signatures=None):
@@ -825,9 +836,23 @@ def operations():
 
 
 def first_version():
-    """Transactions of the first version."""
+    """Transactions of the first version, and those with preconditions of the second form."""
     case("not_supported", [A], [First(Tx("a", 1, [NOTHING]), by("a"))], [(100, NOT_SUPPORTED)], 100, [A.but(balance=999_999_900)])
+    # preconditions of the second form, whatever they ask, before all other checks; the fee is kept, and no number is used up
+    signed_payload = u32(3) + bytes([7] * 32) + u32(1) + b"x\0\0\0"
+    for name, asked in [
+        ("second_form_of_nothing", second_form()), ("second_form_of_times", second_form(bounds=(1_001, 999))),
+        ("second_form_of_all", second_form((0, 0), (6, 7), 0, 1, 1, [signed_payload, u32(2) + bytes(32)])),
+    ]:
+        case(name, [A], [sent("a", 1, NOTHING, asked=asked)], [(100, NOT_SUPPORTED)], 100, [A.but(balance=999_999_900)])
+        case(f"{name}_first", [A], [sent("a", 9, fee=50, signatures=[], asked=asked)], [(50, NOT_SUPPORTED)], 50,
+             [A.but(balance=999_999_950)])
     case("not_supported_first", [A], [First(Tx("a", 9, [], 50, (1_001, 999)), [])], [(50, NOT_SUPPORTED)], 50, [A.but(balance=999_999_950)])
+    # a signed payload is no signer, whatever it weighs
+    for name, payload in [("payload_signer", b"x"), ("payload_signer_of_64", b"y" * 64), ("payload_signer_of_nothing", b"")]:
+        for weight in (0, 1):
+            case(f"{name}_of_weight_{weight}", [A], [sent("a", 1, set_options(signer=(3, bytes([7] * 32) + var(payload), weight)))],
+                 [(100, failed(ran(OPTIONS, -8)))], 100, [A.but(balance=999_999_900, seq=1)])
     # its pre-authorised signers are used up all the same
     tx = Tx("a", 1, [NOTHING, bump_sequence(0, source="b")], 200)
     a, b = [e.but(signers=e.fields["signers"] + [preauth(tx.hash)]) for e in (A, B)]

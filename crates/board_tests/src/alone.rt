@@ -6,11 +6,11 @@ ghost use Rattle.merge_board.specs.Parts.{IsBoardIn, IsWorkerOf, IsWorkerEndOf, 
 
 use crate::jobs::job;
 use merge_board::*;
-use outside::{OpenGate, Steps};
 use std::alloc::{AllocError, Global};
 use std::marker::Brand;
 use std::sync::Wait;
 use std::sync::ledger::{Blank, Ledger};
+use steps::{OpenGate, Steps};
 
 /// Ends workers that haven't run.
 fn finish_all(

@@ -11,12 +11,12 @@ use crate::hold::Hold;
 use crate::jobs::job;
 use crate::slots::{ClosingSide, WorkerSlot};
 use merge_board::*;
-use outside::Steps;
 use std::alloc::{AllocError, Global};
 use std::marker::Brand;
 use std::sync::Wait;
 use std::sync::ledger::{Blank, Ledger};
 use std::thread::{self, Threads, join_mut};
+use steps::Steps;
 
 /// The worker of a place runs, and what is left of it stays there.
 fn work_on<R: Wait, L: Ledger>(

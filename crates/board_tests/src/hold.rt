@@ -1,8 +1,8 @@
 //! A gate that holds a worker before one merge.
 
-use outside::Gate;
 use std::sync::atomic::{AtomicU64, Ordering};
 use std::thread;
+use steps::Gate;
 
 // How often each side looks, at most.
 const LOOKS: u64 = 100_000_000;

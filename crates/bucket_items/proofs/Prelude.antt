@@ -14,7 +14,8 @@ pub use Rattle.bucket_items.specs.KeyRef.{key_seen}
 pub use Rattle.bucket_items.specs.KeyText.{AreByBytes, IsKeyText}
 pub use Rattle.bucket_items.specs.MarkedItem.{IsEncodable, TakesItem, after_mark, item_at, item_in, max_item_len}
 pub use Rattle.bucket_items.specs.MarkedItem.{record_of}
-pub use Rattle.ledger_types.specs.KeyOrder.{account_cmp, bytes_cmp, hash_cmp, key_cmp, key_kind, line_cmp}
+pub use Rattle.ledger_types.specs.Bytes.{bytes_cmp}
+pub use Rattle.ledger_types.specs.KeyOrder.{account_cmp, hash_cmp, key_cmp, key_kind, line_cmp}
 pub use Rattle.ledger_types.specs.Keys.{key_of, key_of_body}
 pub use Rattle.ledger_types.specs.declared.asset.TrustLineAsset.{TrustLineAsset}
 pub use Rattle.ledger_types.specs.declared.bucket.BucketEntry.{BucketEntry}

@@ -19,11 +19,11 @@ use crate::spills::spills;
 use bucket_core::Bucket;
 use bucket_merge::{MergeJob, merge_fresh};
 use ledger_types::Hash;
-use outside::Steps;
 use std::alloc::AllocError;
 use std::marker::Model;
 use std::sync::Arc;
 use std::sync::ledger::Ledger;
+use steps::Steps;
 
 /// The files that levels have after a step, and the number of the ledger that it closes.
 #[derive(Drop)]

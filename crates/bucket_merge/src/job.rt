@@ -6,10 +6,10 @@ ghost use Rattle.bucket_core.specs.File.{count_of};
 use crate::merge::merge;
 use crate::out::MergeOut;
 use bucket_core::Bucket;
-use outside::Steps;
 use std::marker::Model;
 use std::sync::Arc;
 use std::sync::ledger::Ledger;
+use steps::Steps;
 
 /// A merge of a level that is to be made: the older input `curr` and the newer one `snap`.
 #[derive(Drop)]

@@ -10,10 +10,10 @@ use crate::record::put_number;
 use crate::side::{Side, side_of};
 use crate::take::take_first_key;
 use bucket_core::Bucket;
-use outside::Steps;
 use std::alloc::AllocError;
 use std::sync::Arc;
 use std::sync::ledger::Ledger;
+use steps::Steps;
 
 /// Writes META of a version, or nothing for an empty merge.
 fn write_meta(version: Option<u32>, file: &mut Vec<u8>) -> Result<(), AllocError>

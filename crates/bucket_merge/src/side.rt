@@ -8,8 +8,8 @@ ghost use Rattle.bucket_merge.specs.Walk.{changes_of};
 ghost use Rattle.bucket_merge.specs.Pending.{Has};
 
 use bucket_core::{BucketCursor, BucketItem};
-use outside::Steps;
 use std::sync::ledger::Ledger;
+use steps::Steps;
 
 /// The items of a bucket that a merge has before it: the first in hand, where there is one, and those ahead of it.
 #[derive(Drop)]

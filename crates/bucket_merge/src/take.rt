@@ -9,10 +9,10 @@ ghost use Rattle.bucket_merge.specs.Pending as spec;
 use crate::side::Side;
 use crate::write::{write_joined, write_kept};
 use bucket_items::order;
-use outside::Steps;
 use std::alloc::AllocError;
 use std::cmp::Ordering;
 use std::sync::ledger::Ledger;
+use steps::Steps;
 
 /// How the keys in hand compare. A key comes before none.
 fn first_in_hand(older: &Side<'_>, newer: &Side<'_>) -> Ordering

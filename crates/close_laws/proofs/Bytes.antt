@@ -9,6 +9,7 @@ use prelude.{EachEntry}
 use prelude.{account_liabilities, second_in}
 use prelude.{sponsor_of, greatest_i64, Ctx, is_same_account, open_sponsor}
 use prelude.{IsEncoded}
+use prelude.{third_in, AccountEntryExtensionV3, extension_of, account_extension_v3, extension, pos}
 use Rattle.close_rules.specs.ledger_types.declared.ids.MuxedAccount.TheVariants as muxed
 use Rattle.close_rules.specs.ledger_types.declared.entry.LedgerEntryBody.TheVariants as body
 use Rattle.close_rules.specs.xdr_entries.Basic as basic
@@ -56,6 +57,14 @@ sponsors_in (Some ext) = ext.signer_sponsoring_ids
 abbrev pub recorded : AccountEntry → List (Option AccountId)
 recorded account = sponsors_in (second_in account.ext)
 
+-- what an account records of its sequence number
+abbrev pub IsStamp : Option AccountEntryExtensionV3 → Type 0
+IsStamp found = IsEncoded (extension_of (pos 3) account_extension_v3) found
+
+pub no_stamp : IsStamp None
+unfolding extension
+no_stamp = record { within = tt; sized = tt }
+
 abbrev pub IsKey : Signer → Type 0
 IsKey signer = IsEncoded signer_key signer.key
 
@@ -66,6 +75,7 @@ pub record AreAccountBytes (account : AccountEntry) : Type 0 where
   pub thresholds : IsEncoded (fixed 4) account.thresholds
   pub signers : All IsKey account.signers
   pub sponsors : All IsIdIf (recorded account)
+  pub stamp : IsStamp (third_in (second_in account.ext))
   -- what no balance bounds: an account whose balance falls by a fee may sell more than it has
   pub selling : (account_liabilities account).selling ≤ℤ greatest_i64
 

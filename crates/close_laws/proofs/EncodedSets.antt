@@ -2,7 +2,7 @@
 use Rattle.close_laws.proofs.Prelude.{◌≤◌, List, length, All, arith, ints, ℤ, ◌≤ℤ◌, FitsSigned, w64, greatest_i64}
 use Rattle.close_laws.proofs.Prelude.{Operation, OperationBody, Transaction, TransactionV1Envelope, TransactionEnvelope}
 use Rattle.close_laws.proofs.Prelude.{TransactionSet, i64, list_of, claimant, operation, operation_body}
-use Rattle.close_laws.proofs.Prelude.{bump_sequence_op, change_trust_op, create_claimable_balance_op, after_source}
+use Rattle.close_laws.proofs.Prelude.{bump_sequence_op, change_trust_op, create_claimable_balance_op, transaction_tail}
 use Rattle.close_laws.proofs.Prelude.{transaction, transaction_v0, transaction_v1_envelope, transaction_v0_envelope}
 use Rattle.close_laws.proofs.Prelude.{fee_bump_transaction, fee_bump_envelope, transaction_envelope, transaction_set}
 use Rattle.close_laws.proofs.Prelude.{CloseRecord, close_record, IsFit, operations_of, AreFit, AreAllFit, IsEncoded}
@@ -32,12 +32,12 @@ envelopes_few set encoded = few_encoded 4294967295 transaction_envelope set.txs 
 -- ---- transactions
 
 pub operations_encoded : (tx : Transaction) → IsEncoded transaction tx → IsEncoded (list_of 100 operation) tx.operations
-unfolding transaction after_source
+unfolding transaction transaction_tail
 operations_encoded tx encoded = record { within = encoded.within.1.1.1.1.1.0; sized = encoded.sized.1.1.1.1.1.0 }
 
 pub v0_operations_encoded : (tx : TransactionV0) → IsEncoded transaction_v0 tx
     → IsEncoded (list_of 100 operation) tx.operations
-unfolding transaction_v0 after_source
+unfolding transaction_v0 transaction_tail
 v0_operations_encoded tx encoded = record { within = encoded.within.1.1.1.1.1.0; sized = encoded.sized.1.1.1.1.1.0 }
 
 pub v1_encoded : (signed : TransactionV1Envelope) → IsEncoded transaction_v1_envelope signed

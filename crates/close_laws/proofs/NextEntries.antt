@@ -14,6 +14,7 @@ use prelude.{DoReservesFit, IsLegal, IsAccountInRange, AreLineFlags, IsTrustLine
 use prelude.{IsPoolInRange, IsBodyInRange, TransactionLaws, LegalSettles, SettledLegal, AreEncodable, finished}
 use prelude.{SetsConserve, ClosingState, IsEncoded, setting_in, applied_in, upgraded_header, IsClosable, AreClosed}
 use prelude.{EntriesStayEncodable}
+use prelude.{third_in}
 use Rattle.std.proofs.Common.{ℤ, pos}
 use Rattle.close_rules.specs.ledger_types.declared.asset.TrustLineAsset.TheVariants as line
 use Rattle.close_rules.specs.ledger_types.declared.entry.LedgerEntryBody.TheVariants as body
@@ -23,7 +24,8 @@ use Rattle.close_laws.proofs.Encoded.{each_encoded}
 use Rattle.close_laws.proofs.EncodedSets.{set_encoded}
 use Rattle.close_laws.proofs.Unrefused.{seq_below}
 use Rattle.close_laws.proofs.NextLegal.{can_close, next_settled, next_is_legal}
-use Rattle.close_laws.proofs.Bytes.{IsIdIf, no_id, IsKey, sponsors_in, AreAccountBytes, AreDataBytes, AreBodyBytes}
+use Rattle.close_laws.proofs.Bytes.{IsIdIf, no_id, IsStamp, no_stamp, IsKey, sponsors_in, AreAccountBytes}
+use Rattle.close_laws.proofs.Bytes.{AreDataBytes, AreBodyBytes}
 use Rattle.close_laws.proofs.Bytes.{AreLineBytes, AreBalanceBytes, AreOfferBytes, ArePoolBytes, AreEntryBytes, AreBytes}
 use Rattle.close_laws.proofs.BytesSets.{set_bytes}
 use Rattle.close_laws.proofs.ShortBalances.{AreLineNumbers, AreBalanceNumbers}
@@ -53,6 +55,16 @@ unfolding extension
 second_sponsors None encoded = All-nil IsIdIf
 second_sponsors (Some ext) encoded = v2_sponsors ext (record { within = encoded.within; sized = encoded.sized })
 
+v2_stamp : (ext : AccountEntryExtensionV2) → IsEncoded account_extension_v2 ext → IsStamp ext.ext
+unfolding account_extension_v2
+v2_stamp ext encoded = record { within = encoded.within.1.1.1; sized = encoded.sized.1.1.1 }
+
+second_stamp : (second : Option AccountEntryExtensionV2)
+    → IsEncoded (extension_of (pos 2) account_extension_v2) second → IsStamp (third_in second)
+unfolding extension
+second_stamp None encoded = no_stamp
+second_stamp (Some ext) encoded = v2_stamp ext (record { within = encoded.within; sized = encoded.sized })
+
 v1_second : (ext : AccountEntryExtensionV1) → IsEncoded account_extension_v1 ext
     → IsEncoded (extension_of (pos 2) account_extension_v2) ext.ext
 unfolding account_extension_v1
@@ -64,6 +76,13 @@ unfolding extension
 ext_sponsors None encoded = All-nil IsIdIf
 ext_sponsors (Some ext) encoded =
     second_sponsors ext.ext (v1_second ext (record { within = encoded.within; sized = encoded.sized }))
+
+ext_stamp : (ext : Option AccountEntryExtensionV1) → IsEncoded (extension_of (pos 1) account_extension_v1) ext
+    → IsStamp (third_in (second_in ext))
+unfolding extension
+ext_stamp None encoded = no_stamp
+ext_stamp (Some ext) encoded =
+    second_stamp ext.ext (v1_second ext (record { within = encoded.within; sized = encoded.sized }))
 
 signers_encoded : (account : AccountEntry) → IsEncoded account_entry account
     → IsEncoded (list_of 20 signer) account.signers
@@ -102,6 +121,7 @@ account_bytes account encoded = record {
   thresholds = record { within = encoded.within.1.1.0; sized = encoded.sized.1.1.0 };
   signers = all_keys account.signers (signers_encoded account encoded);
   sponsors = ext_sponsors account.ext (record { within = encoded.within.1.1.1.1; sized = encoded.sized.1.1.1.1 });
+  stamp = ext_stamp account.ext (record { within = encoded.within.1.1.1.1; sized = encoded.sized.1.1.1.1 });
   selling = ext_selling account.ext (record { within = encoded.within.1.1.1.1; sized = encoded.sized.1.1.1.1 });
 }
 

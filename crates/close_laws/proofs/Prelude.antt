@@ -52,8 +52,8 @@ pub use Rattle.close_rules.specs.State.{ClosingState, IsClosingState, IsEncoded,
 pub use Rattle.close_rules.specs.entry_changes.Encodable.{AreEncodable, IsEntryEncodable}
 pub use Rattle.close_rules.specs.entry_changes.Next.{AreNextEntries, IsNextAt, stamped}
 pub use Rattle.close_rules.specs.entry_slots.AccountExtensions.{account_liabilities, liabilities_in}
-pub use Rattle.close_rules.specs.entry_slots.AccountExtensions.{num_sponsored, num_sponsoring, second_in, sponsored_in}
-pub use Rattle.close_rules.specs.entry_slots.AccountExtensions.{sponsoring_in, sponsorship_in}
+pub use Rattle.close_rules.specs.entry_slots.AccountExtensions.{num_sponsored, num_sponsoring, second_in, third_in}
+pub use Rattle.close_rules.specs.entry_slots.AccountExtensions.{sponsored_in, sponsoring_in, sponsorship_in}
 pub use Rattle.close_rules.specs.entry_slots.Accounts.{account_in}
 unfoldable pub use Rattle.close_rules.specs.entry_slots.Accounts.{account_at}
 pub use Rattle.close_rules.specs.entry_slots.EntrySponsor.{sponsor_in, sponsor_of}
@@ -74,6 +74,7 @@ pub use Rattle.close_rules.specs.ledger_types.Keys.{key_of_body}
 pub use Rattle.close_rules.specs.ledger_types.declared.account.AccountEntry.{AccountEntry}
 pub use Rattle.close_rules.specs.ledger_types.declared.account.AccountEntryExtensionV1.{AccountEntryExtensionV1}
 pub use Rattle.close_rules.specs.ledger_types.declared.account.AccountEntryExtensionV2.{AccountEntryExtensionV2}
+pub use Rattle.close_rules.specs.ledger_types.declared.account.AccountEntryExtensionV3.{AccountEntryExtensionV3}
 pub use Rattle.close_rules.specs.ledger_types.declared.asset.Asset.{Asset}
 pub use Rattle.close_rules.specs.ledger_types.declared.asset.PoolParams.{PoolParams}
 pub use Rattle.close_rules.specs.ledger_types.declared.asset.TrustLineAsset.{TrustLineAsset}
@@ -163,11 +164,14 @@ unfoldable pub use Rattle.close_rules.specs.xdr_entries.Basic.{account_id, asset
 unfoldable pub use Rattle.close_rules.specs.xdr_entries.Basic.{claimable_balance_id, hash, liabilities, muxed_account}
 unfoldable pub use Rattle.close_rules.specs.xdr_entries.Basic.{signer, signer_key}
 pub use Rattle.close_rules.specs.xdr_entries.Entries.{account_fields, account_v1_fields, account_v2_fields}
+pub use Rattle.close_rules.specs.xdr_entries.Entries.{account_v3_fields}
 pub use Rattle.close_rules.specs.xdr_entries.Entries.{balance_fields, balance_v1_fields, claimant_fields, data_fields}
 pub use Rattle.close_rules.specs.xdr_entries.Entries.{entry_fields, entry_v1_fields, line_fields, line_v1_fields}
 pub use Rattle.close_rules.specs.xdr_entries.Entries.{line_v2_fields, offer_fields, pool_fields}
 unfoldable pub use Rattle.close_rules.specs.xdr_entries.Entries.{account_entry, account_extension_v1}
-unfoldable pub use Rattle.close_rules.specs.xdr_entries.Entries.{account_extension_v2, account_head, account_tail}
+unfoldable pub use Rattle.close_rules.specs.xdr_entries.Entries.{account_extension_v2, account_extension_v3}
+unfoldable pub use Rattle.close_rules.specs.xdr_entries.Entries.{account_head}
+unfoldable pub use Rattle.close_rules.specs.xdr_entries.Entries.{account_tail}
 unfoldable pub use Rattle.close_rules.specs.xdr_entries.Entries.{claimable_balance_entry}
 unfoldable pub use Rattle.close_rules.specs.xdr_entries.Entries.{claimable_balance_extension_v1, claimant, data_entry}
 unfoldable pub use Rattle.close_rules.specs.xdr_entries.Entries.{ledger_entry, ledger_entry_body}

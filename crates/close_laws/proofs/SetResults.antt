@@ -227,7 +227,7 @@ early_plain pays base_fee ctx tx m =
     fault_plain (first_fault (checks.own_tests pays base_fee ctx tx))
     (first_fault (checks.source_tests tx.seq_num (account_at m (checks.source_account tx))))
     (first_plain (checks.own_tests pays base_fee ctx tx)
-    (missing_operation, (too_early, (too_late, (insufficient_fee, tt)))))
+    (not_supported, (missing_operation, (too_early, (too_late, (insufficient_fee, tt))))))
     (first_plain (checks.source_tests tx.seq_num (account_at m (checks.source_account tx))) (no_source, (bad_seq, tt)))
 
 either_plain : (b : Bool) (x y : Option TransactionOutcome) → MaybePlain x → MaybePlain y

@@ -1,15 +1,17 @@
 -- Entries are short enough for a bucket's file.
 use Rattle.close_laws.proofs.Prelude as prelude
 use prelude.{ℕ, ◌<◌, ◌≤◌, List, ◌++◌, length, All, Option, Some, None, arith, ◌≤ℤ◌, AccountId, Signer, AccountEntry}
-use prelude.{AccountEntryExtensionV1, AccountEntryExtensionV2, DataEntry, LedgerEntry, LedgerEntryBody}
+use prelude.{AccountEntryExtensionV1, AccountEntryExtensionV2, AccountEntryExtensionV3, DataEntry, LedgerEntry}
+use prelude.{LedgerEntryBody}
 use prelude.{LedgerEntryExtensionV1, i32, optional, extension_of, account_id, signer_key, signer, account_extension_v2}
 use prelude.{account_extension_v1, account_head, account_tail, account_entry, account_v2_fields, account_v1_fields}
 use prelude.{account_fields, data_fields, entry_v1_fields, entry_fields, data_entry, ledger_entry_body}
 use prelude.{ledger_entry_extension_v1, ledger_entry, liabilities_in, second_in, sponsored_in, sponsoring_in}
 use prelude.{sponsor_in, greatest_i64, IsEntryEncodable, IsEncoded}
+use prelude.{third_in, account_v3_fields, account_extension_v3, u32, u64, extension}
 use Rattle.std.proofs.Common.{ℤ, pos}
 use Rattle.close_rules.specs.ledger_types.declared.entry.LedgerEntryBody.TheVariants as body
-use Rattle.close_laws.proofs.Bytes.{IsIdIf, sponsors_in, AreAccountBytes, AreDataBytes, AreBodyBytes}
+use Rattle.close_laws.proofs.Bytes.{IsIdIf, IsStamp, sponsors_in, AreAccountBytes, AreDataBytes, AreBodyBytes}
 use Rattle.close_laws.proofs.Bytes.{AreEntryBytes}
 use Rattle.close_laws.proofs.Short as short
 use Rattle.close_laws.proofs.Short.{IsShort}
@@ -33,36 +35,59 @@ pub record AreNumbers (ext : Option AccountEntryExtensionV1) : Type 0 where
 ids_short : (ids : List (Option AccountId)) → All IsIdIf ids → All (IsShort (optional account_id) 43) ids
 ids_short ids all = λ k d within. id_if_short _ (all k d within)
 
+u32_of : (n : ℕ) → u32.sized n → n < 4294967296
+unfolding u32
+u32_of n sized = omega (arith, sized)
+
+u64_of : (n : ℕ) → u64.sized n → n < 18446744073709551616
+unfolding u64
+u64_of n sized = omega (arith, sized)
+
+v3_short : (ext : AccountEntryExtensionV3) → IsEncoded account_extension_v3 ext → IsShort account_extension_v3 16 ext
+unfolding account_extension_v3
+v3_short ext encoded =
+    short.short_struct account_v3_fields (short.short_marked (pos 0)
+    (short.short_both (short.short_u32 ext.seq_ledger (u32_of ext.seq_ledger encoded.sized.1.0))
+    (short.short_u64 ext.seq_time (u64_of ext.seq_time encoded.sized.1.1))))
+
+stamp_short : (stamp : Option AccountEntryExtensionV3) → IsStamp stamp
+    → IsShort (extension_of (pos 3) account_extension_v3) 20 stamp
+unfolding extension
+stamp_short None encoded = short.no_extension (pos 3) account_extension_v3 16
+stamp_short (Some ext) encoded =
+    short.some_extension (pos 3) account_extension_v3 16 ext
+    (v3_short ext (record { within = encoded.within; sized = encoded.sized }))
+
 v2_short : (ext : AccountEntryExtensionV2) → ext.num_sponsored < 4294967296 → ext.num_sponsoring < 4294967296
-    → length ext.signer_sponsoring_ids ≤ 20 → All IsIdIf ext.signer_sponsoring_ids
-    → IsShort account_extension_v2 876 ext
+    → length ext.signer_sponsoring_ids ≤ 20 → All IsIdIf ext.signer_sponsoring_ids → IsStamp ext.ext
+    → IsShort account_extension_v2 892 ext
 unfolding account_extension_v2
-v2_short ext sponsored sponsoring few all =
+v2_short ext sponsored sponsoring few all stamp =
     short.short_struct account_v2_fields (short.short_both (short.short_u32 ext.num_sponsored sponsored)
     (short.short_both (short.short_u32 ext.num_sponsoring sponsoring)
-    (short.short_closed (pos 0) (short.short_list 20 (optional account_id) 43 ext.signer_sponsoring_ids few
-    (ids_short ext.signer_sponsoring_ids all)))))
+    (short.short_both (short.short_list 20 (optional account_id) 43 ext.signer_sponsoring_ids few
+    (ids_short ext.signer_sponsoring_ids all)) (stamp_short ext.ext stamp))))
 
 second_short : (second : Option AccountEntryExtensionV2) → sponsored_in second < 4294967296
     → sponsoring_in second < 4294967296 → length (sponsors_in second) ≤ 20 → All IsIdIf (sponsors_in second)
-    → IsShort (extension_of (pos 2) account_extension_v2) 880 second
-second_short None sponsored sponsoring few all = short.no_extension (pos 2) account_extension_v2 876
-second_short (Some ext) sponsored sponsoring few all =
-    short.some_extension (pos 2) account_extension_v2 876 ext (v2_short ext sponsored sponsoring few all)
+    → IsStamp (third_in second) → IsShort (extension_of (pos 2) account_extension_v2) 896 second
+second_short None sponsored sponsoring few all stamp = short.no_extension (pos 2) account_extension_v2 892
+second_short (Some ext) sponsored sponsoring few all stamp =
+    short.some_extension (pos 2) account_extension_v2 892 ext (v2_short ext sponsored sponsoring few all stamp)
 
 v1_short : (ext : AccountEntryExtensionV1) → AreNumbers (Some ext) → All IsIdIf (sponsors_in (second_in (Some ext)))
-    → IsShort account_extension_v1 896 ext
+    → IsStamp (third_in (second_in (Some ext))) → IsShort account_extension_v1 912 ext
 unfolding account_extension_v1
-v1_short ext numbers all =
+v1_short ext numbers all stamp =
     short.short_struct account_v1_fields (short.short_both
     (liabilities_short ext.liabilities numbers.buying_low numbers.buying_high numbers.selling_low numbers.selling_high)
-    (second_short ext.ext numbers.sponsored numbers.sponsoring numbers.few all))
+    (second_short ext.ext numbers.sponsored numbers.sponsoring numbers.few all stamp))
 
 ext_short : (ext : Option AccountEntryExtensionV1) → AreNumbers ext → All IsIdIf (sponsors_in (second_in ext))
-    → IsShort (extension_of (pos 1) account_extension_v1) 900 ext
-ext_short None numbers all = short.no_extension (pos 1) account_extension_v1 896
-ext_short (Some ext) numbers all =
-    short.some_extension (pos 1) account_extension_v1 896 ext (v1_short ext numbers all)
+    → IsStamp (third_in (second_in ext)) → IsShort (extension_of (pos 1) account_extension_v1) 916 ext
+ext_short None numbers all stamp = short.no_extension (pos 1) account_extension_v1 912
+ext_short (Some ext) numbers all stamp =
+    short.some_extension (pos 1) account_extension_v1 912 ext (v1_short ext numbers all stamp)
 
 -- ---- accounts
 
@@ -79,7 +104,7 @@ pub record AreAccountNumbers (account : AccountEntry) : Type 0 where
   pub ext : AreNumbers account.ext
 
 all_signers : (signers : List Signer) → All (λ one. IsEncoded signer_key one.key) signers
-    → All (λ one. one.weight ≤ 255) signers → All (IsShort signer 43) signers
+    → All (λ one. one.weight ≤ 255) signers → All (IsShort signer 114) signers
 all_signers signers keys weights = λ k d within. signer_short _ (keys k d within) (weights k d within)
 
 head_short : (account : AccountEntry) → AreAccountBytes account → AreAccountNumbers account → IsShort account_head 106 (
@@ -102,17 +127,17 @@ head_short account bytes numbers =
     smaller le = omega arith
 
 tail_short : (account : AccountEntry) → AreAccountBytes account → AreAccountNumbers account
-    → IsShort account_tail 1810 (account.home_domain, (account.thresholds, (account.signers, account.ext)))
+    → IsShort account_tail 3246 (account.home_domain, (account.thresholds, (account.signers, account.ext)))
 unfolding account_tail
 tail_short account bytes numbers =
     short.short_both (short.short_var 32 account.home_domain bytes.home_domain)
     (short.short_both (short.short_fixed 4 account.thresholds bytes.thresholds)
-    (short.short_both (short.short_list 20 signer 43 account.signers numbers.signers
+    (short.short_both (short.short_list 20 signer 114 account.signers numbers.signers
     (all_signers account.signers bytes.signers numbers.weights))
-    (ext_short account.ext numbers.ext bytes.sponsors)))
+    (ext_short account.ext numbers.ext bytes.sponsors bytes.stamp)))
 
 account_short : (account : AccountEntry) → AreAccountBytes account → AreAccountNumbers account
-    → IsShort account_entry 1916 account
+    → IsShort account_entry 3352 account
 unfolding account_entry
 account_short account bytes numbers =
     short.short_struct account_fields (short.short_both (head_short account bytes numbers)
@@ -137,16 +162,16 @@ AreBodyNumbers (body.Offer offer) = offer.flags ≤ 1
 AreBodyNumbers (body.LiquidityPool pool) = ArePoolNumbers pool
 AreBodyNumbers other = Unit {0}
 
--- an arm of at most 2351 bytes, the most that a claimable balance has
-body_arm : (mark : ℤ) (bytes : List ℕ) (n : ℕ) → n ≤ 2351 → length bytes ≤ n
-    → length (i32.encoding mark ++ bytes) ≤ 2355
-body_arm mark bytes n le few = short.marked_len mark bytes 2351 (short.longer n 2351 le few)
+-- an arm of at most 3352 bytes, the most that an account has
+body_arm : (mark : ℤ) (bytes : List ℕ) (n : ℕ) → n ≤ 3352 → length bytes ≤ n
+    → length (i32.encoding mark ++ bytes) ≤ 3356
+body_arm mark bytes n le few = short.marked_len mark bytes 3352 (short.longer n 3352 le few)
 
-body_short : (of : LedgerEntryBody) → AreBodyBytes of → AreBodyNumbers of → IsShort ledger_entry_body 2355 of
+body_short : (of : LedgerEntryBody) → AreBodyBytes of → AreBodyNumbers of → IsShort ledger_entry_body 3356 of
 unfolding ledger_entry_body
 body_short (body.Account account) bytes numbers =
     let rest = account_short account bytes numbers in
-    record { within = rest.within; sized = rest.sized; short = body_arm (pos 0) _ 1916 (omega arith) rest.short }
+    record { within = rest.within; sized = rest.sized; short = body_arm (pos 0) _ 3352 (omega arith) rest.short }
 body_short (body.TrustLine held) bytes numbers =
     let rest = line_short held bytes numbers in
     record { within = rest.within; sized = rest.sized; short = body_arm (pos 1) _ 149 (omega arith) rest.short }
@@ -175,7 +200,7 @@ extension_short (Some ext) named =
     short.some_extension (pos 1) ledger_entry_extension_v1 47 ext (sponsor_short ext named)
 
 entry_short : (e : LedgerEntry) → e.last_modified_ledger_seq < 4294967296 → AreEntryBytes e → AreBodyNumbers e.body
-    → IsShort ledger_entry 2410 e
+    → IsShort ledger_entry 3411 e
 unfolding ledger_entry
 entry_short e seq bytes numbers =
     short.short_struct entry_fields (short.short_both (short.short_u32 e.last_modified_ledger_seq seq)
@@ -189,5 +214,5 @@ entry_encodable e seq bytes numbers =
     record {
       within = found.within;
       sized = found.sized;
-      short = short.longer 2410 2147483643 (omega arith) found.short;
+      short = short.longer 3411 2147483643 (omega arith) found.short;
     }

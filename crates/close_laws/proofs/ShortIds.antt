@@ -1,5 +1,6 @@
 -- Ids, keys of signers, assets and liabilities are short.
-use Rattle.close_laws.proofs.Prelude.{◌≤◌, subst, Option, arith, ints, ◌≤ℤ◌, FitsSigned, w64, AccountId, Hash, Signer}
+use Rattle.close_laws.proofs.Prelude.{ℕ, List, ◌++◌, length, i32, ◌≤◌, subst, Option, arith, ints, ◌≤ℤ◌, FitsSigned}
+use Rattle.close_laws.proofs.Prelude.{w64, AccountId, Hash, Signer}
 use Rattle.close_laws.proofs.Prelude.{SignerKey, Liabilities, constant, optional, hash, hash_fields, account_id}
 use Rattle.close_laws.proofs.Prelude.{account_id_fields, signer_key, signer, signer_fields, liabilities}
 use Rattle.close_laws.proofs.Prelude.{liabilities_fields, greatest_i64, IsEncoded}
@@ -27,19 +28,28 @@ hash_short digest encoded =
     short.short_struct hash_fields (short.short_fixed 32 digest.0
     (record { within = encoded.within; sized = encoded.sized }))
 
-key_short : (key : SignerKey) → IsEncoded signer_key key → IsShort signer_key 39 key
+-- an arm of 32 bytes; the longest arm, a signed payload, has 106
+key_arm : (mark : ℤ) (bytes : List ℕ) → length bytes ≤ 35 → length (i32.encoding mark ++ bytes) ≤ 110
+key_arm mark bytes few = short.marked_len mark bytes 106 (short.longer 35 106 (omega arith) few)
+
+key_short : (key : SignerKey) → IsEncoded signer_key key → IsShort signer_key 110 key
 unfolding signer_key
 key_short (signing.Ed25519 key) encoded =
     let rest = short.short_fixed 32 key (record { within = encoded.within; sized = encoded.sized }) in
-    record { within = rest.within; sized = rest.sized; short = short.marked_len (pos 0) _ 35 rest.short }
+    record { within = rest.within; sized = rest.sized; short = key_arm (pos 0) _ rest.short }
 key_short (signing.PreAuthTx digest) encoded =
     let rest = hash_short digest (record { within = encoded.within; sized = encoded.sized }) in
-    record { within = rest.within; sized = rest.sized; short = short.marked_len (pos 1) _ 35 rest.short }
+    record { within = rest.within; sized = rest.sized; short = key_arm (pos 1) _ rest.short }
 key_short (signing.HashX digest) encoded =
     let rest = hash_short digest (record { within = encoded.within; sized = encoded.sized }) in
-    record { within = rest.within; sized = rest.sized; short = short.marked_len (pos 2) _ 35 rest.short }
+    record { within = rest.within; sized = rest.sized; short = key_arm (pos 2) _ rest.short }
+key_short (signing.SignedPayload key payload) encoded =
+    let rest = short.short_both
+    (short.short_fixed 32 key (record { within = encoded.within.0; sized = encoded.sized.0 }))
+    (short.short_var 64 payload (record { within = encoded.within.1; sized = encoded.sized.1 })) in
+    record { within = rest.within; sized = rest.sized; short = short.marked_len (pos 3) _ 106 rest.short }
 
-pub signer_short : (one : Signer) → IsEncoded signer_key one.key → one.weight ≤ 255 → IsShort signer 43 one
+pub signer_short : (one : Signer) → IsEncoded signer_key one.key → one.weight ≤ 255 → IsShort signer 114 one
 unfolding signer
 signer_short one encoded le =
     short.short_struct signer_fields (short.short_both (key_short one.key encoded)

@@ -66,7 +66,7 @@ files_within zero left [] is le = refl
 files_within zero left (first ∷ others) is le = absurd (cc is)
 files_within (suc n) left [] is le = absurd (cc is)
 files_within (suc n) left (first ∷ others) is le =
-    (omega (arith, le), files_within n (left - length first) others (omega (arith, is)) (omega (arith, le)))
+    (tt, (omega (arith, le), files_within n (left - length first) others (omega (arith, is)) (omega (arith, le))))
 
 are_within : (s : ClosingState) (image : StartImage) → IsClosingState s → AreFilesOf s.levels image.files
     → (files 22 max_file_total).within image.files

@@ -2,7 +2,7 @@
 use Rattle.bucket_levels.specs.entry_map.EntryMap.{EntryMap}
 use Rattle.close_laws.proofs.AllSteps.{Asked, FlagAsked, OfferAsked, any_left}
 use Rattle.close_laws.proofs.Bytes.{AreAccountBytes, IsClaimant, IsId, IsIdIf, IsKey, KeepsAccounts}
-use Rattle.close_laws.proofs.Bytes.{no_id, some_id}
+use Rattle.close_laws.proofs.Bytes.{no_id, no_stamp, some_id}
 use Rattle.close_laws.proofs.BytesPredicates.{claimants_fixed, unconditional_claimant}
 use Rattle.close_laws.proofs.Digests.{hash_encoded}
 use Rattle.close_laws.proofs.Encoded.{each_encoded}
@@ -102,6 +102,7 @@ new_account_bytes ctx op id = record {
   thresholds = four_bytes 1 0 0 0 (omega arith) (omega arith) (omega arith) (omega arith);
   signers = All-nil IsKey;
   sponsors = All-nil IsIdIf;
+  stamp = no_stamp;
   selling = omega (arith, ints);
 }
 
@@ -191,6 +192,7 @@ with_options_bytes op given range account bytes = record {
   thresholds = new_thresholds op account.thresholds range bytes.thresholds;
   signers = bytes.signers;
   sponsors = bytes.sponsors;
+  stamp = bytes.stamp;
   selling = bytes.selling;
 }
 

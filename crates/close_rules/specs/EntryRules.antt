@@ -14,6 +14,7 @@ use Rattle.tx_apply.specs.legal_rules.OfferIds.{AreOffersApart}
 use Rattle.tx_apply.specs.legal_rules.Needs.{needed_keys}
 use Rattle.tx_apply.specs.legal_rules.Bounds.{AreSubentriesFew, DoReservesFit, IsFilledOrEmpty}
 use Rattle.tx_apply.specs.legal_rules.Ranges.{IsEntryInRange}
+use Rattle.tx_apply.specs.legal_rules.Dated.{AreDated}
 use Rattle.tx_apply.specs.legal_rules.Legal.{pools_in, IsAggregated, AreLinesAuthorized}
 use Rattle.close_rules.specs.declared.image_fault.ImageRule.{ImageRule}
 use Rattle.close_rules.specs.declared.image_fault.ImageRule.TheVariants as rule
@@ -21,6 +22,7 @@ use Rattle.close_rules.specs.declared.image_fault.ImageRule.TheVariants as rule
 -- 7: each entry by itself, and the lines of offers are authorised
 pub record AreInRange (h : LedgerHeader) (m : EntryMap) : Type 0 where
   pub entries : EachEntry (λ k e. IsEntryInRange h.id_pool e) m
+  pub dated : AreDated h m
   pub authorized : EachEntry (λ k e. AreLinesAuthorized m e.body) m
 
 -- 8: owners, sponsors, pools and lines exist

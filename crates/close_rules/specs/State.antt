@@ -6,6 +6,7 @@ use Rattle.xdr_core.specs.declared.fault.XdrFault.{XdrFault}
 use Rattle.xdr_core.specs.Format.{Format}
 use Rattle.header_chain.specs.xdr_header.Header.{ledger_header}
 use Rattle.bucket_levels.specs.entry_map.EntryMap.{EntryMap}
+use Rattle.tx_apply.specs.legal_rules.Dated.{AreDated}
 use Rattle.tx_apply.specs.legal_rules.Legal.{IsLegal}
 use Rattle.bucket_levels.specs.Spills.{level_count}
 use Rattle.bucket_levels.specs.Pairs.{Pair}
@@ -33,6 +34,7 @@ max_file_total = 536870912
 -- a legal state, and levels that represent its entries and whose hash its header has
 pub record IsClosingState (s : ClosingState) : Type 0 where
   pub legal : IsLegal s.header s.entries
+  pub dated : AreDated s.header s.entries
   pub count : length s.levels ≡ level_count
   pub marked : AreWellMarked s.levels
   pub existing : Represent s.levels s.entries

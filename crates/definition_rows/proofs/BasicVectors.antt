@@ -201,7 +201,7 @@ signer_key_vectors : (has_value signer_key 36
     && has_fault signer_key Short 1 (hex "00")
     && has_fault signer_key Short 5 (hex "0000000283")
     && has_value signer_key 36 (hex "00000002f195241d0000000098c540104c9e566bfd387208e9b8b710d6d2eee129d3932fbebd63f3")
-    && has_fault signer_key BadEnum 0 (hex "000000034b68ab3847feda7d6c62c1fbcbeebfa35eab7351ed5e78f4ddadea5df64b8015")
+    && has_fault signer_key Short 36 (hex "000000034b68ab3847feda7d6c62c1fbcbeebfa35eab7351ed5e78f4ddadea5df64b8015")
     && has_value signer_key 36 (hex "00000002e968974d99b52e35f7ac699b1e36b2d4b9500c8ec170ef77bd8bf79faa07eab2")
     && has_value signer_key 36 (hex "000000028185740b365373b8000001006b3b217aa7c868ea7980ba7519eb44332f674dae")
     && has_value signer_key 36 (hex "000000010b078db5ba6a0ea20bf71aa5a39524ed234883ad0a516fa46aef18077763eba6")

@@ -4,7 +4,8 @@ use Rattle.definition_rows.proofs.Prelude as prelude
 use prelude.{◌≡◌, refl, ℕ, ℤ, pos, List, [], ◌∷◌, Bool, true, false, ◌&&◌, Ok, Err, bytes_eq, sha256, first_words}
 use prelude.{schedule, rounds, compress, hash_after, digest_bytes, LedgerHeader, XdrFault, Reading, start_of, u32, i32}
 use prelude.{i64, flag, fixed, count, opaque_at, constant, option, list, many_at, hash, muxed_account, operation}
-use prelude.{operation_body, second_body_arms, memo, after_source, transaction, fee_bump_transaction}
+use prelude.{operation_body, second_body_arms, preconditions, memo, transaction_tail, transaction}
+use prelude.{fee_bump_transaction}
 use prelude.{transaction_v1_envelope, fee_bump_envelope, transaction_envelope, transaction_set}
 use Rattle.std.proofs.Common.{◌++◌}
 use Rattle.op_types.specs.declared.transaction.TransactionEnvelope.{TransactionEnvelope}
@@ -22,7 +23,8 @@ decoded_passes test (Err fault) = false
 -- The set that bytes decode to passes a test.
 unfoldable set_passes : (encoding : List ℕ) → (TransactionSet → Bool) → Bool
 unfolding transaction_set hash transaction_envelope transaction_v1_envelope fee_bump_envelope transaction
-    fee_bump_transaction after_source memo muxed_account operation operation_body second_body_arms constant option list
+    fee_bump_transaction transaction_tail preconditions memo muxed_account operation operation_body second_body_arms
+    constant option list
     many_at u32 i32 i64 flag fixed count opaque_at hex
 set_passes encoding test = decoded_passes test (transaction_set.read (start_of encoding))
 

@@ -4,7 +4,8 @@ use Rattle.definition_rows.proofs.Prelude as prelude
 use prelude.{◌≡◌, refl, ℕ, List, replicate, Bool, true, false, ◌&&◌, Ok, Err, bytes_eq, sha256, first_words, schedule}
 use prelude.{rounds, compress, hash_after, digest_bytes, Hash, XdrFault, Reading, start_of, u32, u64, i32, i64, flag}
 use prelude.{fixed, var, count, opaque_at, constant, option, list, many_at, times, extension, Xdr, hash, muxed_account}
-use prelude.{operation, operation_body, second_body_arms, bump_sequence_op, memo, decorated_signature, after_source}
+use prelude.{operation, operation_body, second_body_arms, bump_sequence_op, preconditions, memo, decorated_signature}
+use prelude.{transaction_tail}
 use prelude.{transaction, transaction_v0, fee_bump_transaction, transaction_v1_envelope, transaction_v0_envelope}
 use prelude.{fee_bump_envelope, transaction_envelope, transaction_result_set, stellar_value, limits, counts}
 use prelude.{ledger_header}
@@ -83,8 +84,9 @@ transactions_have_the_hashes_that_another_sha256_makes : (
     && has_hash transaction_envelope (signed_hash_of test_network) fee_bump hash_of_fee_bump
     && has_hash transaction_envelope envelope_hash_of bump_sequence hash_of_envelope) ≡ true
 unfolding has_hash transaction_envelope transaction_v1_envelope transaction_v0_envelope fee_bump_envelope transaction
-    transaction_v0 fee_bump_transaction after_source decorated_signature memo muxed_account operation operation_body
-    second_body_arms bump_sequence_op constant option list many_at u32 i32 i64 flag fixed var count opaque_at
+    transaction_v0 fee_bump_transaction transaction_tail preconditions decorated_signature memo muxed_account operation
+    operation_body second_body_arms bump_sequence_op constant option list many_at u32 i32 i64 flag fixed var count
+    opaque_at
 transactions_have_the_hashes_that_another_sha256_makes = refl
 
 the_first_ledger_has_the_hash_that_the_network_published :

@@ -28,6 +28,7 @@ mod Validity
 mod Reserves
 mod Headers
 mod Signers
+mod Preconditions
 mod Identities
 mod Hashes
 mod Fees

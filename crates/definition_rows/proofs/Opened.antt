@@ -3,7 +3,8 @@ use Rattle.definition_rows.proofs.Prelude as prelude
 use prelude.{⊤, u32, u64, i32, i64, flag, opaque_at, fixed, count, var, mark, refused, constant, option, many_at, list}
 use prelude.{times, extension, hash, account_id, claimable_balance_id, muxed_account, signer_key, signer, asset}
 use prelude.{trust_line_asset, pool_params, change_trust_asset, price, liabilities, predicate_below}
-use prelude.{account_extension_v2, account_extension_v1, account_head, account_tail, account_entry}
+use prelude.{account_extension_v3, account_extension_v2, account_extension_v1, account_head, account_tail}
+use prelude.{account_entry}
 use prelude.{trust_line_extension_v2, trust_line_extension_v1, trust_line_entry, offer_entry, data_entry, claimant}
 use prelude.{claimable_balance_extension_v1, claimable_balance_entry, liquidity_pool_entry, ledger_entry_body}
 use prelude.{ledger_entry_extension_v1, ledger_entry, ledger_key, bucket_entry, create_account_op, set_options_op}
@@ -13,7 +14,9 @@ use prelude.{change_trust_op, asset_code, allow_trust_op, set_trust_line_flags_o
 use prelude.{create_claimable_balance_op, claim_claimable_balance_op, clawback_claimable_balance_op}
 use prelude.{begin_sponsoring_future_reserves_op, revoke_sponsorship_op, liquidity_pool_deposit_op}
 use prelude.{liquidity_pool_withdraw_op, last_body_arms, third_body_arms, second_body_arms, operation_body, operation}
-use prelude.{memo, time_bounds, decorated_signature, after_source, transaction, transaction_v0, transaction_v1_envelope}
+use prelude.{ledger_bounds, preconditions_v2, preconditions}
+use prelude.{memo, time_bounds, decorated_signature, transaction_tail, transaction, transaction_v0}
+use prelude.{transaction_v1_envelope}
 use prelude.{transaction_v0_envelope, fee_bump_transaction, fee_bump_envelope, transaction_envelope, transaction_set}
 use prelude.{claim_atom, simple_payment_result, path_payment_success, manage_offer_effect, manage_offer_success}
 use prelude.{inflation_payout, create_account_result, payment_result, path_payment_strict_receive_result}
@@ -37,7 +40,8 @@ core_formats = tt
 -- ledger entries, their parts, keys and items of buckets
 unfoldable pub entries_formats : ⊤
 unfolding core_formats hash account_id claimable_balance_id muxed_account signer_key signer asset trust_line_asset
-    pool_params change_trust_asset price liabilities predicate_below account_extension_v2 account_extension_v1
+    pool_params change_trust_asset price liabilities predicate_below account_extension_v3 account_extension_v2
+    account_extension_v1
     account_head account_tail account_entry trust_line_extension_v2 trust_line_extension_v1 trust_line_entry
     offer_entry data_entry claimant claimable_balance_extension_v1 claimable_balance_entry liquidity_pool_entry
     ledger_entry_body ledger_entry_extension_v1 ledger_entry ledger_key bucket_entry
@@ -51,7 +55,8 @@ unfolding entries_formats create_account_op set_options_op account_merge_op mana
     set_trust_line_flags_op clawback_op create_claimable_balance_op claim_claimable_balance_op
     clawback_claimable_balance_op begin_sponsoring_future_reserves_op revoke_sponsorship_op
     liquidity_pool_deposit_op liquidity_pool_withdraw_op last_body_arms third_body_arms second_body_arms
-    operation_body operation memo time_bounds decorated_signature after_source transaction transaction_v0
+    operation_body operation memo time_bounds ledger_bounds preconditions_v2 preconditions decorated_signature
+    transaction_tail transaction transaction_v0
     transaction_v1_envelope transaction_v0_envelope fee_bump_transaction fee_bump_envelope transaction_envelope
     transaction_set
 transactions_formats = tt

@@ -44,6 +44,7 @@ pub use Rattle.xdr_core.specs.declared.fault.XdrKind.TheVariants.{TooLong, Trail
 unfoldable pub use Rattle.xdr_entries.specs.Basic.{account_id, asset, change_trust_asset, claimable_balance_id, hash}
 unfoldable pub use Rattle.xdr_entries.specs.Basic.{liabilities, muxed_account, pool_params, price, signer, signer_key}
 unfoldable pub use Rattle.xdr_entries.specs.Basic.{trust_line_asset}
+unfoldable pub use Rattle.xdr_entries.specs.Entries.{account_extension_v3}
 unfoldable pub use Rattle.xdr_entries.specs.Entries.{account_entry, account_extension_v1, account_extension_v2}
 unfoldable pub use Rattle.xdr_entries.specs.Entries.{account_head, account_tail, claimable_balance_entry}
 unfoldable pub use Rattle.xdr_entries.specs.Entries.{claimable_balance_extension_v1, claimant, data_entry, ledger_entry}
@@ -86,7 +87,8 @@ unfoldable pub use Rattle.xdr_tx.specs.Operations.{manage_sell_offer_op, operati
 unfoldable pub use Rattle.xdr_tx.specs.Operations.{path_payment_strict_receive_op, path_payment_strict_send_op}
 unfoldable pub use Rattle.xdr_tx.specs.Operations.{payment_op, revoke_sponsorship_op, second_body_arms, set_options_op}
 unfoldable pub use Rattle.xdr_tx.specs.Operations.{set_trust_line_flags_op, third_body_arms}
-unfoldable pub use Rattle.xdr_tx.specs.Transactions.{after_source, decorated_signature, fee_bump_envelope}
+unfoldable pub use Rattle.xdr_tx.specs.Transactions.{ledger_bounds, preconditions_v2, preconditions}
+unfoldable pub use Rattle.xdr_tx.specs.Transactions.{transaction_tail, decorated_signature, fee_bump_envelope}
 unfoldable pub use Rattle.xdr_tx.specs.Transactions.{fee_bump_transaction, memo, time_bounds, transaction}
 unfoldable pub use Rattle.xdr_tx.specs.Transactions.{transaction_envelope, transaction_set, transaction_v0}
 unfoldable pub use Rattle.xdr_tx.specs.Transactions.{transaction_v0_envelope, transaction_v1_envelope}

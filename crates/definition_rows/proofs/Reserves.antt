@@ -40,7 +40,7 @@ three_reserves_are_kept_for_one_subentry account = (refl, refl)
 reserves_paid_for_others_are_kept_and_those_that_others_pay_are_not : (account : AccountEntry)
     → min_balance (holding (pos 0) (Some (record {
       liabilities = record { buying = pos 0; selling = pos 0 };
-      ext = Some (record { num_sponsored = 3; num_sponsoring = 2; signer_sponsoring_ids = [] });
+      ext = Some (record { num_sponsored = 3; num_sponsoring = 2; signer_sponsoring_ids = []; ext = None });
     })) account) base_reserve ≡ pos 10000000
 reserves_paid_for_others_are_kept_and_those_that_others_pay_are_not account = refl
 

@@ -1,4 +1,4 @@
--- What accounts' extensions say (CAP-0003, CAP-0033). What isn't there reads as zeros and none.
+-- What accounts' extensions say (CAP-0003, CAP-0033, CAP-0021). What isn't there reads as zeros and none.
 use Rattle.std.specs.Prelude.{ℕ, pos, Bool, ◌&&◌, List, map, Option, Some, None, if◌then◌else◌}
 use Rattle.std.specs.List.{slice_get}
 use Rattle.std.specs.Option.{option_and_then}
@@ -9,6 +9,7 @@ use Rattle.entry_map.specs.ledger_types.declared.signer.Signer.{Signer}
 use Rattle.entry_map.specs.ledger_types.declared.account.AccountEntry.{AccountEntry}
 use Rattle.entry_map.specs.ledger_types.declared.account.AccountEntryExtensionV1.{AccountEntryExtensionV1}
 use Rattle.entry_map.specs.ledger_types.declared.account.AccountEntryExtensionV2.{AccountEntryExtensionV2}
+use Rattle.entry_map.specs.ledger_types.declared.account.AccountEntryExtensionV3.{AccountEntryExtensionV3}
 
 -- ---- liabilities
 
@@ -41,6 +42,11 @@ abbrev pub second_in : Option AccountEntryExtensionV1 → Option AccountEntryExt
 second_in None = None
 second_in (Some ext) = ext.ext
 
+-- when the sequence number was last set, as far as it is recorded (CAP-0021)
+abbrev pub third_in : Option AccountEntryExtensionV2 → Option AccountEntryExtensionV3
+third_in None = None
+third_in (Some ext) = ext.ext
+
 abbrev pub sponsoring_in : Option AccountEntryExtensionV2 → ℕ
 sponsoring_in None = 0
 sponsoring_in (Some ext) = ext.num_sponsoring
@@ -66,7 +72,7 @@ signer_sponsor account index =
 -- zeros, and no sponsor of any signer, where there is no extension
 abbrev pub sponsorship_in : List Signer → Option AccountEntryExtensionV2 → AccountEntryExtensionV2
 sponsorship_in signers None =
-    record { num_sponsored = 0; num_sponsoring = 0; signer_sponsoring_ids = map (λ signer. None) signers }
+    record { num_sponsored = 0; num_sponsoring = 0; signer_sponsoring_ids = map (λ signer. None) signers; ext = None }
 sponsorship_in signers (Some ext) = ext
 
 -- what an account says of sponsorship

@@ -108,6 +108,7 @@ fn no_sponsorship(signers: &ItemList<Signer>) -> Result<AccountEntryExtensionV2,
         num_sponsored: 0,
         num_sponsoring: 0,
         signer_sponsoring_ids: no_sponsors(signers)?,
+        ext: None,
     })
 }
 

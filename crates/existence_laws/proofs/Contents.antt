@@ -11,7 +11,7 @@ use Rattle.image_store.specs.outside.Disk.{Image}
 use Rattle.image_store.specs.gate_journal.Records.{block, blocks}
 use Rattle.image_store.specs.gate_journal.declared.fault.StoreFault.{StoreFault}
 use Rattle.image_store.specs.gate_journal.declared.fault.StoreFault.TheVariants as store
-use Rattle.image_store.specs.ImageFiles.{head_len, image_in}
+use Rattle.image_store.specs.ImageFiles.{image_offset, format_in, image_in}
 use Rattle.image_store.proofs.Pieces.{last_bytes}
 use Rattle.image_store.specs.Laws.{EachOpens}
 use Rattle.image_store.specs.Opening.{Kept, Holds, IsOpening}
@@ -138,11 +138,12 @@ module _ (each : EachClose) (closable : TakenIsClosable) (next : NextIsClosing) 
   opened_kept : (c : Image) (k : Kept) → ((file : ℕ) → IsBytes (c file)) → (h : Holds c k)
       → (judged : Result ClosingState ImageFault) → IsJudged k.network k.image judged → Opened c
   opened_kept c k are h (Err wrong) judged =
-      let broken : BreaksRule k (k.epoch % 2) head_len =
+      let broken : BreaksRule k (k.epoch % 2) (image_offset k.format) =
       record { wrong = wrong; judged = judged; in_file = refl; at = refl } in
-      inr (inr (k.epoch % 2, head_len, inr (k, h, inl broken)))
+      inr (inr (k.epoch % 2, image_offset k.format, inr (k, h, inl broken)))
   opened_kept c k are h (Ok start) judged =
-      let text : IsBytes (image_in (c h.number)) = IsBytes-drop head_len (c h.number) (are h.number) in
+      let text : IsBytes (image_in (c h.number)) =
+      IsBytes-drop (image_offset (format_in (c h.number))) (c h.number) (are h.number) in
       let encoded = start_image_laws.lawful.takes (start_of (image_in (c h.number))) h.image.0 k.image text h.image.1 in
       let exist = h.journal.1 in
       let bytes = subst IsBytes exist.cut (are (2 + h.number)) in
@@ -153,7 +154,8 @@ module _ (each : EachClose) (closable : TakenIsClosable) (next : NextIsClosing) 
   opened : EachImage → (c : Image) → ((file : ℕ) → IsBytes (c file)) → (opening : Result Kept StoreFault)
       → IsOpening c opening → Opened c
   opened images c are (Ok k) h =
-      let text : IsBytes (image_in (c h.number)) = IsBytes-drop head_len (c h.number) (are h.number) in
+      let text : IsBytes (image_in (c h.number)) =
+      IsBytes-drop (image_offset (format_in (c h.number))) (c h.number) (are h.number) in
       let encoded = start_image_laws.lawful.takes (start_of (image_in (c h.number))) h.image.0 k.image text h.image.1 in
       let found = images k.network k.image (files_bytes k.image encoded.within encoded.sized) in
       opened_kept c k are h found.0 found.1

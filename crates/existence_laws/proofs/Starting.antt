@@ -54,9 +54,9 @@ header_bytes image sized = sized.1.0
 bytes_of_files : (n left : ℕ) (vs : List (List ℕ)) → (files n left).within vs → (files n left).sized vs → All IsBytes vs
 unfolding files file
 bytes_of_files zero left vs within sized = subst (All IsBytes) (sym within) (All-nil IsBytes)
-bytes_of_files (suc n) left [] within sized = absurd within
+bytes_of_files (suc n) left [] within sized = absurd within.0
 bytes_of_files (suc n) left (v ∷ vs) within sized =
-    All-cons IsBytes v vs sized.0 (bytes_of_files n (left - length v) vs within.1 sized.1)
+    All-cons IsBytes v vs sized.0 (bytes_of_files n (left - length v) vs within.1.1 sized.1)
 
 pub files_bytes : (image : StartImage) → start_image.within image → start_image.sized image → All IsBytes image.files
 unfolding start_image

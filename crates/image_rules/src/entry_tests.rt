@@ -4,6 +4,7 @@ ghost use Rattle.std.specs.Prelude.{◌↔◌, IsTrue};
 ghost use Rattle.close_rules.specs.entry_sums.Sums.{EachEntry};
 ghost use Rattle.image_rules.specs.EntryTests.{Passes};
 
+use crate::dated::is_body_dated;
 use crate::pools::is_filled_or_empty;
 use crate::ranges::is_entry_in_range;
 use crate::sponsorship::do_reserves_fit;
@@ -15,7 +16,15 @@ use ledger_types::LedgerEntry;
 #[derive(Clone, Copy)]
 pub enum EntryTest {
     /// It is in its ranges, whatever id a pool has, where no offer has an id above this one.
-    InRange { id_pool: u64 },
+    InRange {
+        id_pool: u64,
+    },
+    /// What an account records, and its signers, are those that a ledger of this version, number and close time lets be.
+    Dated {
+        version: u32,
+        seq: u32,
+        close_time: u64,
+    },
     /// An account has at most 1000 subentries.
     Few,
     /// An account's subentries and the reserves that it pays as a sponsor fit 32 bits together.
@@ -30,6 +39,11 @@ fn passes(test: EntryTest, entry: &LedgerEntry) -> bool
 {
     match test {
         EntryTest::InRange { id_pool } => is_entry_in_range(id_pool, entry),
+        EntryTest::Dated {
+            version,
+            seq,
+            close_time,
+        } => is_body_dated(version, seq, close_time, &entry.body),
         EntryTest::Few => are_subentries_few(&entry.body),
         EntryTest::Fitting => do_reserves_fit(&entry.body),
         EntryTest::Filled => is_filled_or_empty(&entry.body),

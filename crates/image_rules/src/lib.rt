@@ -5,6 +5,7 @@ mod aggregates;
 mod authorized;
 mod claimables;
 mod counts;
+mod dated;
 mod entry_tests;
 mod existing_pools;
 mod fields;

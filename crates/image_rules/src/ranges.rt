@@ -3,6 +3,7 @@
 ghost use Rattle.std.specs.Prelude.{◌≢◌, ◌↔◌, None, IsTrue, IfOk};
 ghost use Rattle.sponsor_rules.specs.reserve_rules.Reserve.{IsInRange};
 ghost use Rattle.close_rules.specs.entry_sums.Sums.{EachEntry};
+ghost use Rattle.close_rules.specs.legal_rules.Dated.{AreDated};
 ghost use Rattle.close_rules.specs.legal_rules.Ranges as spec;
 ghost use Rattle.close_rules.specs.EntryRules.{AreInRange};
 ghost use Rattle.image_rules.specs.PoolRanges.{IsBodyInRangeButId, IsEntryInRangeButId};
@@ -115,11 +116,24 @@ fn are_all_in_range(header: &LedgerHeader, entries: &EntryRow<'_>) -> Result<boo
     Ok(within && named)
 }
 
-/// Whether each entry is in its ranges, and the lines of offers are authorised.
+/// Whether each account is dated by a header.
+fn are_dated(header: &LedgerHeader, entries: &EntryRow<'_>) -> bool
+    ensures { IsTrue result ↔ AreDated header.now entries.now }
+{
+    let test = EntryTest::Dated {
+        version: header.ledger_version,
+        seq: header.ledger_seq,
+        close_time: header.scp_value.close_time,
+    };
+    do_all_pass(test, entries)
+}
+
+/// Whether each entry is in its ranges, each account is dated, and the lines of offers are authorised.
 pub fn are_in_range(header: &LedgerHeader, entries: &EntryRow<'_>) -> Result<bool, AllocError>
     ensures { IfOk result (λ kept. IsTrue kept ↔ AreInRange header.now entries.now) }
 {
     let within = are_all_in_range(header, entries)?;
+    let dated = are_dated(header, entries);
     let authorized = are_all_authorized(entries)?;
-    Ok(within && authorized)
+    Ok(within && dated && authorized)
 }

@@ -1,7 +1,9 @@
 -- Which of two image files counts.
 use Rattle.image_store.proofs.Prelude.{◌≡◌, refl, ℕ, zero, suc, ◌<◌, ◌≤◌, Bool, true, false, Option, Some, None, Ok}
 use Rattle.image_store.proofs.Prelude.{arith, ltb-true, ltb-false, nat_lt, if◌then◌else◌, Image, Head, IsOpen, epoch_in}
-use Rattle.image_store.proofs.Prelude.{IsFormed, IsHead, ReportsHead, greater_of, IsChosenHead, ReportsChosen}
+use Rattle.image_store.proofs.Prelude.{IsFormed, IsHead, ReportsHead, greater_of, IsChosenHead, ReportsChosen, Err, sym}
+use Rattle.image_store.proofs.Prelude.{subst, StoreFault, BreaksForm}
+use Rattle.gate_journal.specs.declared.fault.StoreFault.TheVariants as fault
 
 -- what holds of 0 and of 1 holds of both image files
 pub each_below_two : (P : ℕ → Type 0) → P 0 → P 1 → (number : ℕ) → number < 2 → P number
@@ -56,3 +58,19 @@ module _ (c : Image) where
   reported_chosen None (Some b) first second =
       chosen_of 1 b (omega arith) second (unformed 0 first) (λ o. second.formed) (unopened 1 0 first) (itself 1)
   reported_chosen (Some a) (Some b) first second = both_chosen a b first second (nat_lt a.epoch b.epoch) refl
+
+  first_formed : (first : Option Head) → ReportsHead 0 (c 0) (Ok first) → (number : ℕ) → number < 1 → Formed number
+  first_formed None shut zero less opened = absurd (shut opened)
+  first_formed (Some head) its zero less opened = its.formed
+  first_formed found reported (suc number) less opened = absurd (omega (arith, less))
+
+  pub second_misformed : (first : Option Head) (wrong : StoreFault) → ReportsHead 0 (c 0) (Ok first)
+      → ReportsHead 1 (c 1) (Err wrong) → ReportsChosen c (Err wrong)
+  second_misformed first (fault.BadStore bad offset) formed reported =
+      subst (λ n. BreaksForm c n offset) (sym reported.0) (record {
+        image_file = omega arith;
+        is_open = reported.1;
+        wrong = reported.2;
+        first = first_formed first formed;
+      })
+  second_misformed first other formed reported = tt

@@ -3,7 +3,8 @@ use Rattle.image_store.proofs.Prelude.{◌≡◌, ◌≢◌, sym, ap, subst, ◌
 use Rattle.image_store.proofs.Prelude.{Result, Bool, true, false, nat_eq, length-append, arith, eq-eqb, eqb-true}
 use Rattle.image_store.proofs.Prelude.{nil_from_length, take_all, length-drop, XdrFault, Position, Reading, start_of}
 use Rattle.image_store.proofs.Prelude.{IsBytes, Encodes, StartImage, start_image, start_image_laws, end_by, image_end}
-use Rattle.image_store.proofs.Prelude.{StoreFault, image_in, IsImage, ReportsComplete, ReportsBytes, ReportsImage}
+use Rattle.image_store.proofs.Prelude.{StoreFault, Head, image_offset, image_in, IsImage, IsHeadSized, ReportsComplete}
+use Rattle.image_store.proofs.Prelude.{ReportsBytes, ReportsImage}
 use Rattle.std.specs.Prelude.{take}
 use Rattle.gate_journal.specs.declared.fault.StoreFault.TheVariants as fault
 
@@ -45,14 +46,17 @@ no_image bytes wrong measured image (end, reads, none) =
     let both : Ok end.at ≡ Err wrong = sym (ap (λ (r : Reading XdrFault StartImage). end_by r) reads) ∙ measured in
     absurd (cc)
 
--- what was read after the head of a file is all that is there
-pub all_after : (file bytes : List ℕ) (len : ℕ) → length file ≡ 49 + len → bytes ≡ take len (drop 49 file)
-    → bytes ≡ image_in file
-all_after file bytes len size is = is ∙ take_all len (drop 49 file) (omega (arith, length-drop 49 file, size))
+-- what was read of a file from where its image begins is all that is there
+pub all_after : (file bytes : List ℕ) (head : Head) → IsHeadSized file head
+    → bytes ≡ take head.len (drop (image_offset head.format) file) → bytes ≡ image_in file
+all_after file bytes head sized is = is
+    ∙ take_all head.len (drop (image_offset head.format) file)
+    (omega (arith, length-drop (image_offset head.format) file, sized.size))
+    ∙ ap (λ format. drop (image_offset format) file) sized.format
 
-pub reported_image : (number : ℕ) (file bytes : List ℕ) (answer : Result StartImage StoreFault) → bytes ≡ image_in file
-    → ReportsBytes number bytes answer → ReportsImage number file answer
-reported_image number file bytes (Ok image) is reported = subst (λ b. IsImage b image) is reported
-reported_image number file bytes (Err (fault.BadStore bad offset)) is reported =
+pub reported_image : (number offset : ℕ) (file bytes : List ℕ) (answer : Result StartImage StoreFault)
+    → bytes ≡ image_in file → ReportsBytes number offset bytes answer → ReportsImage number offset file answer
+reported_image number offset file bytes (Ok image) is reported = subst (λ b. IsImage b image) is reported
+reported_image number offset file bytes (Err (fault.BadStore bad at)) is reported =
     (reported.0, reported.1, subst (λ b. (image : StartImage) → IsImage b image → ⊥) is reported.2)
-reported_image number file bytes (Err other) is reported = tt
+reported_image number offset file bytes (Err other) is reported = tt

@@ -3,6 +3,7 @@ use Rattle.image_store.proofs.Prelude.{◌≡◌, ◌≢◌, refl, sym, subst, �
 use Rattle.image_store.proofs.Prelude.{arith, Hash, Image, Disk, Runs, Same, Stays, IsSafe, widened, onward, StartImage}
 use Rattle.image_store.proofs.Prelude.{start_image, IsOpen, after_gate, HoldsNothing, Holds, StoreState, IsSettled}
 use Rattle.image_store.proofs.Prelude.{first_kept, IsMade, IsCreated, IsSameOrNotOpen, HasTurned, IsTurning, IsTurned}
+use Rattle.image_store.proofs.Words.{top_is}
 use Rattle.image_store.proofs.Turned.{by_number, no_journal, holds_new}
 
 -- ---- a sync, and reads
@@ -29,7 +30,7 @@ module _ (image : StartImage) (within : start_image.within image) (sized : start
   first_holds : (d c : Image) → HoldsNothing d → HasTurned 0 piece c
       → ((k : ℕ) → k ≢ 0 → k ≢ 2 → c k ≡ d k) → Holds c (first_kept network image)
   first_holds d c nothing turned others =
-      holds_new image within sized 0 network long (omega arith) fits_len 0 (omega arith) refl c
+      holds_new image within sized 0 network long (omega (arith, top_is)) fits_len 0 (omega arith) refl c
       (subst (λ p. HasTurned 0 p c) is turned)
       (λ k below far opened.
       absurd (nothing k below (subst IsOpen (others k far (no_journal 0 k below)) opened)))

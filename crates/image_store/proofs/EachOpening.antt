@@ -2,13 +2,16 @@
 use Rattle.image_store.proofs.Prelude.{◌≡◌, ℕ, zero, suc, ◌+◌, ◌<◌, ◌≤◌, List, [], ◌∷◌, length, ◌⊎◌, inl, inr, Result}
 use Rattle.image_store.proofs.Prelude.{Ok, Err, refl, sym, ◌∙◌, ap, arith, cases_eq, cases_lt, XdrFault, Position}
 use Rattle.image_store.proofs.Prelude.{start_of, StartImage, start_image, Image, HasRecords, HasNoRecords, StoreFault}
-use Rattle.image_store.proofs.Prelude.{head_len, IsOpen, epoch_in, network_in, length_in, image_in, IsFormed, IsImage}
+use Rattle.image_store.proofs.Prelude.{head_len, top_bit, image_offset, IsOpen, format_in, epoch_in, network_in}
+use Rattle.image_store.proofs.Prelude.{length_in, digest_in, image_in, sha256, IsNumbered, IsHashed, IsFormed, IsImage}
 use Rattle.image_store.proofs.Prelude.{Kept, AreFormed, IsChosen, IsMisformed, IsOpening, EachOpens}
 use Rattle.std.proofs.Common.{◌%◌, slice_index}
 use Rattle.gate_journal.specs.declared.fault.StoreFault.TheVariants as fault
 use Rattle.image_store.proofs.EachFile.{each_file}
 use Rattle.image_store.proofs.OneOpening.{reading_one}
 use Rattle.image_store.proofs.Chosen.{each_below_two}
+use mathlib.Core.List.{List-discrete}
+use native.Mathlib.Decide.{ℕ_discrete}
 
 -- the image that these bytes are, or that they are none
 abbrev ImageOrNone : List ℕ → Type 0
@@ -66,6 +69,7 @@ by_journal : (c : Image) (number : ℕ) (image : StartImage) → AreFormed c →
     → Opens c
 by_journal c number image formed chosen reads (inl (records, has)) = (
   Ok (record {
+    format = format_in (c number);
     epoch = epoch_in (c number);
     network = network_in (c number);
     image = image;
@@ -75,6 +79,7 @@ by_journal c number image formed chosen reads (inl (records, has)) = (
     formed = formed;
     number = number;
     chosen = chosen;
+    format = refl;
     epoch = refl;
     network = refl;
     image = reads;
@@ -98,7 +103,7 @@ by_image : (c : Image) (number : ℕ) → AreFormed c → IsChosen c number → 
 by_image c number formed chosen (inl (image, reads)) =
     by_journal c number image formed chosen reads (each_file (c (2 + number)))
 by_image c number formed chosen (inr none) = (
-  Err (fault.BadStore number head_len),
+  Err (fault.BadStore number (image_offset (format_in (c number)))),
   inr (inl (record { formed = formed; chosen = chosen; wrong = none; at = refl })),
 )
 
@@ -152,13 +157,37 @@ open_or_shut file = elim (cases_lt (length file) head_len) [
   ]
 ]
 
-form_or_offset : (number : ℕ) (file : List ℕ) → IsOpen file → FormOrOffset number file
-form_or_offset number file opened = elim (cases_eq (epoch_in file % 2) number) [
-  | inl parity ↦ elim (cases_eq (length file) (head_len + length_in file)) [
-    | inl size ↦ inl (λ _. record { parity = parity; size = size })
-    | inr other ↦ inr (opened, (41, inr (refl, parity, other)))
+number_or_none : (number : ℕ) (file : List ℕ) → IsNumbered number file ⊎ (IsNumbered number file → ⊥)
+number_or_none number file = elim (cases_eq (epoch_in file % 2) number) [
+  | inr other ↦ inr (λ numbered. other numbered.parity)
+  | inl parity ↦ elim (cases_eq (format_in file) 1) [
+    | inr other ↦ inl (record { parity = parity; low = λ first. absurd (other first) })
+    | inl first ↦ elim (cases_lt (epoch_in file + 1) top_bit) [
+      | inl low ↦ inl (record { parity = parity; low = λ _. low })
+      | inr high ↦ inr (λ numbered. let low = numbered.low first in absurd (omega (arith, low, high)))
+    ]
   ]
-  | inr other ↦ inr (opened, (1, inl (refl, other)))
+]
+
+hash_or_none : (file : List ℕ) → IsHashed file ⊎ (IsHashed file → ⊥)
+hash_or_none file = elim (cases_eq (format_in file) 2) [
+  | inr other ↦ inl (λ second. absurd (other second))
+  | inl second ↦ elim (List-discrete ℕ_discrete (digest_in file) (sha256 (image_in file))) [
+    | yes same ↦ inl (λ _. same)
+    | no other ↦ inr (λ hashed. other (hashed second))
+  ]
+]
+
+form_or_offset : (number : ℕ) (file : List ℕ) → IsOpen file → FormOrOffset number file
+form_or_offset number file opened = elim (number_or_none number file) [
+  | inr wrong ↦ inr (opened, (1, inl (refl, wrong)))
+  | inl numbered ↦ elim (cases_eq (length file) (image_offset (format_in file) + length_in file)) [
+    | inr other ↦ inr (opened, (41, inr (inl (refl, numbered, other))))
+    | inl sized ↦ elim (hash_or_none file) [
+      | inl hashed ↦ inl (λ _. record { numbered = numbered; sized = sized; hashed = hashed })
+      | inr wrong ↦ inr (opened, (49, inr (inr (refl, numbered, sized, wrong))))
+    ]
+  ]
 ]
 
 each_form : (number : ℕ) (file : List ℕ) → FormOrOffset number file

@@ -1,13 +1,14 @@
 -- What a store keeps where its journal grows, and where the files of another epoch change.
 use Rattle.image_store.proofs.Prelude as prelude
 use prelude.{◌≡◌, ◌≢◌, refl, sym, ap, subst, ◌∙◌, ℕ, ◌+◌, ◌<◌, List, [], ◌∷◌, ◌++◌, false, inl, inr, arith, ◌%◌, Image}
-use prelude.{Disk, Runs, InFile, IsSafe, widened, HasRecords, JournalState, HasEither, IsOpen, epoch_in, network_in}
-use prelude.{image_in, IsFormed, IsImage, Kept, grown, AreFormed, IsChosen, Holds, StoreState, IsSettled, HoldsEither}
+use prelude.{Disk, Runs, InFile, IsSafe, widened, HasRecords, JournalState, HasEither, IsOpen, format_in, epoch_in}
+use prelude.{network_in, image_in, IsFormed, IsImage, Kept, grown, AreFormed, IsChosen, Holds, StoreState, IsSettled}
+use prelude.{HoldsEither}
 use Rattle.gate_journal.specs.Calls as journal
 
 -- the file of what is kept
 pub number_of : (c : Image) (kept : Kept) → (h : Holds c kept) → h.number ≡ kept.epoch % 2
-number_of c kept h = sym ((h.formed h.number h.chosen.image_file h.chosen.is_open).parity)
+number_of c kept h = sym ((h.formed h.number h.chosen.image_file h.chosen.is_open).numbered.parity)
     ∙ ap (λ n. n % 2) (sym h.epoch)
 
 -- ---- the images stay
@@ -35,6 +36,7 @@ module _ (d c : Image) (kept : Kept) (h : Holds d kept) (same : (number : ℕ) �
     formed = formed_still;
     number = h.number;
     chosen = chosen_still;
+    format = h.format ∙ ap format_in (sym at);
     epoch = h.epoch ∙ ap epoch_in (sym at);
     network = h.network ∙ ap network_in (sym at);
     image = subst (λ file. IsImage (image_in file) kept.image) (sym at) h.image;

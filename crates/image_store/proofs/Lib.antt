@@ -10,5 +10,7 @@ pub mod Turned
 pub mod Rolled
 pub mod Created
 pub mod Unmounted
+pub mod Words
+pub mod Hashed
 pub use Rattle.gate_journal.proofs as gate_journal_proofs
 mod Prelude

@@ -1,9 +1,9 @@
 -- Four files open to at most one thing.
 use Rattle.image_store.proofs.Prelude.{◌≡◌, ℕ, ◌+◌, ◌<◌, List, inl, inr, Result, Ok, Err, refl, sym, ◌∙◌, ap, subst}
 use Rattle.image_store.proofs.Prelude.{arith, cases_order, XdrFault, Position, start_of, StartImage, start_image, Image}
-use Rattle.image_store.proofs.Prelude.{HasRecords, HasNoRecords, StoreFault, head_len, epoch_in, network_in, image_in}
-use Rattle.image_store.proofs.Prelude.{IsFormed, IsImage, Kept, HoldsNothing, AreFormed, IsChosen, IsMisformed}
-use Rattle.image_store.proofs.Prelude.{BreaksForm, IsOpening, OpeningsAreOne}
+use Rattle.image_store.proofs.Prelude.{HasRecords, HasNoRecords, StoreFault, image_offset, format_in, epoch_in}
+use Rattle.image_store.proofs.Prelude.{network_in, image_in, IsFormed, IsImage, Kept, HoldsNothing, AreFormed, IsChosen}
+use Rattle.image_store.proofs.Prelude.{IsMisformed, BreaksForm, IsOpening, OpeningsAreOne}
 use Rattle.std.proofs.Common.{◌%◌}
 use Rattle.gate_journal.specs.declared.fault.StoreFault.TheVariants as fault
 use Rattle.gate_journal.proofs.OneList.{records_are_one, offsets_are_one, never_both}
@@ -15,8 +15,8 @@ chosen_one c one other formed first second =
     let below = first.greatest other second.image_file second.is_open in
     let above = second.greatest one first.image_file first.is_open in
     let epoch : epoch_in (c one) ≡ epoch_in (c other) = omega (arith, below, above) in
-    sym (formed one first.image_file first.is_open).parity ∙ ap (λ (n : ℕ). n % 2) epoch
-    ∙ (formed other second.image_file second.is_open).parity
+    sym (formed one first.image_file first.is_open).numbered.parity ∙ ap (λ (n : ℕ). n % 2) epoch
+    ∙ (formed other second.image_file second.is_open).numbered.parity
 
 pub reading_one : (bytes : List ℕ) (one other : StartImage × Position) → start_image.read (start_of bytes) ≡ Ok one
     → start_image.read (start_of bytes) ≡ Ok other
@@ -33,16 +33,26 @@ images_same bytes one other (end, reads, none) (offset, again, nil) =
 -- ---- the first misformed image
 
 not_misformed : (number : ℕ) (file : List ℕ) (offset : ℕ) → IsFormed number file → IsMisformed number file offset → ⊥
-not_misformed number file offset formed (inl (at, parity)) = parity formed.parity
-not_misformed number file offset formed (inr (at, parity, size)) = size formed.size
+not_misformed number file offset formed (inl (at, wrong)) = wrong formed.numbered
+not_misformed number file offset formed (inr (inl (at, numbered, wrong))) = wrong formed.sized
+not_misformed number file offset formed (inr (inr (at, numbered, sized, wrong))) = wrong formed.hashed
 
 misformed_one : (number : ℕ) (file : List ℕ) (one other : ℕ) → IsMisformed number file one
     → IsMisformed number file other
     → one ≡ other
 misformed_one number file one other (inl (at, wrong)) (inl (there, bad)) = at ∙ sym there
-misformed_one number file one other (inl (at, wrong)) (inr (there, parity, bad)) = absurd (wrong parity)
-misformed_one number file one other (inr (at, parity, wrong)) (inl (there, bad)) = absurd (bad parity)
-misformed_one number file one other (inr (at, parity, wrong)) (inr (there, same, bad)) = at ∙ sym there
+misformed_one number file one other (inl (at, wrong)) (inr (inl (there, numbered, bad))) = absurd (wrong numbered)
+misformed_one number file one other (inl (at, wrong)) (inr (inr (there, numbered, sized, bad))) =
+    absurd (wrong numbered)
+misformed_one number file one other (inr (inl (at, numbered, wrong))) (inl (there, bad)) = absurd (bad numbered)
+misformed_one number file one other (inr (inl (at, numbered, wrong))) (inr (inl (there, also, bad))) = at ∙ sym there
+misformed_one number file one other (inr (inl (at, numbered, wrong))) (inr (inr (there, also, sized, bad))) =
+    absurd (wrong sized)
+misformed_one number file one other (inr (inr (at, numbered, sized, wrong))) (inl (there, bad)) = absurd (bad numbered)
+misformed_one number file one other (inr (inr (at, numbered, sized, wrong))) (inr (inl (there, also, bad))) =
+    absurd (bad sized)
+misformed_one number file one other (inr (inr (at, numbered, sized, wrong))) (inr (inr (there, also, same, bad))) =
+    at ∙ sym there
 
 not_formed : (c : Image) (file offset : ℕ) → AreFormed c → BreaksForm c file offset → ⊥
 not_formed c file offset formed breaks =
@@ -70,13 +80,13 @@ form_one c file offset other there first second = elim (cases_order file other) 
 
 -- which it is, where this image is chosen
 data Chosen (c : Image) (number : ℕ) : Result Kept StoreFault → Type 0 where
-  NoImage : (offset : ℕ) → ((image : StartImage) → IsImage (image_in (c number)) image → ⊥) → offset ≡ head_len
-      → Chosen c number (Err (fault.BadStore number offset))
+  NoImage : (offset : ℕ) → ((image : StartImage) → IsImage (image_in (c number)) image → ⊥)
+      → offset ≡ image_offset (format_in (c number)) → Chosen c number (Err (fault.BadStore number offset))
   NoJournal : (file offset : ℕ) (image : StartImage) → IsImage (image_in (c number)) image → file ≡ 2 + number
       → HasNoRecords (c file) offset → Chosen c number (Err (fault.BadStore file offset))
-  Both : (kept : Kept) → kept.epoch ≡ epoch_in (c number) → kept.network ≡ network_in (c number)
-      → IsImage (image_in (c number)) kept.image → HasRecords (c (2 + number)) kept.records
-      → Chosen c number (Ok kept)
+  Both : (kept : Kept) → kept.format ≡ format_in (c number) → kept.epoch ≡ epoch_in (c number)
+      → kept.network ≡ network_in (c number) → IsImage (image_in (c number)) kept.image
+      → HasRecords (c (2 + number)) kept.records → Chosen c number (Ok kept)
 
 data Opening (c : Image) : Result Kept StoreFault → Type 0 where
   Nothing : HoldsNothing c → Opening c (Err fault.Missing)
@@ -87,7 +97,7 @@ data Opening (c : Image) : Result Kept StoreFault → Type 0 where
 opening_of : (c : Image) (opening : Result Kept StoreFault) → IsOpening c opening → Opening c opening
 opening_of c (Ok kept) holds =
     Formed holds.number (Ok kept) holds.formed holds.chosen
-    (Both kept holds.epoch holds.network holds.image holds.journal)
+    (Both kept holds.format holds.epoch holds.network holds.image holds.journal)
 opening_of c (Err fault.Missing) nothing = Nothing nothing
 opening_of c (Err (fault.BadStore file offset)) (inl breaks) = Misformed file offset breaks
 opening_of c (Err (fault.BadStore file offset)) (inr (inl breaks)) =
@@ -112,7 +122,7 @@ chosen_opening_one c number one other (NoImage offset none at) (NoImage there no
     same_fault number number offset there refl (at ∙ sym is)
 chosen_opening_one c number one other (NoImage offset none at) (NoJournal file there image reads is wrong) =
     absurd (none image reads)
-chosen_opening_one c number one other (NoImage offset none at) (Both kept epoch network reads journal) =
+chosen_opening_one c number one other (NoImage offset none at) (Both kept format epoch network reads journal) =
     absurd (none kept.image reads)
 chosen_opening_one c number one other (NoJournal file offset image reads at wrong) (NoImage there none is) =
     absurd (none image reads)
@@ -122,19 +132,26 @@ chosen_opening_one c number one other (NoJournal file offset image reads at wron
     same_fault file journal offset there same
     (offsets_are_one (c journal) offset there (subst (λ (n : ℕ). HasNoRecords (c n) offset) same wrong) bad)
 chosen_opening_one c number one other (NoJournal file offset image reads at wrong)
-    (Both kept epoch network read journal) =
+    (Both kept format epoch network read journal) =
     absurd (journal_apart c number file offset kept.records at wrong journal)
-chosen_opening_one c number one other (Both kept epoch network reads journal) (NoImage offset none at) =
+chosen_opening_one c number one other (Both kept format epoch network reads journal) (NoImage offset none at) =
     absurd (none kept.image reads)
-chosen_opening_one c number one other (Both kept epoch network reads journal)
+chosen_opening_one c number one other (Both kept format epoch network reads journal)
     (NoJournal file offset image read at wrong) =
     absurd (journal_apart c number file offset kept.records at wrong journal)
-chosen_opening_one c number one other (Both kept epoch network reads journal) (Both held at id read has) =
+chosen_opening_one c number one other (Both kept format epoch network reads journal) (Both held form at id read has) =
+    let formats = format ∙ sym form in
     let epochs = epoch ∙ sym at in
     let networks = network ∙ sym id in
     let images = images_same (image_in (c number)) kept.image held.image reads read in
     let records = records_are_one (c (2 + number)) kept.records held.records journal has in
-    λ i. Ok (record { epoch = epochs i; network = networks i; image = images i; records = records i })
+    λ i. Ok (record {
+      format = formats i;
+      epoch = epochs i;
+      network = networks i;
+      image = images i;
+      records = records i;
+    })
 
 opening_one : (c : Image) (one other : Result Kept StoreFault) → Opening c one → Opening c other → one ≡ other
 opening_one c one other (Nothing none) (Nothing nor) = refl

@@ -1,8 +1,9 @@
 -- What is kept while a store rolls to the next epoch, and after that.
 use Rattle.image_store.proofs.Prelude.{◌≡◌, ◌≢◌, refl, sym, ap, subst, ◌∙◌, ℕ, ◌+◌, ◌-◌, ◌<◌, ◌^◌, List, [], length}
 use Rattle.image_store.proofs.Prelude.{false, inl, inr, arith, ◌%◌, Image, Disk, Runs, IsSafe, widened, StartImage}
-use Rattle.image_store.proofs.Prelude.{start_image, IsOpen, epoch_in, IsFormed, after_gate, Kept, rolled, Holds}
-use Rattle.image_store.proofs.Prelude.{StoreState, IsSettled, HoldsEither, HasTurned, IsTurning, IsTurned}
+use Rattle.image_store.proofs.Prelude.{start_image, IsOpen, top_bit, epoch_in, IsFormed, after_gate, Kept, rolled}
+use Rattle.image_store.proofs.Prelude.{Holds, StoreState, IsSettled, HoldsEither, HasTurned, IsTurning, IsTurned}
+use Rattle.image_store.proofs.Words.{top_is}
 use Rattle.image_store.proofs.Keeping.{number_of}
 use Rattle.image_store.proofs.Turned.{no_journal, holds_new, holds_still}
 
@@ -12,8 +13,8 @@ mod_two_below_two n = omega arith
 other_parity : (n : ℕ) → (n + 1) % 2 ≢ n % 2
 other_parity n is = omega (arith, is)
 
-small_epoch : (n : ℕ) → n < 2 ^ 63 - 1 → n + 1 < 256 ^ 8
-small_epoch n lt = omega (arith, lt)
+small_epoch : (n : ℕ) → n < 2 ^ 63 - 1 → n + 1 < top_bit
+small_epoch n lt = omega (arith, lt, top_is)
 
 module _ (image : StartImage) (within : start_image.within image) (sized : start_image.sized image)
     (fits_len : length (start_image.encoding image) < 256 ^ 8) (store : StoreState) (old new : Disk) (kept : Kept)
@@ -30,7 +31,7 @@ module _ (image : StartImage) (within : start_image.within image) (sized : start
       → ((k : ℕ) → k ≢ number → k ≢ 2 + number → c k ≡ d k) → Holds c (rolled kept image)
   rolled_holds d c h turned others =
       subst (Holds c)
-      (λ i. record { epoch = s.epoch i + 1; network = s.network i; image = image; records = [] })
+      (λ i. record { format = 2; epoch = s.epoch i + 1; network = s.network i; image = image; records = [] })
       (holds_new image within sized (store.epoch + 1) store.network long (small_epoch store.epoch low) fits_len number
       (mod_two_below_two (store.epoch + 1)) refl c (subst (λ p. HasTurned number p c) is turned)
       (λ k below far opened.

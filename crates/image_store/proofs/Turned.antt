@@ -2,8 +2,8 @@
 use Rattle.image_store.proofs.Prelude.{◌≡◌, ◌≢◌, refl, sym, ap, subst, ◌∙◌, ℕ, ◌+◌, ◌<◌, ◌≤◌, ◌^◌, List, [], ◌∷◌}
 use Rattle.image_store.proofs.Prelude.{length, true, false, inl, inr, arith, eqb-true, eq-eqb, append-nil, All-nil, ◌%◌}
 use Rattle.image_store.proofs.Prelude.{Hash, Image, max_record, HasRecords, StartImage, start_image, start_image_laws}
-use Rattle.image_store.proofs.Prelude.{IsOpen, epoch_in, network_in, image_in, IsFormed, IsImage, after_gate, Kept}
-use Rattle.image_store.proofs.Prelude.{Holds, IsSameOrNotOpen, HasTurned}
+use Rattle.image_store.proofs.Prelude.{IsOpen, top_bit, format_in, epoch_in, network_in, image_in, IsFormed, IsImage}
+use Rattle.image_store.proofs.Prelude.{after_gate, Kept, Holds, IsSameOrNotOpen, HasTurned}
 use Rattle.std.specs.Prelude.{nat_eq}
 use Rattle.image_store.proofs.Pieces.{Says, says}
 
@@ -24,7 +24,7 @@ no_records : HasRecords (0 ∷ []) []
 no_records = (0 ∷ [], record { cut = refl; short = All-nil (λ bytes. length bytes ≤ max_record) }, λ is. absurd (cc))
 
 module _ (image : StartImage) (within : start_image.within image) (sized : start_image.sized image) (epoch : ℕ)
-    (network : Hash) (long : length network.0 ≡ 32) (fits : epoch < 256 ^ 8)
+    (network : Hash) (long : length network.0 ≡ 32) (fits : epoch < top_bit)
     (fits_len : length (start_image.encoding image) < 256 ^ 8) (number : ℕ) (lt : number < 2)
     (parity : epoch % 2 ≡ number) where
   abbrev text : List ℕ
@@ -46,13 +46,20 @@ module _ (image : StartImage) (within : start_image.within image) (sized : start
   IsOlder file k = IsOpen file → IsFormed k file × (epoch_in file ≤ epoch)
 
   pub holds_new : (c : Image) → HasTurned number piece c → ((k : ℕ) → k < 2 → k ≢ number → IsOlder (c k) k)
-      → Holds c (record { epoch = epoch; network = network; image = image; records = [] })
+      → Holds c (record { format = 2; epoch = epoch; network = network; image = image; records = [] })
   holds_new c turned older =
       let its : Says epoch network.0 text long (c number) =
       says epoch network.0 text long (c number) turned.image fits fits_len in
       record {
         formed = by_number (λ k. k < 2 → IsOpen (c k) → IsFormed k (c k)) number
-            (λ below opened. record { parity = ap (λ n. n % 2) its.epoch_is ∙ parity; size = its.size })
+            (λ below opened. record {
+              numbered = record {
+                parity = ap (λ n. n % 2) its.epoch_is ∙ parity;
+                low = λ first. absurd (omega (arith, first, its.format_is));
+              };
+              sized = its.sized;
+              hashed = its.hashed;
+            })
             (λ k other below opened. (older k below other opened).0);
         number = number;
         chosen = record {
@@ -62,6 +69,7 @@ module _ (image : StartImage) (within : start_image.within image) (sized : start
               (λ below opened. omega arith)
               (λ k other below opened. let le = (older k below other opened).1 in omega (arith, le, its.epoch_is));
         };
+        format = sym its.format_is;
         epoch = sym its.epoch_is;
         network = sym its.network_is;
         image = subst (λ t. IsImage t image) (sym its.image_is) reads_complete;
@@ -100,6 +108,7 @@ module _ (d c : Image) (kept : Kept) (h : Holds d kept) (number : ℕ) (lt : num
           subst (λ file. epoch_in (c k) ≤ epoch_in file) (sym at)
           (still (λ file. epoch_in file ≤ epoch_in (d h.number)) k below (h.chosen.greatest k below) opened);
     };
+    format = h.format ∙ ap format_in (sym at);
     epoch = h.epoch ∙ ap epoch_in (sym at);
     network = h.network ∙ ap network_in (sym at);
     image = subst (λ file. IsImage (image_in file) kept.image) (sym at) h.image;

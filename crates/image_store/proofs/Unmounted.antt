@@ -1,17 +1,23 @@
 -- Why a volume can't be mounted whose image was chosen.
-use Rattle.image_store.proofs.Prelude.{◌≡◌, refl, sym, subst, ◌∙◌, ℕ, ◌+◌, Err, inl, inr, Image, Disk, HasNoRecords}
-use Rattle.image_store.proofs.Prelude.{StoreFault, StartImage, Head, image_in, IsImage, BreaksImage, BreaksJournal}
-use Rattle.image_store.proofs.Prelude.{Mounts, IsChosenHead, ReportsImage}
+use Rattle.image_store.proofs.Prelude.{◌≡◌, refl, sym, ap, subst, ◌∙◌, ℕ, ◌+◌, Err, inl, inr, Image, Disk, HasNoRecords}
+use Rattle.image_store.proofs.Prelude.{StoreFault, StartImage, Head, image_offset, image_in, IsImage, BreaksImage}
+use Rattle.image_store.proofs.Prelude.{BreaksJournal, Mounts, IsChosenHead, ReportsImage}
 use Rattle.gate_journal.specs.Calls as journal
 use Rattle.gate_journal.specs.declared.fault.StoreFault.TheVariants as fault
 
 module _ (old new : Disk) (number : ℕ) (head : Head) (its : IsChosenHead old.reads number head) (before now : ℕ) where
-  breaks_image : (offset : ℕ) → offset ≡ 49
+  breaks_image : (offset : ℕ) → offset ≡ image_offset head.format
       → ((image : StartImage) → IsImage (image_in (old.reads number)) image → ⊥)
       → BreaksImage old.reads number offset
-  breaks_image offset at wrong = record { formed = its.formed; chosen = its.chosen; wrong = wrong; at = at }
+  breaks_image offset at wrong = record {
+    formed = its.formed;
+    chosen = its.chosen;
+    wrong = wrong;
+    at = at ∙ ap image_offset its.reads.sized.format;
+  }
 
-  pub no_image : (wrong : StoreFault) → new.reads ≡ old.reads → ReportsImage number (old.reads number) (Err wrong)
+  pub no_image : (wrong : StoreFault) → new.reads ≡ old.reads
+      → ReportsImage number (image_offset head.format) (old.reads number) (Err wrong)
       → journal.IsMountFault before now wrong → Mounts old new (Err wrong)
   no_image (fault.BadStore bad offset) same reported cause = (
     same,

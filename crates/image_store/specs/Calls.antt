@@ -33,7 +33,8 @@ IsRollFault failed before now other = IsAppendFault failed before now other
 -- ---- opening
 
 abbrev pub kept_in : Mounted → Kept
-kept_in m = record { epoch = m.epoch; network = m.network; image = m.image; records = m.closes }
+kept_in m =
+    record { format = m.format; epoch = m.epoch; network = m.network; image = m.image; records = m.closes }
 
 -- what `mount` says of what is read, which stays as it is but for a fault of the device
 abbrev pub Mounts : (old new : Disk) → Result Mounted StoreFault → Type 0
@@ -52,9 +53,9 @@ IsMountFault before now other = Unit {0}
 
 -- ---- making
 
--- an image in epoch 0, without records
+-- an image in epoch 0 and format 2, without records
 abbrev pub first_kept : Hash → StartImage → Kept
-first_kept network image = record { epoch = 0; network = network; image = image; records = [] }
+first_kept network image = record { format = 2; epoch = 0; network = network; image = image; records = [] }
 
 -- what `create` leaves
 abbrev pub Creates : Hash → StartImage → (old new : Disk) → Result StoreState StoreFault → Type 0

@@ -1,16 +1,19 @@
 -- What four files open to: the image with the greatest epoch, in file 0 or 1, and the records of its journal, in file 2
 -- or 3; or why they open to nothing.
-use Rattle.std.specs.Prelude.{◌≡◌, ◌≢◌, ℕ, ◌+◌, ◌%◌, ◌<◌, ◌≤◌, List, [], ◌∷◌, ◌++◌, length, ◌⊎◌, Result, Ok, Err}
+use Rattle.std.specs.Prelude.{◌≡◌, ℕ, ◌+◌, ◌<◌, ◌≤◌, List, [], ◌∷◌, ◌++◌, ◌⊎◌, Result, Ok, Err}
 use Rattle.ledger_types.specs.declared.ids.Hash.{Hash}
 use Rattle.xdr_header.specs.declared.image.StartImage.{StartImage}
 use Rattle.outside.specs.Disk.{Image}
 use Rattle.gate_journal.specs.Records.{HasRecords, HasNoRecords}
 use Rattle.gate_journal.specs.declared.fault.StoreFault.{StoreFault}
 use Rattle.gate_journal.specs.declared.fault.StoreFault.TheVariants as fault
-use Rattle.image_store.specs.ImageFiles.{head_len, IsOpen, epoch_in, network_in, length_in, image_in, IsFormed, IsImage}
+use Rattle.image_store.specs.ImageFiles.{IsOpen, image_offset, format_in, epoch_in, network_in, image_in}
+use Rattle.image_store.specs.ImageFiles.{IsNumbered, IsSized, IsHashed, IsFormed, IsImage}
 
 -- what is kept
 pub record Kept : Type 0 where
+  -- that of the image's file, 1 or 2
+  pub format : ℕ
   pub epoch : ℕ
   pub network : Hash
   pub image : StartImage
@@ -20,9 +23,9 @@ pub record Kept : Type 0 where
 abbrev pub grown : Kept → List ℕ → Kept
 grown kept bytes = record kept { records = kept.records ++ bytes ∷ [] }
 
--- the next epoch: another image, and no records
+-- the next epoch: another image in format 2, and no records
 abbrev pub rolled : Kept → StartImage → Kept
-rolled kept image = record kept { epoch = kept.epoch + 1; image = image; records = [] }
+rolled kept image = record kept { format = 2; epoch = kept.epoch + 1; image = image; records = [] }
 
 -- ---- the image that counts
 
@@ -44,6 +47,7 @@ pub record Holds (c : Image) (kept : Kept) : Type 0 where
   pub formed : AreFormed c
   pub number : ℕ
   pub chosen : IsChosen c number
+  pub format : kept.format ≡ format_in (c number)
   pub epoch : kept.epoch ≡ epoch_in (c number)
   pub network : kept.network ≡ network_in (c number)
   pub image : IsImage (image_in (c number)) kept.image
@@ -51,11 +55,13 @@ pub record Holds (c : Image) (kept : Kept) : Type 0 where
 
 -- ---- why nothing is kept, in the order in which it is judged
 
--- the epoch's parity isn't the file's (at 1), or else the length isn't (at 41)
+-- the epoch isn't one of this file's (at 1), or else the length isn't the file's (at 41), or else the hash isn't the
+-- image's (at 49)
 abbrev pub IsMisformed : (number : ℕ) (file : List ℕ) (offset : ℕ) → Type 0
 IsMisformed number file offset =
-    ((offset ≡ 1) × (epoch_in file % 2 ≢ number))
-    ⊎ ((offset ≡ 41) × (epoch_in file % 2 ≡ number) × (length file ≢ head_len + length_in file))
+    ((offset ≡ 1) × (IsNumbered number file → ⊥))
+    ⊎ ((offset ≡ 41) × IsNumbered number file × (IsSized file → ⊥))
+    ⊎ ((offset ≡ 49) × IsNumbered number file × IsSized file × (IsHashed file → ⊥))
 
 -- an image is open and misformed, and none before it is
 pub record BreaksForm (c : Image) (file offset : ℕ) : Type 0 where
@@ -64,12 +70,12 @@ pub record BreaksForm (c : Image) (file offset : ℕ) : Type 0 where
   pub wrong : IsMisformed file (c file) offset
   pub first : (number : ℕ) → number < file → IsOpen (c number) → IsFormed number (c number)
 
--- what follows the head of the chosen file is no image
+-- where the chosen file has its image, there is none
 pub record BreaksImage (c : Image) (file offset : ℕ) : Type 0 where
   pub formed : AreFormed c
   pub chosen : IsChosen c file
   pub wrong : (image : StartImage) → IsImage (image_in (c file)) image → ⊥
-  pub at : offset ≡ head_len
+  pub at : offset ≡ image_offset (format_in (c file))
 
 -- the journal of the chosen image is none
 pub record BreaksJournal (c : Image) (file offset : ℕ) : Type 0 where

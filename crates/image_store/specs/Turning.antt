@@ -1,7 +1,11 @@
 -- What the parts of a turn to another epoch leave, and what a crash may leave of them.
-use Rattle.std.specs.Prelude.{◌≡◌, ◌≢◌, ℕ, ◌+◌, List, [], ◌∷◌, ◌++◌, take, drop, ◌⊎◌}
+use Rattle.std.specs.Prelude.{◌≡◌, ◌≢◌, ℕ, ◌+◌, List, [], ◌∷◌, ◌++◌, take, drop, replicate, ◌⊎◌}
 use Rattle.outside.specs.Disk.{Image}
 use Rattle.image_store.specs.ImageFiles.{IsOpen}
+
+-- room for an image's length and hash, before they are known
+unfoldable pub room : List ℕ
+room = replicate 40 0
 
 -- the file is as it was, or no image is open in it
 abbrev pub IsSameOrNotOpen : List ℕ → List ℕ → Type 0

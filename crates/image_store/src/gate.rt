@@ -8,7 +8,8 @@ ghost use Rattle.image_store.specs.Reading as spec;
 use gate_journal::read_exact;
 use outside::{Failed, Volume};
 
-/// How many bytes are before an image: the gate, the epoch, the network id and the image's length.
+/// How many bytes both formats have ahead of an image, or of its hash: the gate, the epoch, the network id and the
+/// image's length.
 pub(crate) const HEAD_LEN: u64 = 49;
 
 /// A gate that is open.
@@ -17,12 +18,12 @@ pub(crate) const OPEN: u8 = 1;
 /// What the gate of an image file says.
 #[derive(Clone, Copy)]
 pub(crate) enum Gate {
-    /// The file has fewer bytes than are before an image: no image is open in it, whatever its first byte.
+    /// The file is shorter than a head: no image is open in it, whatever its first byte.
     Short,
     /// The file is long enough, and its gate isn't open.
     Shut,
-    /// An image is open, with so many bytes after the head.
-    Open { len: u64 },
+    /// An image is open, and the file has so many bytes.
+    Open { size: u64 },
 }
 
 /// The gate of an image file.
@@ -40,9 +41,7 @@ pub(crate) fn gate_of<V: Volume>(vol: &mut V, file: u8) -> Result<Gate, Failed>
     let mut gate = [0; 1];
     read_exact(vol, file, 0, &mut gate)?;
     if gate[0] == OPEN {
-        Ok(Gate::Open {
-            len: size - HEAD_LEN,
-        })
+        Ok(Gate::Open { size })
     } else {
         Ok(Gate::Shut)
     }

@@ -3,6 +3,7 @@
 #![tactic(auto)]
 
 mod gate;
+mod hashing;
 mod head;
 pub mod laws;
 mod mounted;
@@ -12,5 +13,6 @@ mod store;
 mod turn;
 
 pub use gate_journal::{AppendBuf, StoreFault};
+pub use head::image_offset;
 pub use mounted::Mounted;
 pub use store::Store;

@@ -17,4 +17,6 @@ pub struct Mounted {
     pub closes: ItemList<ItemList<u8>>,
     /// The epoch of the image, which is even in file 0 and odd in file 1.
     pub epoch: u64,
+    /// The format of the image's file, 1 or 2.
+    pub format: u8,
 }

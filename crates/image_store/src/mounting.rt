@@ -5,10 +5,9 @@ ghost use Rattle.outside.specs.Disk.{Stays};
 ghost use Rattle.xdr_core.specs.Format.{IsBytes};
 ghost use Rattle.gate_journal.specs.Reading.{HasReadCause};
 ghost use Rattle.image_store.specs.Reading as spec;
-ghost use Rattle.image_store.specs.ImageFiles.{head_len};
+ghost use Rattle.image_store.specs.ImageFiles.{image_offset};
 
-use crate::gate::HEAD_LEN;
-use crate::head::{Head, head_of};
+use crate::head::{Head, head_of, image_offset};
 use gate_journal::{StoreFault, read_bytes};
 use outside::Volume;
 use record_stream::{ImageLength, Measure, take_image};
@@ -39,7 +38,10 @@ pub(crate) fn chosen<V: Volume>(vol: &mut V) -> Result<Option<(u8, Head)>, Store
     ensures cause { HasReadCause (V.faults vol.old) (V.faults vol.new) result }
 {
     let first = head_of(vol, 0)?;
-    let second = head_of(vol, 1)?;
+    let second = match head_of(vol, 1) {
+        Err(wrong) => return Err(wrong),
+        Ok(second) => second,
+    };
     Ok(greater(first, second))
 }
 
@@ -54,15 +56,17 @@ fn is_complete(bytes: &[u8]) -> bool
     }
 }
 
-/// The image that bytes are, with nothing after it.
-fn complete_image(alloc: Global, file: u8, bytes: Vec<u8>) -> Result<StartImage, StoreFault>
-    ensures { spec.ReportsBytes file bytes.items result }
+/// The image that bytes are, with nothing after it, which stand at this offset of a file.
+fn complete_image(
+    alloc: Global,
+    file: u8,
+    at: u64,
+    bytes: Vec<u8>,
+) -> Result<StartImage, StoreFault>
+    ensures { spec.ReportsBytes file at bytes.items result }
 {
     if !is_complete(bytes.as_slice()) {
-        return Err(StoreFault::BadStore {
-            file,
-            place: HEAD_LEN,
-        });
+        return Err(StoreFault::BadStore { file, place: at });
     }
     let mut ahead = bytes;
     match take_image(alloc, &mut ahead) {
@@ -71,20 +75,22 @@ fn complete_image(alloc: Global, file: u8, bytes: Vec<u8>) -> Result<StartImage,
     }
 }
 
-/// The image after the head of a file, of so many bytes. `BadStore` says that it is none, at its offset.
+/// The image of a file with this head. `BadStore` says that it is none, at its offset.
 pub(crate) fn image_of<V: Volume>(
     alloc: Global,
     vol: &mut V,
     file: u8,
-    len: u64,
+    head: &Head,
 ) -> Result<StartImage, StoreFault>
     requires file { file < 2 }
-    requires fits { head_len + len < 2 ^ 64 }
-    requires size { V.reports → length ((V.disk vol.old).reads file) ≡ head_len + len }
-    ensures reported { V.reports → spec.ReportsImage file ((V.disk vol.old).reads file) result }
+    requires fits { spec.DoesHeadFit file head.now }
+    requires size { V.reports → spec.IsHeadSized ((V.disk vol.old).reads file) head.now }
+    ensures reported { V.reports → spec.ReportsImage file (image_offset head.now.format)
+        ((V.disk vol.old).reads file) result }
     ensures stays { Stays (V.disk vol.old) (V.disk vol.new) }
     ensures cause { HasReadCause (V.faults vol.old) (V.faults vol.new) result }
 {
-    let bytes = read_bytes(alloc, vol, file, HEAD_LEN, len as usize)?;
-    complete_image(alloc, file, bytes)
+    let at = image_offset(head.format);
+    let bytes = read_bytes(alloc, vol, file, at, head.len as usize)?;
+    complete_image(alloc, file, at, bytes)
 }

@@ -83,9 +83,9 @@ fn is_any_open<V: Volume>(vol: &mut V) -> Result<bool, Failed>
 }
 
 impl Store {
-    /// Makes a store of an image on a volume that has none: in epoch 0, without records. It begins with a sync, and
-    /// takes its memory before that. While it runs each crash leaves what was there, or no open image, or the store;
-    /// from `Ok` on, the store. `AlreadyThere` says that an image is open.
+    /// Makes a store of an image on a volume that has none: in epoch 0 and format 2, without records. It begins with a
+    /// sync, and takes its memory before that. While it runs each crash leaves what was there, or no open image, or the
+    /// store; from `Ok` on, the store. `AlreadyThere` says that an image is open.
     pub fn create<V: Volume>(
         alloc: Global,
         vol: &mut V,
@@ -125,12 +125,14 @@ impl Store {
 
     /// Opens what a volume keeps: the open image with the greater epoch, and the records after it. It begins with a
     /// sync and writes nothing. `Missing` says that no image is open; `BadStore`, at which offset of which file what is
-    /// open is no store: its epoch has the other file's parity (1), its length isn't the file's (41), its image is none
-    /// (49), or in its journal a gate is missing, or a record is cut short or too long.
+    /// open is no store: its epoch isn't one of the file's (1), its length isn't the file's (41), its hash isn't the
+    /// image's (49, in format 2), its image is none (49 in format 1, 81 in format 2), or in its journal a gate is
+    /// missing, or a record is cut short or too long. The hash of each open file is judged, also of the older one.
     pub fn mount<V: Volume>(alloc: Global, vol: &mut V) -> Result<Mounted, StoreFault>
         ensures mounts { V.reports → spec.Mounts (V.disk vol.old) (V.disk vol.new) result }
         ensures working { IfOk result (λ m. m.store.failed ≡ false) }
         ensures epoch { IfOk result (λ m. m.epoch ≡ m.store.epoch) }
+        ensures low { IfOk result (λ m. m.format ≡ 1 → m.epoch < 2 ^ 63 - 1) }
         ensures short { IfOk result (λ m. All (λ bytes. length bytes ≤ max_record) m.closes) }
         ensures fits { IfOk result (λ m. length (blocks m.closes) < 2 ^ 64) }
         ensures safe { OnOk result (IsSafe (V.disk vol.new)) }
@@ -145,7 +147,7 @@ impl Store {
         let Some((file, head)) = chosen(vol)? else {
             return Err(StoreFault::Missing);
         };
-        let image = match image_of(alloc, vol, file, head.len) {
+        let image = match image_of(alloc, vol, file, &head) {
             Err(wrong) => return Err(wrong),
             Ok(image) => image,
         };
@@ -164,6 +166,7 @@ impl Store {
             image,
             closes,
             epoch: head.epoch,
+            format: head.format,
         })
     }
 
@@ -199,9 +202,9 @@ impl Store {
         }
     }
 
-    /// Goes on to the next epoch: an image in the place of the present one and its records. While it runs each crash
-    /// leaves what was kept, or the new image without records; from `Ok` on, that. Its memory is taken before the first
-    /// call on the volume; where it is refused, nothing has changed. The epoch is below 2^63 - 1.
+    /// Goes on to the next epoch: an image in format 2 in the place of the present one and its records. While it runs
+    /// each crash leaves what was kept, or the new image without records; from `Ok` on, that. Its memory is taken
+    /// before the first call on the volume; where it is refused, nothing has changed. The epoch is below 2^63 - 1.
     pub fn roll<V: Volume>(
         &mut self,
         alloc: Global,

@@ -12,9 +12,9 @@ use crate::ledger::Ledger;
 use bucket_levels::LevelStep;
 use entry_map::Batch;
 use fresh_bucket::fresh_bucket;
-use outside::Steps;
 use std::alloc::{AllocError, Global};
 use std::sync::ledger::Ledger as Count;
+use steps::Steps;
 
 impl Ledger {
     /// The step that the levels make, with the bucket of what changed.

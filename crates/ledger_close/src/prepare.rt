@@ -19,9 +19,9 @@ use close_laws::header::next_header_is_encoded;
 use close_laws::results::results_are_encoded;
 use close_rules::CloseFault;
 use ledger_types::LedgerHeader;
-use outside::Steps;
 use std::alloc::Global;
 use std::sync::ledger::Ledger as Count;
+use steps::Steps;
 use value_hashes::ledger_hash;
 use xdr_header::CloseRecord;
 

@@ -8,7 +8,7 @@ use Rattle.std.specs.Ordering.{ordering_then, MatchOrdering}
 use Rattle.std.specs.Cmp.{ranks, nat_cmp_is}
 use Rattle.std.specs.Simd.Lanes.{chunk}
 use Rattle.std.specs.Slice.Scan.{big_endian}
-use Rattle.ledger_types.specs.KeyOrder.{bytes_cmp}
+use Rattle.ledger_types.specs.Bytes.{bytes_cmp}
 use Rattle.ledger_types.proofs.Booleans.{then_Equal, then_of_Equal}
 
 abbrev Bytes : List ℕ → Type 0

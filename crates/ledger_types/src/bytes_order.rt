@@ -3,7 +3,7 @@
 ghost use Rattle.std.specs.Prelude.{◌≡◌, ◌+◌, ◌≤◌};
 ghost use Rattle.std.specs.Simd.Lanes.{chunk};
 ghost use Rattle.std.specs.Slice.Scan.{big_endian};
-ghost use Rattle.ledger_types.specs.KeyOrder.{bytes_cmp};
+ghost use Rattle.ledger_types.specs.Bytes.{bytes_cmp};
 
 use std::cmp::Ordering;
 

@@ -78,7 +78,12 @@ abbrev pub account_ext : (buying selling : ℤ) → (sponsored sponsoring : ℕ)
     → Option AccountEntryExtensionV1
 account_ext buying selling sponsored sponsoring ids = Some (record {
   liabilities = record { buying = buying; selling = selling };
-  ext = Some (record { num_sponsored = sponsored; num_sponsoring = sponsoring; signer_sponsoring_ids = ids });
+  ext = Some (record {
+    num_sponsored = sponsored;
+    num_sponsoring = sponsoring;
+    signer_sponsoring_ids = ids;
+    ext = None;
+  });
 })
 
 abbrev pub issuer_account : AccountEntry

@@ -1,3 +1,4 @@
+pub mod Dated
 pub mod Sponsorships
 pub mod EntryKeys
 pub mod OfferLiabilities

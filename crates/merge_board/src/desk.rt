@@ -11,10 +11,10 @@ use crate::log::{Pushes, Sent};
 use crate::parts::{Room, WorkerEnd, WorkerSeats};
 use bucket_merge::{MergeJob, MergeOut};
 use counted_queue::Seat;
-use outside::{Gate, Steps};
 use std::sync::ledger::Ledger;
 use std::sync::{OnceToken, Wait};
 use std::thread;
+use steps::{Gate, Steps};
 
 /// How many outcomes a worker may have left, for which there was no slot in the queue.
 const LEFT: usize = 64;

@@ -4,9 +4,9 @@ ghost use Rattle.std.specs.Prelude.{◌≡◌, ◌+◌, ◌<◌, ◌^◌, [], �
 
 use bucket_merge::{MergeJob, MergeOut};
 use http_server::Log;
-use outside::Steps;
 use std::marker::Model;
 use std::sync::ledger::Ledger;
+use steps::Steps;
 
 /// The merges that were given up, with their number. A merge joins them in `make` alone, where `MergeJob::run` has
 /// handed it back: no other call changes them.

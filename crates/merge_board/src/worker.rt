@@ -7,9 +7,9 @@ ghost use Rattle.merge_board.specs.Work.{HasWorked, EndsFor};
 
 use crate::desk::Desk;
 use crate::parts::{Room, Worker, WorkerEnd};
-use outside::{Gate, Steps};
 use std::sync::ledger::Ledger;
 use std::sync::{OnceToken, Wait};
+use steps::{Gate, Steps};
 
 impl Worker {
     /// Works until the board is closed and after that no job waits, or until 64 outcomes found no slot. It answers what

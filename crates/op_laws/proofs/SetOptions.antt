@@ -23,7 +23,7 @@ use Rattle.op_flags.specs.ledger_types.declared.signer.SignerKey.TheVariants as 
 use Rattle.op_flags.specs.sponsor_rules.declared.count.Count.TheVariants as count
 use Rattle.op_flags.specs.legal_rules.SignerLaws.{IsNewSigner}
 use Rattle.op_flags.specs.op_types.declared.account_results.SetOptionsResult.TheVariants as set
-use Rattle.op_options.specs.OptionTests.{answer}
+use Rattle.op_options.specs.OptionTests.{answer, is_bad_payload}
 use Rattle.op_laws.proofs.Flags.{flags_set}
 use Rattle.op_laws.proofs.Lawful.{KeepsLegal, lawful_still}
 use Rattle.op_laws.proofs.Signers.{without_core}
@@ -255,11 +255,12 @@ module _ (ctx : Ctx) (m : EntryMap) (under : IsUnderway ctx m) (a : AccountEntry
   by_weight s high own signed false some is = by_index s (not_zero s.weight some, high) own signed
       (index_of s.key a.signers) refl is
 
-  by_signer : (o : Option Signer) → is_bad_signer src o ≡ false → (signed : EntryMap)
+  by_signer : (o : Option Signer) → is_bad_signer ctx o ≡ false → (signed : EntryMap)
       → map_after_signer ctx a m o ≡ Ok signed → IsSigned signed
   by_signer None bad signed is = subst IsSigned (same_ok {F = OperationResult} m signed is) itself_signed
   by_signer (Some s) bad signed is =
-      let both = or_parts (is_own_key src s.key) (nat_lt 255 s.weight) bad in
+      let all = or_parts (is_own_key src s.key || nat_lt 255 s.weight) (is_bad_payload ctx.version s.key) bad in
+      let both = or_parts (is_own_key src s.key) (nat_lt 255 s.weight) all.0 in
       by_weight s (at_most_255 s.weight both.1) both.0 signed (nat_eq s.weight 0) refl is
 
 -- ---- the other options
@@ -317,7 +318,7 @@ options_next op base a = record {
 -- ---- the operation
 
 module _ (ctx : Ctx) (op : SetOptionsOp) (m : EntryMap) (under : IsUnderway ctx m)
-    (unknown : has_unknown op.set_flags ≡ false) (bad : is_bad_signer ctx.op_source op.signer ≡ false)
+    (unknown : has_unknown op.set_flags ≡ false) (bad : is_bad_signer ctx op.signer ≡ false)
     (domain : is_bad_domain op.home_domain ≡ false) where
   options_lawful : (a : AccountEntry) (signed : EntryMap) → account_at m ctx.op_source ≡ Some a
       → AllPass (source_tests op a) → map_after_signer ctx a m op.signer ≡ Ok signed

@@ -1,11 +1,12 @@
--- The tests of SET_OPTIONS before its signer (SetOptionsOpFrame in stellar-core; CAP-0035 for AUTH_CLAWBACK_ENABLED).
+-- The tests of SET_OPTIONS before its signer (SetOptionsOpFrame in stellar-core; CAP-0035 for AUTH_CLAWBACK_ENABLED,
+-- CAP-0040 for signed payloads).
 use Rattle.std.specs.Prelude.{ℕ, ◌&&◌, ◌||◌, not, ◌∷◌, [], nat_eq, nat_lt, is_some, Bool, false, List, bit_and, bit_or}
-use Rattle.std.specs.Prelude.{bit_xor, unwrap_or, Option, Some, None}
+use Rattle.std.specs.Prelude.{bit_xor, length, unwrap_or, Option, Some, None}
 use Rattle.std.specs.Str.{bytes_eq}
 use Rattle.ledger_types.specs.declared.ids.AccountId.{AccountId}
 use Rattle.ledger_types.specs.declared.signer.Signer.{Signer}
 use Rattle.ledger_types.specs.declared.signer.SignerKey.{SignerKey}
-use Rattle.ledger_types.specs.declared.signer.SignerKey.TheVariants.{Ed25519}
+use Rattle.ledger_types.specs.declared.signer.SignerKey.TheVariants.{Ed25519, SignedPayload}
 use Rattle.ledger_types.specs.declared.account.AccountEntry.{AccountEntry}
 use Rattle.op_types.specs.declared.account_ops.SetOptionsOp.{SetOptionsOp}
 use Rattle.op_types.specs.declared.account_results.SetOptionsResult.{SetOptionsResult}
@@ -17,6 +18,7 @@ use Rattle.valid_values.specs.Texts.{is_valid_text}
 use Rattle.entry_map.specs.EntryMap.{EntryMap}
 use Rattle.entry_slots.specs.Accounts.{account_at}
 use Rattle.entry_slots.specs.Tests.{Tests}
+use Rattle.sponsor_rules.specs.declared.context.Ctx.{Ctx}
 
 abbrev pub answer : SetOptionsResult → OperationResult
 answer code = Inner (tr.SetOptions code)
@@ -45,9 +47,15 @@ abbrev pub is_own_key : AccountId → SignerKey → Bool
 is_own_key id (Ed25519 key) = bytes_eq key id.0
 is_own_key id other = false
 
-abbrev pub is_bad_signer : AccountId → Option Signer → Bool
-is_bad_signer id None = false
-is_bad_signer id (Some signer) = is_own_key id signer.key || nat_lt 255 signer.weight
+-- a signed payload before protocol 19, or one that is empty
+abbrev pub is_bad_payload : (version : ℕ) → SignerKey → Bool
+is_bad_payload version (SignedPayload key payload) = nat_lt version 19 || nat_eq (length payload) 0
+is_bad_payload version other = false
+
+abbrev pub is_bad_signer : Ctx → Option Signer → Bool
+is_bad_signer ctx None = false
+is_bad_signer ctx (Some signer) =
+    is_own_key ctx.op_source signer.key || nat_lt 255 signer.weight || is_bad_payload ctx.version signer.key
 
 abbrev pub is_bad_domain : Option (List ℕ) → Bool
 is_bad_domain None = false
@@ -56,12 +64,12 @@ is_bad_domain (Some domain) = not (is_valid_text domain)
 -- ---- tests
 
 -- the tests that ask nothing of the map
-abbrev pub given_tests : AccountId → SetOptionsOp → Tests OperationResult
-given_tests id set_op =
+abbrev pub given_tests : Ctx → SetOptionsOp → Tests OperationResult
+given_tests ctx set_op =
     (has_unknown set_op.set_flags || has_unknown set_op.clear_flags, answer set.UnknownFlag)
     ∷ (not (nat_eq (bit_and (flags_in set_op.set_flags) (flags_in set_op.clear_flags)) 0), answer set.BadFlags)
     ∷ (is_out_of_range set_op, answer set.ThresholdOutOfRange)
-    ∷ (is_bad_signer id set_op.signer, answer set.BadSigner)
+    ∷ (is_bad_signer ctx set_op.signer, answer set.BadSigner)
     ∷ (is_bad_domain set_op.home_domain, answer set.InvalidHomeDomain)
     ∷ []
 

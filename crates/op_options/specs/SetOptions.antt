@@ -53,5 +53,5 @@ options_of ctx set_op m source =
 
 abbrev pub set_options : Ctx → SetOptionsOp → EntryMap → Attempt
 set_options ctx set_op m =
-    unless_refused (given_tests ctx.op_source set_op)
+    unless_refused (given_tests ctx set_op)
     (unless_refused (inflation_tests set_op m) (options_of ctx set_op m (account_at m ctx.op_source)))

@@ -9,6 +9,7 @@ use item_list::ItemList;
 use ledger_types::{AccountEntry, AccountId, Signer, SignerKey};
 use op_form::exists;
 use op_types::{OperationResult, OperationResultTr, SetOptionsOp, SetOptionsResult};
+use sponsor_rules::Ctx;
 use std::alloc::AllocError;
 use valid_values::is_valid_text;
 
@@ -23,6 +24,9 @@ const AUTH_CLAWBACK_ENABLED: u32 = 8;
 
 /// All flags of an account (MASK_ACCOUNT_FLAGS_V17).
 const ALL_FLAGS: u32 = 15;
+
+/// The first protocol in which a signed payload may be a signer (CAP-0040).
+const SIGNED_PAYLOADS_FROM: u32 = 19;
 
 /// What the operation answers.
 pub fn answer(code: SetOptionsResult) -> OperationResult
@@ -55,13 +59,29 @@ fn is_own_key(id: &AccountId, key: &SignerKey) -> bool
     }
 }
 
+/// Whether a key is a signed payload that can't be a signer's: before protocol 19 none can, and none that is empty.
+fn is_bad_payload(version: u32, key: &SignerKey) -> bool
+    ensures { result ≡ spec.is_bad_payload version key.now }
+{
+    match key {
+        SignerKey::SignedPayload { payload, .. } => {
+            version < SIGNED_PAYLOADS_FROM || payload.as_slice().is_empty()
+        }
+        _ => false,
+    }
+}
+
 /// Whether a signer is given that the account can't have.
-fn is_bad_signer(id: &AccountId, signer: &Option<Signer>) -> bool
-    ensures { result ≡ spec.is_bad_signer id.now signer.now }
+fn is_bad_signer(ctx: &Ctx, signer: &Option<Signer>) -> bool
+    ensures { result ≡ spec.is_bad_signer ctx.now signer.now }
 {
     match signer {
         None => false,
-        Some(signer) => is_own_key(id, &signer.key) || signer.weight > 255,
+        Some(signer) => {
+            is_own_key(&ctx.op_source, &signer.key)
+                || signer.weight > 255
+                || is_bad_payload(ctx.version, &signer.key)
+        }
     }
 }
 
@@ -86,8 +106,8 @@ fn is_out_of_range(op: &SetOptionsOp) -> bool
 }
 
 /// Why what is given can't be set on any account, if it can't.
-pub fn given_refusal(id: &AccountId, op: &SetOptionsOp) -> Option<OperationResult>
-    ensures refusal { result ≡ first_fault (spec.given_tests id.now op.now) }
+pub fn given_refusal(ctx: &Ctx, op: &SetOptionsOp) -> Option<OperationResult>
+    ensures refusal { result ≡ first_fault (spec.given_tests ctx.now op.now) }
     ensures weights { IfNone result (spec.is_out_of_range op.now ≡ false) }
 {
     let set = flags_in(op.set_flags);
@@ -101,7 +121,7 @@ pub fn given_refusal(id: &AccountId, op: &SetOptionsOp) -> Option<OperationResul
     if is_out_of_range(op) {
         return Some(answer(SetOptionsResult::ThresholdOutOfRange));
     }
-    if is_bad_signer(id, &op.signer) {
+    if is_bad_signer(ctx, &op.signer) {
         return Some(answer(SetOptionsResult::BadSigner));
     }
     if is_bad_domain(&op.home_domain) {

@@ -28,7 +28,7 @@ pub fn set_options<B: Base>(
     ensures { IfOk result (λ r.
         Makes r ctx.now entries.old entries.new (spec.set_options ctx.now op.now entries.old.current)) }
 {
-    if let Some(refusal) = given_refusal(&ctx.op_source, op) {
+    if let Some(refusal) = given_refusal(ctx, op) {
         return Ok(refusal);
     }
     if is_missing(entries, &op.inflation_dest)? {

@@ -447,13 +447,16 @@ inner_code inner.InternalError = minus 11
 inner_code inner.NotSupported = minus 12
 inner_code inner.FeeBumpInnerFailed = minus 13
 inner_code inner.BadSponsorship = minus 14
+inner_code inner.BadMinSeqAgeOrGap = minus 15
+inner_code inner.Malformed = minus 16
 inner_code inner.FeeBumpInnerSuccess = pos 1
 
 abbrev pub inner_values : List InnerTransactionOutcome
 inner_values =
     inner.TooEarly ∷ inner.TooLate ∷ inner.MissingOperation ∷ inner.BadSeq ∷ inner.BadAuth ∷ inner.InsufficientBalance
     ∷ inner.NoAccount ∷ inner.InsufficientFee ∷ inner.BadAuthExtra ∷ inner.InternalError ∷ inner.NotSupported
-    ∷ inner.FeeBumpInnerFailed ∷ inner.BadSponsorship ∷ inner.FeeBumpInnerSuccess ∷ []
+    ∷ inner.FeeBumpInnerFailed ∷ inner.BadSponsorship ∷ inner.BadMinSeqAgeOrGap ∷ inner.Malformed
+    ∷ inner.FeeBumpInnerSuccess ∷ []
 
 -- ---- TransactionOutcome
 
@@ -473,10 +476,13 @@ outcome_code outcome.InternalError = minus 11
 outcome_code outcome.NotSupported = minus 12
 outcome_code (outcome.FeeBumpInnerFailed x) = minus 13
 outcome_code outcome.BadSponsorship = minus 14
+outcome_code outcome.BadMinSeqAgeOrGap = minus 15
+outcome_code outcome.Malformed = minus 16
 outcome_code (outcome.FeeBumpInnerSuccess x) = pos 1
 
 abbrev pub outcome_values : List TransactionOutcome
 outcome_values =
     outcome.TooEarly ∷ outcome.TooLate ∷ outcome.MissingOperation ∷ outcome.BadSeq ∷ outcome.BadAuth
     ∷ outcome.InsufficientBalance ∷ outcome.NoAccount ∷ outcome.InsufficientFee ∷ outcome.BadAuthExtra
-    ∷ outcome.InternalError ∷ outcome.NotSupported ∷ outcome.BadSponsorship ∷ []
+    ∷ outcome.InternalError ∷ outcome.NotSupported ∷ outcome.BadSponsorship ∷ outcome.BadMinSeqAgeOrGap
+    ∷ outcome.Malformed ∷ []

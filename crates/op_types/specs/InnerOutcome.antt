@@ -21,4 +21,6 @@ inner_outcome outcome.InternalError = inner.InternalError
 inner_outcome outcome.NotSupported = inner.NotSupported
 inner_outcome (outcome.FeeBumpInnerFailed pair) = inner.FeeBumpInnerFailed
 inner_outcome outcome.BadSponsorship = inner.BadSponsorship
+inner_outcome outcome.BadMinSeqAgeOrGap = inner.BadMinSeqAgeOrGap
+inner_outcome outcome.Malformed = inner.Malformed
 inner_outcome (outcome.FeeBumpInnerSuccess pair) = inner.FeeBumpInnerSuccess

@@ -1,5 +1,5 @@
-//! Operations, transactions and their results, with the names of the protocol's XDR (protocol 18). A field has its name
-//! in snake case; the discriminant of a union is the variant of an enum.
+//! Operations, transactions and their results, with the names of the protocol's XDR (protocols 18 and 19). A field has
+//! its name in snake case; the discriminant of a union is the variant of an enum.
 #![tactic(auto)]
 
 mod account_ops;
@@ -16,12 +16,14 @@ mod payment_ops;
 mod payment_results;
 mod pool_ops;
 mod pool_results;
+mod preconditions;
 mod sponsor_ops;
 mod sponsor_results;
 mod transaction;
 mod transaction_result;
 mod trust_ops;
 mod trust_results;
+mod vouch;
 
 pub use account_ops::{
     AccountMergeOp, BumpSequenceOp, CreateAccountOp, ManageDataOp, SetOptionsOp,
@@ -48,13 +50,14 @@ pub use payment_results::{
 };
 pub use pool_ops::{LiquidityPoolDepositOp, LiquidityPoolWithdrawOp};
 pub use pool_results::{LiquidityPoolDepositResult, LiquidityPoolWithdrawResult};
+pub use preconditions::{LedgerBounds, Preconditions, PreconditionsV2, TimeBounds};
 pub use sponsor_ops::{BeginSponsoringFutureReservesOp, RevokeSponsorshipOp};
 pub use sponsor_results::{
     BeginSponsoringFutureReservesResult, EndSponsoringFutureReservesResult, RevokeSponsorshipResult,
 };
 pub use transaction::{
-    DecoratedSignature, FeeBumpTransaction, FeeBumpTransactionEnvelope, Memo, TimeBounds,
-    Transaction, TransactionEnvelope, TransactionSet, TransactionV0, TransactionV0Envelope,
+    DecoratedSignature, FeeBumpTransaction, FeeBumpTransactionEnvelope, Memo, Transaction,
+    TransactionEnvelope, TransactionSet, TransactionV0, TransactionV0Envelope,
     TransactionV1Envelope,
 };
 pub use transaction_result::{
@@ -65,3 +68,4 @@ pub use trust_ops::{AllowTrustOp, AssetCode, ChangeTrustOp, ClawbackOp, SetTrust
 pub use trust_results::{
     AllowTrustResult, ChangeTrustResult, ClawbackResult, SetTrustLineFlagsResult,
 };
+pub use vouch::Vouch;

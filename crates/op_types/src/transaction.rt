@@ -1,6 +1,7 @@
 //! Transactions, their envelopes, and sets of them.
 
 use crate::operation::Operation;
+use crate::preconditions::{Preconditions, TimeBounds};
 use item_list::ItemList;
 use ledger_types::{Hash, MuxedAccount};
 
@@ -19,14 +20,6 @@ pub enum Memo {
     Return(Hash),
 }
 
-/// When a transaction may close (TimeBounds in Stellar-transaction.x). Times are in seconds since 1970-01-01T00:00:00Z.
-#[derive(Clone, Copy)]
-pub struct TimeBounds {
-    pub min_time: u64,
-    /// 0 is no bound.
-    pub max_time: u64,
-}
-
 /// A signature, with a hint of who made it (DecoratedSignature in Stellar-transaction.x).
 #[derive(Drop)]
 pub struct DecoratedSignature {
@@ -42,9 +35,9 @@ pub struct Transaction {
     pub source_account: MuxedAccount,
     /// The bid: the most that the transaction pays, in stroops.
     pub fee: u32,
-    /// One above the source's sequence number.
+    /// One above the source's sequence number, unless its preconditions say otherwise.
     pub seq_num: i64,
-    pub time_bounds: Option<TimeBounds>,
+    pub cond: Preconditions,
     pub memo: Memo,
     /// At most 100.
     pub operations: ItemList<Operation>,

@@ -42,6 +42,10 @@ pub enum InnerTransactionOutcome {
     FeeBumpInnerFailed,
     /// txBAD_SPONSORSHIP, -14: a sponsorship is still open after the last operation.
     BadSponsorship,
+    /// txBAD_MIN_SEQ_AGE_OR_GAP, -15: the source's sequence number was set too short a time ago.
+    BadMinSeqAgeOrGap,
+    /// txMALFORMED, -16: the preconditions are invalid.
+    Malformed,
     /// txFEE_BUMP_INNER_SUCCESS, 1: the inner transaction succeeded.
     FeeBumpInnerSuccess,
 }
@@ -64,6 +68,8 @@ impl Drop for InnerTransactionOutcome {
             | InnerTransactionOutcome::NotSupported
             | InnerTransactionOutcome::FeeBumpInnerFailed
             | InnerTransactionOutcome::BadSponsorship
+            | InnerTransactionOutcome::BadMinSeqAgeOrGap
+            | InnerTransactionOutcome::Malformed
             | InnerTransactionOutcome::FeeBumpInnerSuccess => {}
         }
     }
@@ -89,6 +95,8 @@ impl Coded for InnerTransactionOutcome {
             -12 => Some(InnerTransactionOutcome::NotSupported),
             -13 => Some(InnerTransactionOutcome::FeeBumpInnerFailed),
             -14 => Some(InnerTransactionOutcome::BadSponsorship),
+            -15 => Some(InnerTransactionOutcome::BadMinSeqAgeOrGap),
+            -16 => Some(InnerTransactionOutcome::Malformed),
             1 => Some(InnerTransactionOutcome::FeeBumpInnerSuccess),
             _ => None,
         }
@@ -111,6 +119,8 @@ impl Coded for InnerTransactionOutcome {
             InnerTransactionOutcome::NotSupported => -12,
             InnerTransactionOutcome::FeeBumpInnerFailed => -13,
             InnerTransactionOutcome::BadSponsorship => -14,
+            InnerTransactionOutcome::BadMinSeqAgeOrGap => -15,
+            InnerTransactionOutcome::Malformed => -16,
             InnerTransactionOutcome::FeeBumpInnerSuccess => 1,
         }
     }
@@ -165,6 +175,10 @@ pub enum TransactionOutcome {
     FeeBumpInnerFailed(InnerTransactionResultPair),
     /// txBAD_SPONSORSHIP, -14: a sponsorship is still open after the last operation.
     BadSponsorship,
+    /// txBAD_MIN_SEQ_AGE_OR_GAP, -15: the source's sequence number was set too short a time ago.
+    BadMinSeqAgeOrGap,
+    /// txMALFORMED, -16: the preconditions are invalid.
+    Malformed,
     /// txFEE_BUMP_INNER_SUCCESS, 1: the inner transaction succeeded.
     FeeBumpInnerSuccess(InnerTransactionResultPair),
 }
@@ -187,7 +201,9 @@ impl Drop for TransactionOutcome {
             | TransactionOutcome::BadAuthExtra
             | TransactionOutcome::InternalError
             | TransactionOutcome::NotSupported
-            | TransactionOutcome::BadSponsorship => {}
+            | TransactionOutcome::BadSponsorship
+            | TransactionOutcome::BadMinSeqAgeOrGap
+            | TransactionOutcome::Malformed => {}
         }
     }
 }
@@ -214,6 +230,8 @@ impl TransactionOutcome {
             TransactionOutcome::FeeBumpInnerFailed(_) =>
                 InnerTransactionOutcome::FeeBumpInnerFailed,
             TransactionOutcome::BadSponsorship => InnerTransactionOutcome::BadSponsorship,
+            TransactionOutcome::BadMinSeqAgeOrGap => InnerTransactionOutcome::BadMinSeqAgeOrGap,
+            TransactionOutcome::Malformed => InnerTransactionOutcome::Malformed,
             TransactionOutcome::FeeBumpInnerSuccess(_) =>
                 InnerTransactionOutcome::FeeBumpInnerSuccess,
         }
@@ -239,6 +257,8 @@ impl Coded for TransactionOutcome {
             -11 => Some(TransactionOutcome::InternalError),
             -12 => Some(TransactionOutcome::NotSupported),
             -14 => Some(TransactionOutcome::BadSponsorship),
+            -15 => Some(TransactionOutcome::BadMinSeqAgeOrGap),
+            -16 => Some(TransactionOutcome::Malformed),
             _ => None,
         }
     }
@@ -260,6 +280,8 @@ impl Coded for TransactionOutcome {
             TransactionOutcome::NotSupported => -12,
             TransactionOutcome::FeeBumpInnerFailed(_) => -13,
             TransactionOutcome::BadSponsorship => -14,
+            TransactionOutcome::BadMinSeqAgeOrGap => -15,
+            TransactionOutcome::Malformed => -16,
             TransactionOutcome::FeeBumpInnerSuccess(_) => 1,
         }
     }

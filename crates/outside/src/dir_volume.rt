@@ -6,27 +6,31 @@ ghost use Rattle.outside.specs.Streams.{Rose};
 
 use crate::directory::Directory;
 use crate::failed::Failed;
+use crate::lock_files::{Access, LockFiles};
 use crate::volume::Volume;
-use std::fs::Files;
 
 /// The files `image0`, `image1`, `journal0` and `journal1` of the directory `ledger-store`, in that order. A file that
 /// isn't there has no bytes, is passed over by a sync, and is made, with the directory, by the first write or cut. A
 /// sync reaches the files, the directory where a file was made since the last one, and the directory's parent where
 /// the directory was. Each error of the system is a fault, and so is a read that gives no byte. It reports nothing of
 /// its bytes.
+///
+/// A store belongs to one writer: before its first call on a directory that is there, and else with the first write, it
+/// takes the lock of the file `lock` beside the four, for as long as it exists. A call that can't take it fails, and so
+/// does the first one that meets bytes of another process in a directory that wasn't there before.
 #[derive(Drop)]
-pub struct DirVolume<R: Files> {
+pub struct DirVolume<R: LockFiles> {
     directory: Directory<R>,
     faults: u64,
 }
 
-impl<R: Files> DirVolume<R> {
-    /// The files as they are in the working directory.
-    pub fn new(system: R) -> DirVolume<R>
+impl<R: LockFiles> DirVolume<R> {
+    /// The files as they are in the working directory, for a command that uses them so.
+    pub fn new(system: R, access: Access) -> DirVolume<R>
         ensures { ⟦<DirVolume<R> as Volume>⟧.faults result ≡ 0 }
     {
         DirVolume {
-            directory: Directory::new(system),
+            directory: Directory::new(system, access),
             faults: 0,
         }
     }
@@ -40,7 +44,7 @@ impl<R: Files> DirVolume<R> {
     }
 }
 
-impl<R: Files> Volume for DirVolume<R> {
+impl<R: LockFiles> Volume for DirVolume<R> {
     ghost reports = { ⊥ };
 
     ghost disk = { λ _. untold };

@@ -1,14 +1,17 @@
-//! The trusted edge of a volume: calls of the system on four files of a directory, and nothing beside them.
+//! The trusted edge of a volume: calls of the system on four files of a directory and on the lock beside them.
 
 ghost use Rattle.std.specs.Io.{ReadsAtMost};
 
-use std::fs::{Files, OpenFile, OpenOptions};
+use crate::lock_files::{Access, LockFiles};
+use std::fs::{OpenFile, OpenOptions};
 use std::io::{ErrorKind, Read, Seek, SeekFrom, Write};
 use std::{fs, io};
 
 const DIRECTORY: &str = "ledger-store";
 
 const PARENT: &str = ".";
+
+const LOCK: &str = "ledger-store/lock";
 
 fn path_of(file: u8) -> &'static str {
     match file {
@@ -19,10 +22,15 @@ fn path_of(file: u8) -> &'static str {
     }
 }
 
-// The four files, of which those that were written since the last sync are open.
+// The four files, of which those that were written since the last sync are open, and the lock.
 #[derive(Drop)]
-pub(crate) struct Directory<R: Files> {
+pub(crate) struct Directory<R: LockFiles> {
     system: R,
+    access: Access,
+    // It is taken before the first call on a directory that is there, and else with the first write.
+    lock: Option<R::File>,
+    // Whether a call found no directory, and so no byte of the four files.
+    was_absent: bool,
     // A handle stays open from a write to its sync, since an error may be reported to it alone.
     image0: Option<R::File>,
     image1: Option<R::File>,
@@ -33,10 +41,13 @@ pub(crate) struct Directory<R: Files> {
     directory_made: bool,
 }
 
-impl<R: Files> Directory<R> {
-    pub(crate) fn new(system: R) -> Directory<R> {
+impl<R: LockFiles> Directory<R> {
+    pub(crate) fn new(system: R, access: Access) -> Directory<R> {
         Directory {
             system,
+            access,
+            lock: None,
+            was_absent: false,
             image0: None,
             image1: None,
             journal0: None,
@@ -55,7 +66,71 @@ impl<R: Files> Directory<R> {
         }
     }
 
-    pub(crate) fn length(&self, file: u8) -> io::Result<u64> {
+    // The lock's file, locked. It is made where it isn't there, as in a store of an older program.
+    fn locked(&self) -> io::Result<R::File> {
+        let found = match OpenOptions::new().read(true).open(&self.system, LOCK) {
+            Err(error) if error.kind() == ErrorKind::NotFound => OpenOptions::new()
+                .read(true)
+                .write(true)
+                .create(true)
+                .open(&self.system, LOCK)?,
+            found => found?,
+        };
+        self.system.hold(&found, self.access)?;
+        Ok(found)
+    }
+
+    // Takes the lock of a directory that is there. Where a call found none before, any byte that is there now is another
+    // process's, and what was answered of it is out of date.
+    fn take_lock(&mut self) -> io::Result<()> {
+        let lock = self.locked()?;
+        if self.was_absent {
+            for file in 0..4 {
+                if self.found_length(file)? != 0 {
+                    return Err(io::Error::from(ErrorKind::AlreadyExists));
+                }
+            }
+        }
+        self.lock = Some(lock);
+        Ok(())
+    }
+
+    // Takes the lock, unless it is held or there is no directory yet.
+    fn enter(&mut self) -> io::Result<()> {
+        if self.lock.is_some() {
+            return Ok(());
+        }
+        match fs::metadata(&self.system, DIRECTORY) {
+            Ok(_) => self.take_lock(),
+            Err(error) if error.kind() == ErrorKind::NotFound => {
+                self.was_absent = true;
+                Ok(())
+            }
+            Err(error) => Err(error),
+        }
+    }
+
+    // Makes the directory and takes its lock, unless it is held.
+    fn claim(&mut self) -> io::Result<()> {
+        if self.lock.is_some() {
+            return Ok(());
+        }
+        match fs::create_dir(&self.system, DIRECTORY) {
+            Ok(()) => self.directory_made = true,
+            Err(error) if error.kind() == ErrorKind::AlreadyExists => {}
+            Err(error) => return Err(error),
+        }
+        // no byte was seen so far
+        self.was_absent = true;
+        self.take_lock()
+    }
+
+    pub(crate) fn length(&mut self, file: u8) -> io::Result<u64> {
+        self.enter()?;
+        self.found_length(file)
+    }
+
+    fn found_length(&self, file: u8) -> io::Result<u64> {
         match fs::metadata(&self.system, path_of(file)) {
             Ok(found) => Ok(found.len()),
             Err(error) if error.kind() == ErrorKind::NotFound => Ok(0),
@@ -63,9 +138,10 @@ impl<R: Files> Directory<R> {
         }
     }
 
-    pub(crate) fn read(&self, file: u8, at: u64, buf: &mut [u8]) -> io::Result<usize>
+    pub(crate) fn read(&mut self, file: u8, at: u64, buf: &mut [u8]) -> io::Result<usize>
         ensures { ReadsAtMost result buf.new }
     {
+        self.enter()?;
         let mut found = OpenOptions::new()
             .read(true)
             .open(&self.system, path_of(file))?;
@@ -75,17 +151,13 @@ impl<R: Files> Directory<R> {
 
     // A file to be written, which is made where it isn't there, and so is the directory.
     fn open(&mut self, file: u8) -> io::Result<R::File> {
+        self.claim()?;
         match OpenOptions::new()
             .write(true)
             .open(&self.system, path_of(file))
         {
             Err(error) if error.kind() == ErrorKind::NotFound => {}
             found => return found,
-        }
-        match fs::create_dir(&self.system, DIRECTORY) {
-            Ok(()) => self.directory_made = true,
-            Err(error) if error.kind() == ErrorKind::AlreadyExists => {}
-            Err(error) => return Err(error),
         }
         self.file_made = true;
         OpenOptions::new()
@@ -141,6 +213,7 @@ impl<R: Files> Directory<R> {
     }
 
     pub(crate) fn keep(&mut self) -> io::Result<()> {
+        self.enter()?;
         for file in 0..4 {
             self.keep_file(file)?;
         }

@@ -13,10 +13,10 @@ use Rattle.stored_outcome.specs.run_outcome.declared.status.Status.TheVariants a
 use Rattle.outside.specs.Disk.{Image, Disk}
 use Rattle.image_store.specs.State.{StoreState}
 use Rattle.replay.specs.Keeping.{Ready}
-use Rattle.replay.specs.Stored.{IsStored}
+use Rattle.replay.specs.Stored.{IsRestored}
 use Rattle.stored_outcome.specs.run_streams.SeenVolume.{SeenVolume, VolumeFailed}
 use Rattle.image_store.specs.gate_journal.Records.{max_record}
-use Rattle.image_store.specs.ImageFiles.{head_len}
+use Rattle.image_store.specs.ImageFiles.{image_offset}
 use Rattle.image_store.specs.Opening.{Kept, HoldsNothing}
 use Rattle.image_store.specs.gate_journal.declared.fault.StoreFault.{StoreFault}
 use Rattle.image_store.specs.gate_journal.declared.fault.StoreFault.TheVariants as fault
@@ -32,13 +32,14 @@ status_of fault.Missing = status.Missing
 status_of fault.AlreadyThere = status.AlreadyThere
 status_of fault.NoMemory = status.NoMemory
 
--- the end of a run whose image is no ledger's
-abbrev pub image_status : ImageFault → (epoch : ℕ) → Status
-image_status image.NoMemory epoch = status.NoMemory
-image_status other epoch = status.BadStore (epoch % 2) head_len
+-- the end of a run whose image, in a file of this format, is no ledger's
+abbrev pub image_status : ImageFault → (epoch format : ℕ) → Status
+image_status image.NoMemory epoch format = status.NoMemory
+image_status other epoch format = status.BadStore (epoch % 2) (image_offset format)
 
-abbrev pub kept_of : ℕ → Hash → StartImage → List (List ℕ) → Kept
-kept_of epoch network image records = record { epoch = epoch; network = network; image = image; records = records }
+abbrev pub kept_of : (format epoch : ℕ) → Hash → StartImage → List (List ℕ) → Kept
+kept_of format epoch network image records =
+    record { format = format; epoch = epoch; network = network; image = image; records = records }
 
 abbrev pub AreShort : List (List ℕ) → Type 0
 AreShort records = All (λ bytes. length bytes ≤ max_record) records
@@ -65,7 +66,7 @@ OpensSo ready old new (Err end) = OpensNot old new end
 
 -- what is open: a state, the store that keeps it, and how many records it has
 pub record IsOpened (records : ℕ) (s : ClosingState) (store : StoreState) (disk : Disk) : Type 0 where
-  pub ready : Ready (IsStored store disk s) disk s
+  pub ready : Ready (IsRestored store disk s) disk s
   pub count : records ≡ length ready.kept.kept.records
 
 -- the ends of a run that doesn't begin

@@ -1,11 +1,11 @@
 //! How records are closed while workers make merges beside the closing thread.
 
-ghost use Rattle.std.specs.Prelude.{◌≡◌, ◌≤◌, [], All, IfSome, Some, false, length, vec_len};
+ghost use Rattle.std.specs.Prelude.{◌≡◌, ◌≤◌, [], All, IfSome, Some, false, length, vec_len, ◌<◌, ◌-◌, ◌^◌};
 ghost use denote.Param.Send.{IsSync};
 ghost use Rattle.stored_outcome.specs.run_streams.Seen.{seen};
 ghost use Rattle.stored_outcome.specs.run_streams.SeenVolume.{seen_volume};
 ghost use Rattle.worker_merges.specs.WorkerSlots.{IsManned, HasEnded, IsSideOf, IsSideEndOf};
-ghost use Rattle.replay.specs.Stored.{IsStored};
+ghost use Rattle.replay.specs.Stored.{IsRestored};
 ghost use Rattle.replay.specs.Keeping.{Ready, DidFollow};
 ghost use Rattle.replay.specs.StoredRuns.{RanStored};
 ghost use Rattle.replay.specs.Beside as spec;
@@ -67,7 +67,8 @@ fn serve<R: Wait, V: Volume, I: Source, O: Sink, L: Count>(
 ) -> Served
     requires side { spec.HasSide room.now workers side.old }
     requires works { opened.old.keeper.store.failed ≡ false }
-    requires ready { V.reports → Ready (IsStored opened.old.keeper.store (V.disk vol.old) opened.old.ledger.state)
+    requires low { opened.old.format ≡ 1 → opened.old.keeper.store.epoch < 2 ^ 63 - 1 }
+    requires ready { V.reports → Ready (IsRestored opened.old.keeper.store (V.disk vol.old) opened.old.ledger.state)
         (V.disk vol.old) opened.old.ledger.state }
     ensures side { IsSideEndOf room.now workers result.side }
     ensures followed { DidFollow (Unit {0}) opened.old.ledger.state 0 [] (seen I.left I.faults input.old input.new)
@@ -103,7 +104,8 @@ fn serve_beside<R: Threads + Wait + Sync, G: Gate, V: Volume, I: Source, O: Sink
     requires manned { All (IsManned room.now) slots.old }
     requires side { spec.HasSide room.now workers side.old }
     requires works { opened.old.keeper.store.failed ≡ false }
-    requires ready { V.reports → Ready (IsStored opened.old.keeper.store (V.disk vol.old) opened.old.ledger.state)
+    requires low { opened.old.format ≡ 1 → opened.old.keeper.store.epoch < 2 ^ 63 - 1 }
+    requires ready { V.reports → Ready (IsRestored opened.old.keeper.store (V.disk vol.old) opened.old.ledger.state)
         (V.disk vol.old) opened.old.ledger.state }
     ensures count { length slots.new ≡ length slots.old }
     ensures ended { All (HasEnded room.now) slots.new }
@@ -121,8 +123,9 @@ fn serve_beside<R: Threads + Wait + Sync, G: Gate, V: Volume, I: Source, O: Sink
         &mut || -> Served
             requires side { spec.HasSide room.now workers side.now }
             requires works { opened.now.keeper.store.failed ≡ false }
+            requires low { opened.now.format ≡ 1 → opened.now.keeper.store.epoch < 2 ^ 63 - 1 }
             requires ready { V.reports
-                → Ready (IsStored opened.now.keeper.store (V.disk vol.now) opened.now.ledger.state)
+                → Ready (IsRestored opened.now.keeper.store (V.disk vol.now) opened.now.ledger.state)
                 (V.disk vol.now) opened.now.ledger.state }
             ensures side { IsSideEndOf room.entry.now workers result.side }
             ensures followed { DidFollow (Unit {0}) opened.entry.now.ledger.state 0 []
@@ -154,7 +157,8 @@ fn close_beside<R: Threads + Wait + Sync, G: Gate, V: Volume, I: Source, O: Sink
     requires some { 1 ≤ workers }
     requires few { workers ≤ 8 }
     requires works { opened.old.keeper.store.failed ≡ false }
-    requires ready { V.reports → Ready (IsStored opened.old.keeper.store (V.disk vol.old) opened.old.ledger.state)
+    requires low { opened.old.format ≡ 1 → opened.old.keeper.store.epoch < 2 ^ 63 - 1 }
+    requires ready { V.reports → Ready (IsRestored opened.old.keeper.store (V.disk vol.old) opened.old.ledger.state)
         (V.disk vol.old) opened.old.ledger.state }
     ensures { DidFollow (Unit {0}) opened.old.ledger.state 0 [] (seen I.left I.faults input.old input.new)
         (seen O.taken O.faults out.old out.new) (seen_volume V.reports V.disk V.faults vol.old vol.new) result }

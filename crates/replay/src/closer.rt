@@ -1,13 +1,16 @@
 //! An opened store, and closing records after it with or without workers.
 
-ghost use Rattle.std.specs.Prelude.{◌≡◌, [], false};
+ghost use Rattle.std.specs.Prelude.{◌≡◌, ◌≤◌, ◌<◌, ◌-◌, ◌^◌, [], false, Err, OnOk};
+ghost use Rattle.outside.specs.Disk.{Runs};
 ghost use Rattle.stored_outcome.specs.run_streams.Seen.{seen};
 ghost use Rattle.stored_outcome.specs.run_streams.SeenVolume.{seen_volume};
-ghost use Rattle.replay.specs.Stored.{IsStored};
-ghost use Rattle.replay.specs.Keeping.{Ready, DidFollow};
+ghost use Rattle.replay.specs.Stored.{IsRestored, IsStored};
+ghost use Rattle.replay.specs.declared.keeper.KeepFault.TheVariants as keep;
+ghost use Rattle.replay.specs.Keeping.{Ready, DidFollow, OpensEither, IsCaused};
 
 use crate::closes::follow;
 use crate::crew::Crew;
+use crate::keeper::KeepFault;
 use crate::stored::Stored;
 use outside::{Sink, Source, Steps, Volume};
 use std::alloc::Global;
@@ -21,9 +24,34 @@ pub(crate) struct Opened {
     pub(crate) ledger: Ledger,
     pub(crate) keeper: Stored,
     pub(crate) records: usize,
+    /// The format of the store's image as it was opened, 1 or 2.
+    pub(crate) format: u8,
 }
 
-/// Closes a ledger for each record of the input, with the help of a crew.
+/// Brings a store of format 1 over to format 2, by going on to the next epoch with the ledger as it is.
+fn migrate<V: Volume>(alloc: Global, opened: &mut Opened, vol: &mut V) -> Result<(), KeepFault>
+    requires works { opened.old.keeper.store.failed ≡ false }
+    requires low { opened.old.format ≡ 1 → opened.old.keeper.store.epoch < 2 ^ 63 - 1 }
+    requires ready { V.reports → Ready (IsRestored opened.old.keeper.store (V.disk vol.old) opened.old.ledger.state)
+        (V.disk vol.old) opened.old.ledger.state }
+    ensures migrated { V.reports → OnOk result (Ready (IsStored opened.new.keeper.store (V.disk vol.new)
+        opened.old.ledger.state) (V.disk vol.new) opened.old.ledger.state) }
+    ensures no_memory { result ≡ Err keep.NoMemory → (opened.new ≡ opened.old) × (vol.new ≡ vol.old) }
+    ensures runs { V.reports
+        → Runs (OpensEither opened.old.ledger.state opened.old.ledger.state) (V.disk vol.old) (V.disk vol.new) }
+    ensures works { OnOk result (opened.new.keeper.store.failed ≡ false) }
+    ensures ledger { opened.new.ledger ≡ opened.old.ledger }
+    ensures later { V.faults vol.old ≤ V.faults vol.new }
+    ensures cause { IsCaused (Unit {0}) (V.faults vol.old) (V.faults vol.new) result }
+{
+    if opened.format != 1 {
+        return Ok(());
+    }
+    opened.keeper.renew(alloc, vol, &opened.ledger)
+}
+
+/// Closes a ledger for each record of the input, with the help of a crew. A store of format 1 is brought over to format
+/// 2 before the input is read.
 pub(crate) fn follow_with<C: Crew, V: Volume, I: Source, O: Sink, L: Count>(
     alloc: Global,
     crew: &C,
@@ -36,12 +64,18 @@ pub(crate) fn follow_with<C: Crew, V: Volume, I: Source, O: Sink, L: Count>(
 ) -> Status
     requires crew { C.has crew.now side.old }
     requires works { opened.old.keeper.store.failed ≡ false }
-    requires ready { V.reports → Ready (IsStored opened.old.keeper.store (V.disk vol.old) opened.old.ledger.state)
+    requires low { opened.old.format ≡ 1 → opened.old.keeper.store.epoch < 2 ^ 63 - 1 }
+    requires ready { V.reports → Ready (IsRestored opened.old.keeper.store (V.disk vol.old) opened.old.ledger.state)
         (V.disk vol.old) opened.old.ledger.state }
     ensures crew { C.has crew.now side.new }
     ensures followed { DidFollow (Unit {0}) opened.old.ledger.state 0 [] (seen I.left I.faults input.old input.new)
         (seen O.taken O.faults out.old out.new) (seen_volume V.reports V.disk V.faults vol.old vol.new) result }
 {
+    match migrate(alloc, opened, vol) {
+        Ok(()) => {}
+        Err(KeepFault::DiskFault) => return Status::DiskFault,
+        Err(KeepFault::NoMemory) => return Status::NoMemory,
+    }
     let mut ahead = Vec::new(alloc);
     follow(
         alloc,

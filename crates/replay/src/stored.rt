@@ -1,11 +1,12 @@
 //! Keeping records in a store: the keeper of a run over one.
 
-ghost use Rattle.std.specs.Prelude.{◌≡◌, ◌≤◌, ℕ, List, Ok, IfOk, OnOk, length, false};
+ghost use Rattle.std.specs.Prelude.{◌≡◌, ◌≤◌, ◌<◌, ◌-◌, ◌^◌, ℕ, List, Ok, Err, IfOk, OnOk, length, false};
 ghost use Rattle.outside.specs.Streams.{HasCause};
 ghost use Rattle.stored_outcome.specs.close_rules.State.{ClosingState};
 ghost use Rattle.stored_outcome.specs.close_rules.Close.{PreparedClose, IsClose};
 ghost use Rattle.outside.specs.Disk.{Disk, Runs};
 ghost use Rattle.replay.specs.Keeping as spec;
+ghost use Rattle.replay.specs.declared.keeper.KeepFault.TheVariants as keep;
 ghost use Rattle.replay.specs.Stored as stored;
 
 use crate::keeper::{KeepFault, Keeper};
@@ -35,6 +36,37 @@ fn keep_fault(fault: StoreFault) -> KeepFault
         StoreFault::BadStore { file: _, place: _ } => KeepFault::DiskFault,
         StoreFault::Missing => KeepFault::DiskFault,
         StoreFault::AlreadyThere => KeepFault::DiskFault,
+    }
+}
+
+impl Stored {
+    /// Goes on to the next epoch, with the image of this ledger, which the store keeps. What is kept stays.
+    pub(crate) fn renew<V: Volume>(
+        &mut self,
+        alloc: Global,
+        vol: &mut V,
+        ledger: &Ledger,
+    ) -> Result<(), KeepFault>
+        requires works { self.old.store.failed ≡ false }
+        requires epoch { self.old.store.epoch < 2 ^ 63 - 1 }
+        requires ready { V.reports → spec.Ready (stored.IsRestored self.old.store (V.disk vol.old) ledger.now.state)
+            (V.disk vol.old) ledger.now.state }
+        ensures kept { V.reports → OnOk result (spec.Ready (stored.IsStored self.new.store (V.disk vol.new)
+            ledger.now.state) (V.disk vol.new) ledger.now.state) }
+        ensures no_memory { result ≡ Err keep.NoMemory → (self.new ≡ self.old) × (vol.new ≡ vol.old) }
+        ensures runs { V.reports
+            → Runs (spec.OpensEither ledger.now.state ledger.now.state) (V.disk vol.old) (V.disk vol.new) }
+        ensures works { OnOk result (self.new.store.failed ≡ false) }
+        ensures later { V.faults vol.old ≤ V.faults vol.new }
+        ensures cause { spec.IsCaused (Unit {0}) (V.faults vol.old) (V.faults vol.new) result }
+    {
+        let Ok(image) = ledger.image(alloc) else {
+            return Err(KeepFault::NoMemory);
+        };
+        match self.store.roll(alloc, vol, &image) {
+            Ok(()) => Ok(()),
+            Err(fault) => Err(keep_fault(fault)),
+        }
     }
 }
 
@@ -73,12 +105,6 @@ impl Keeper for Stored {
         if self.store.epoch() >= LAST_EPOCH {
             return Ok(());
         }
-        let Ok(image) = ledger.image(alloc) else {
-            return Err(KeepFault::NoMemory);
-        };
-        match self.store.roll(alloc, vol, &image) {
-            Ok(()) => Ok(()),
-            Err(fault) => Err(keep_fault(fault)),
-        }
+        self.renew(alloc, vol, ledger)
     }
 }

@@ -1,6 +1,6 @@
 //! A run over the store that a volume keeps, but for the line on standard error.
 
-ghost use Rattle.std.specs.Prelude.{◌≡◌, ◌≤◌, ◌<◌, ◌^◌, false, length, IfOk, IfErr};
+ghost use Rattle.std.specs.Prelude.{◌≡◌, ◌≤◌, ◌<◌, ◌^◌, false, length, IfOk, IfErr, ◌-◌};
 ghost use Rattle.std.specs.Io.KnownBytes.{IsAtEnd};
 ghost use Rattle.outside.specs.Streams.{Rose};
 ghost use Rattle.outside.specs.Disk.{Runs, Same};
@@ -17,7 +17,7 @@ use crate::again::{AgainFault, close_again};
 use crate::closer::{Opened, follow_with};
 use crate::crew::Nobody;
 use crate::stored::Stored;
-use image_store::{Mounted, Store, StoreFault};
+use image_store::{Mounted, Store, StoreFault, image_offset};
 use item_list::ItemList;
 use ledger_types::Hash;
 use outside::{Sink, Source, Steps, Volume};
@@ -41,15 +41,15 @@ fn status_of(fault: StoreFault) -> Status
     }
 }
 
-/// The end of a run whose image is no ledger's.
-fn image_status(fault: ImageFault, epoch: u64) -> Status
-    ensures { result ≡ spec.image_status fault epoch }
+/// The end of a run whose image, in a file of this format, is no ledger's.
+fn image_status(fault: ImageFault, epoch: u64, format: u8) -> Status
+    ensures { result ≡ spec.image_status fault epoch format }
 {
     match fault {
         ImageFault::NoMemory => Status::NoMemory,
         ImageFault::BadImage { rule: _ } => Status::BadStore {
             file: (epoch % 2) as u8,
-            place: 49,
+            place: image_offset(format),
         },
     }
 }
@@ -60,15 +60,16 @@ fn restore<L: Count>(
     network: Hash,
     closes: &[ItemList<u8>],
     epoch: u64,
+    format: u8,
     steps: &mut Steps<L>,
 ) -> Result<Ledger, Status>
     requires short { spec.AreShort closes.now }
     requires fits { length (blocks closes.now) < 2 ^ 64 }
-    ensures { spec.Restores (spec.kept_of epoch network image closes.now) result }
+    ensures { spec.Restores (spec.kept_of format epoch network image closes.now) result }
 {
     let mut ledger = match Ledger::from_image(image, network) {
         Ok(ledger) => ledger,
-        Err(fault) => return Err(image_status(fault, epoch)),
+        Err(fault) => return Err(image_status(fault, epoch, format)),
     };
     match close_again(&mut ledger, closes, steps) {
         Ok(()) => Ok(ledger),
@@ -87,6 +88,7 @@ pub(crate) fn open<V: Volume, L: Count>(
     steps: &mut Steps<L>,
 ) -> Result<Opened, Status>
     ensures works { IfOk result (λ o. o.keeper.store.failed ≡ false) }
+    ensures low { IfOk result (λ o. o.format ≡ 1 → o.keeper.store.epoch < 2 ^ 63 - 1) }
     ensures opens { V.reports
         → spec.OpensSo (λ o. spec.IsOpened o.records o.ledger.state o.keeper.store (V.disk vol.new))
         (V.disk vol.old).reads (V.disk vol.new).reads result }
@@ -100,15 +102,17 @@ pub(crate) fn open<V: Volume, L: Count>(
         image,
         closes,
         epoch,
+        format,
     } = match Store::mount(alloc, vol) {
         Ok(mounted) => mounted,
         Err(fault) => return Err(status_of(fault)),
     };
-    match restore(image, network, closes.as_slice(), epoch, steps) {
+    match restore(image, network, closes.as_slice(), epoch, format, steps) {
         Ok(ledger) => Ok(Opened {
             ledger,
             keeper: Stored { store },
             records: closes.len(),
+            format,
         }),
         Err(end) => Err(end),
     }

@@ -2,13 +2,15 @@
 use Rattle.sample_ledger.proofs.Prelude as prelude
 use prelude.{ℕ, zero, suc, ◌+◌, ◌*◌, ◌<◌, ◌≤◌, ◌^◌, List, [], ◌∷◌, length, map, pos, arith, ◌==◌, ◌&&◌, ◌||◌, nat_le}
 use prelude.{◌%◌, ◌/◌, codes, range_with_len, sha256, var, list_of, LedgerHeader, Operation, OperationBody}
-use prelude.{muxed_account, operation, operation_fields, decorated_signature, signature_fields, time_bounds, memo}
-use prelude.{memo_part, memo_arms, memo_none, after_source, after_source_fields, transaction, transaction_fields}
+use prelude.{muxed_account, operation, operation_fields, decorated_signature, signature_fields, memo}
+use prelude.{memo_part, memo_arms, memo_none, transaction_tail, preconditions, preconditions_part, preconditions_arms}
+use prelude.{no_conditions, transaction, transaction_fields}
 use prelude.{transaction_v1_envelope, v1_fields, transaction_envelope, envelope_part, envelope_arms, envelope_v1}
 use prelude.{transaction_set, set_fields, stellar_value, value_fields, ledger_close_value_signature, close_record}
 use prelude.{record_fields, hash_of_set, secret, account_count, issuer_turn, drawn_turn, issuer_operations}
 use prelude.{other_operation, operations_of, signers_of, envelope_of, is_claim, if_either}
 use Rattle.std.specs.Prelude.{drop}
+use Rattle.op_types.specs.declared.preconditions.Preconditions.TheVariants as conditions
 use Rattle.op_types.specs.declared.transaction.Memo.TheVariants as memos
 use Rattle.sample_ledger.specs.Records as spec
 use Rattle.sample_ledger.proofs.Lengths.{hint_len, secret_len}
@@ -146,19 +148,23 @@ memo_short : IsShort memo 4 memos.None
 unfolding memo
 memo_short = short.short_union memo_part memo_arms (short.short_arm memo_none short.short_empty)
 
+no_conditions_short : IsShort preconditions 4 conditions.None
+unfolding preconditions
+no_conditions_short =
+    short.short_union preconditions_part preconditions_arms (short.short_arm no_conditions short.short_empty)
+
 transaction_short : (seed k account : ℕ) → k ≤ 20000 → account < account_count
     → IsShort transaction 2011 (spec.transaction_of seed k account)
-unfolding transaction after_source
+unfolding transaction transaction_tail
 transaction_short seed k account few below =
     let done = operations_of seed k account in
     short.short_struct transaction_fields (short.short_both (muxed_short seed account below)
-    (short.short_struct after_source_fields
     (short.short_both (short.short_u32 (100 * length done) (omega (arith, few_operations seed k account)))
     (short.short_both (amount_short k (omega arith))
-    (short.short_both (short.short_none time_bounds) (short.short_both memo_short
+    (short.short_both no_conditions_short (short.short_both memo_short
     (short.short_closed (pos 0)
     (short.short_list 100 8 operation 243 done (few_operations seed k account) (omega arith)
-    (done_short seed k account)))))))))
+    (done_short seed k account))))))))
 
 envelope_short : (seed k account : ℕ) → seed < 2 ^ 32 → k ≤ 20000 → account < account_count
     → IsShort transaction_envelope 2175 (envelope_of seed k account)

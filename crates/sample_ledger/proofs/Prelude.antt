@@ -47,10 +47,12 @@ unfoldable pub use Rattle.value_hashes.specs.xdr_tx.Operations.{create_claimable
 unfoldable pub use Rattle.value_hashes.specs.xdr_tx.Operations.{manage_data_op, manage_sell_offer_op, operation}
 unfoldable pub use Rattle.value_hashes.specs.xdr_tx.Operations.{operation_body, path_payment_strict_send_op, payment_op}
 unfoldable pub use Rattle.value_hashes.specs.xdr_tx.Operations.{set_options_op}
-pub use Rattle.value_hashes.specs.xdr_tx.Transactions.{after_source_fields, envelope_arms, envelope_part, envelope_v1}
+pub use Rattle.value_hashes.specs.xdr_tx.Transactions.{no_conditions, preconditions_arms, preconditions_part}
+pub use Rattle.value_hashes.specs.xdr_tx.Transactions.{envelope_arms, envelope_part, envelope_v1}
 pub use Rattle.value_hashes.specs.xdr_tx.Transactions.{memo_arms, memo_none, memo_part, set_fields, signature_fields}
 pub use Rattle.value_hashes.specs.xdr_tx.Transactions.{transaction_fields, v1_fields}
-unfoldable pub use Rattle.value_hashes.specs.xdr_tx.Transactions.{after_source, decorated_signature, memo, time_bounds}
+unfoldable pub use Rattle.value_hashes.specs.xdr_tx.Transactions.{transaction_tail, decorated_signature, memo}
+unfoldable pub use Rattle.value_hashes.specs.xdr_tx.Transactions.{preconditions}
 unfoldable pub use Rattle.value_hashes.specs.xdr_tx.Transactions.{transaction, transaction_envelope, transaction_set}
 unfoldable pub use Rattle.value_hashes.specs.xdr_tx.Transactions.{transaction_v1_envelope}
 pub use Rattle.xdr_core.specs.Combinators.{Arm, Fields, Part, closed, empty, encode_part, entire, marked, part}

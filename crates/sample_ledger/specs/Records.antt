@@ -15,6 +15,7 @@ use Rattle.ledger_types.specs.declared.price.Price.{Price}
 use Rattle.op_types.specs.declared.operation.Operation.{Operation}
 use Rattle.op_types.specs.declared.operation.OperationBody.{OperationBody}
 use Rattle.op_types.specs.declared.operation.OperationBody.TheVariants as op
+use Rattle.op_types.specs.declared.preconditions.Preconditions.TheVariants as conditions
 use Rattle.op_types.specs.declared.transaction.Memo.TheVariants as memo
 use Rattle.op_types.specs.declared.transaction.DecoratedSignature.{DecoratedSignature}
 use Rattle.op_types.specs.declared.transaction.Transaction.{Transaction}
@@ -202,7 +203,7 @@ transaction_of seed k account = record {
   source_account = muxed_account seed account;
   fee = 100 * length (operations_of seed k account);
   seq_num = pos k;
-  time_bounds = None;
+  cond = conditions.None;
   memo = memo.None;
   operations = operations_of seed k account;
 }

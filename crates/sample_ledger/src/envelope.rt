@@ -9,7 +9,10 @@ use crate::accounts::{ACCOUNT_COUNT, Accounts};
 use crate::operations::operations_of;
 use crate::turn::is_claim;
 use item_list::ItemList;
-use op_types::{DecoratedSignature, Memo, Transaction, TransactionEnvelope, TransactionV1Envelope};
+use op_types::{
+    DecoratedSignature, Memo, Preconditions, Transaction, TransactionEnvelope,
+    TransactionV1Envelope,
+};
 use sha2::{Digest, Sha256};
 use std::alloc::{AllocError, Global};
 
@@ -78,7 +81,7 @@ fn transaction(
         source_account: accounts.muxed(account),
         fee: 100 * operations.len() as u32,
         seq_num: i64::from(k),
-        time_bounds: None,
+        cond: Preconditions::None,
         memo: Memo::None,
         operations,
     })

@@ -8,7 +8,7 @@ use Rattle.ledger_types.specs.declared.ids.Hash.{Hash}
 use Rattle.ledger_types.specs.declared.account.AccountEntry.{AccountEntry}
 use Rattle.ledger_types.specs.declared.signer.Signer.{Signer}
 use Rattle.ledger_types.specs.declared.signer.SignerKey.{SignerKey}
-use Rattle.ledger_types.specs.declared.signer.SignerKey.TheVariants.{Ed25519, PreAuthTx, HashX}
+use Rattle.ledger_types.specs.declared.signer.SignerKey.TheVariants.{Ed25519, PreAuthTx, HashX, SignedPayload}
 use Rattle.op_types.specs.declared.transaction.DecoratedSignature.{DecoratedSignature}
 use Rattle.hash_ids.specs.Ids.{hash_of}
 use Rattle.signer_check.specs.declared.held.HeldSignature.{HeldSignature}
@@ -37,14 +37,16 @@ abbrev pub is_authorised : Hash → SignerKey → Bool
 is_authorised hash (PreAuthTx wanted) = bytes_eq wanted.0 hash.0
 is_authorised hash (Ed25519 key) = false
 is_authorised hash (HashX wanted) = false
+is_authorised hash (SignedPayload key payload) = false
 
 -- A signature matches a hash-x signer whose last four bytes are its hint and whose hash is that of the signature. It
--- never matches an Ed25519 signer.
+-- never matches an Ed25519 signer or a signed payload.
 abbrev pub matches_key : HeldSignature → SignerKey → Bool
 matches_key signature (HashX wanted) =
     bytes_eq signature.hint (drop 28 wanted.0) && bytes_eq signature.digest.0 wanted.0
 matches_key signature (Ed25519 key) = false
 matches_key signature (PreAuthTx wanted) = false
+matches_key signature (SignedPayload key payload) = false
 
 -- ---- which signers count
 

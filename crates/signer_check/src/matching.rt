@@ -12,7 +12,7 @@ pub fn is_authorised(hash: &Hash, key: &SignerKey) -> bool
 {
     match key {
         SignerKey::PreAuthTx(wanted) => wanted.0 == hash.0,
-        SignerKey::Ed25519(_) | SignerKey::HashX(_) => false,
+        SignerKey::Ed25519(_) | SignerKey::HashX(_) | SignerKey::SignedPayload { .. } => false,
     }
 }
 
@@ -25,6 +25,6 @@ pub fn matches_key(signature: &HeldSignature, key: &SignerKey) -> bool
         SignerKey::HashX(wanted) => {
             signature.hint.as_slice() == wanted.0.split_at(28).1 && signature.digest.0 == wanted.0
         }
-        SignerKey::Ed25519(_) | SignerKey::PreAuthTx(_) => false,
+        SignerKey::Ed25519(_) | SignerKey::PreAuthTx(_) | SignerKey::SignedPayload { .. } => false,
     }
 }

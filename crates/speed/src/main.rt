@@ -24,7 +24,7 @@ mod order_books;
 mod stores;
 
 use order_books::{Seen, pass_book, pass_head, pass_index};
-use std::rt::Files;
+use outside::LockFiles;
 use std::{env, io};
 use stores::pass_store;
 
@@ -62,7 +62,7 @@ fn report_seen<R: Print>(rt: &R, command: &str, seen: Option<Seen>) -> io::Resul
 }
 
 /// Runs a command on the store in the working directory, and prints what it answers.
-fn report_store<R: Files + Print + AllocGlobal>(
+fn report_store<R: LockFiles + Print + AllocGlobal>(
     rt: &R,
     command: &str,
     count: &str,
@@ -78,7 +78,7 @@ fn report_store<R: Files + Print + AllocGlobal>(
 }
 
 /// Runs a command on two words.
-fn report_two<R: Files + Print + AllocGlobal>(
+fn report_two<R: LockFiles + Print + AllocGlobal>(
     rt: &R,
     command: &str,
     first: &str,

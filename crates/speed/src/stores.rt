@@ -5,9 +5,8 @@ ghost use Rattle.xdr_header.specs.Image.{start_image};
 
 use image_store::{AppendBuf, Store};
 use ledger_types::Hash;
-use outside::DirVolume;
+use outside::{Access, DirVolume, LockFiles};
 use std::alloc::{AllocError, Global};
-use std::fs::Files;
 use xdr_core::{Builder, Cursor};
 use xdr_header::laws::reading_and_encoding_agree;
 use xdr_header::{StartImage, read_start_image};
@@ -52,14 +51,14 @@ fn image_of(alloc: Global, count: usize) -> Option<StartImage>
 }
 
 /// Makes a store of an image of so many bytes, where there is none.
-fn make<R: Files>(alloc: Global, vol: &mut DirVolume<R>, count: usize) -> Option<usize> {
+fn make<R: LockFiles>(alloc: Global, vol: &mut DirVolume<R>, count: usize) -> Option<usize> {
     let image = image_of(alloc, count)?;
     Store::create(alloc, vol, Hash([7; 32]), &image).ok()?;
     Some(1)
 }
 
 /// Appends records of so many bytes.
-fn append<R: Files>(
+fn append<R: LockFiles>(
     alloc: Global,
     vol: &mut DirVolume<R>,
     count: usize,
@@ -75,7 +74,7 @@ fn append<R: Files>(
 }
 
 /// Opens a store, and goes on to an image of so many bytes where that is wanted.
-fn roll<R: Files>(
+fn roll<R: LockFiles>(
     alloc: Global,
     vol: &mut DirVolume<R>,
     count: usize,
@@ -91,14 +90,14 @@ fn roll<R: Files>(
 
 /// Runs a command on the store, where there is such a command, and answers how many records there were, or how many
 /// stores were made.
-pub fn pass_store<R: Files + Drop>(
+pub fn pass_store<R: LockFiles + Drop>(
     alloc: Global,
     system: R,
     command: &str,
     count: usize,
     size: usize,
 ) -> Option<usize> {
-    let mut vol = DirVolume::new(system);
+    let mut vol = DirVolume::new(system, Access::Write);
     match command.as_bytes() {
         b"store-make" => make(alloc, &mut vol, count),
         b"store-append" => append(alloc, &mut vol, count, size),

@@ -9,7 +9,7 @@ use Rattle.run_outcome.specs.close_rules.Images.{IsJudged}
 use Rattle.run_outcome.specs.Outcome.{AreClosed}
 use Rattle.image_store.specs.outside.Disk.{Image, Disk, IsSafe}
 use Rattle.image_store.specs.gate_journal.Records.{blocks}
-use Rattle.image_store.specs.ImageFiles.{head_len}
+use Rattle.image_store.specs.ImageFiles.{image_offset}
 use Rattle.image_store.specs.Opening.{Kept, Holds, HoldsNoStore}
 
 -- ---- a content that opens
@@ -31,7 +31,7 @@ pub record BreaksRule (k : Kept) (file offset : ℕ) : Type 0 where
   pub wrong : ImageFault
   pub judged : IsJudged k.network k.image (Err wrong)
   pub in_file : file ≡ k.epoch % 2
-  pub at : offset ≡ head_len
+  pub at : offset ≡ image_offset k.format
 
 -- a record is refused after those before it; the offset is its gate's
 pub record RefusesRecord (k : Kept) (file offset : ℕ) : Type 0 where

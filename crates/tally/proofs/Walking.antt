@@ -16,7 +16,8 @@ use Rattle.ledger_types.specs.declared.key.LedgerKey.{LedgerKey}
 use Rattle.ledger_types.specs.declared.key.LedgerKey.TheVariants as key
 use Rattle.ledger_types.specs.declared.entry.LedgerEntryBody.{LedgerEntryBody}
 use Rattle.ledger_types.specs.declared.entry.LedgerEntryBody.TheVariants as body
-use Rattle.ledger_types.specs.KeyOrder.{bytes_cmp, key_cmp}
+use Rattle.ledger_types.specs.Bytes.{bytes_cmp}
+use Rattle.ledger_types.specs.KeyOrder.{key_cmp}
 use Rattle.legal_rules.specs.xdr_core.Leaves.{fixed}
 use Rattle.entry_changes.specs.xdr_entries.Basic.{account_id}
 use Rattle.entry_changes.specs.xdr_entries.Entries.{account_head, account_entry, ledger_entry_body, ledger_entry}

@@ -1,14 +1,14 @@
 -- What an envelope that has an encoding says of its transaction.
 use Rattle.tx_apply.proofs.Prelude.{◌≤◌, length, list, Transaction, TransactionV0, TransactionV0Envelope}
 use Rattle.tx_apply.proofs.Prelude.{TransactionV1Envelope, FeeBumpTransactionEnvelope, TransactionEnvelope}
-use Rattle.tx_apply.proofs.Prelude.{after_source, transaction, transaction_v1_envelope, fee_bump_transaction}
+use Rattle.tx_apply.proofs.Prelude.{transaction_tail, transaction, transaction_v1_envelope, fee_bump_transaction}
 use Rattle.tx_apply.proofs.Prelude.{fee_bump_envelope, transaction_v0, transaction_v0_envelope, transaction_envelope}
 use Rattle.tx_apply.proofs.Prelude.{operations_of}
 use Rattle.op_types.specs.declared.transaction.TransactionEnvelope.TheVariants as envelope
 
 -- at most 100 operations
 few_operations : (tx : Transaction) → transaction.within tx → length tx.operations ≤ 100
-unfolding transaction after_source list
+unfolding transaction transaction_tail list
 few_operations tx within = within.1.1.1.1.1.0.0
 
 pub few_of_v1 : (signed : TransactionV1Envelope) → transaction_v1_envelope.within signed
@@ -30,7 +30,7 @@ inner_within signed within = inner_within_by signed within.0
 -- ---- any envelope
 
 few_of_v0 : (tx : TransactionV0) → transaction_v0.within tx → length tx.operations ≤ 100
-unfolding transaction_v0 after_source list
+unfolding transaction_v0 transaction_tail list
 few_of_v0 tx within = within.1.1.1.1.1.0.0
 
 few_of_v0_envelope : (signed : TransactionV0Envelope) → transaction_v0_envelope.within signed

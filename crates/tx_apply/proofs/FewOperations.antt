@@ -3,9 +3,9 @@ use Rattle.tx_apply.proofs.Prelude as prelude
 use prelude.{ℕ, suc, ◌+◌, ◌≡◌, ◌≤◌, List, [], ◌∷◌, ◌++◌, length, Option, Some, None, true, arith, length-append}
 use prelude.{flat_map, Operation, Transaction, TransactionV0, TransactionV0Envelope, TransactionV1Envelope}
 use prelude.{FeeBumpTransactionEnvelope, TransactionEnvelope, TransactionSet, ◌⨾◌, Fields, struct_of, entire, closed}
-use prelude.{marked, option, list, encode_option, operation, operation_body, after_source_fields, transaction_fields}
+use prelude.{marked, option, list, encode_option, operation, operation_body, transaction_fields}
 use prelude.{transaction_v0_fields, v1_fields, v0_fields, fee_bump_fields, bump_fields, set_fields, decorated_signature}
-use prelude.{memo, time_bounds, after_source, transaction, transaction_v0, transaction_v1_envelope}
+use prelude.{memo, time_bounds, preconditions, transaction_tail, transaction, transaction_v0, transaction_v1_envelope}
 use prelude.{transaction_v0_envelope, fee_bump_transaction, fee_bump_envelope, transaction_envelope, transaction_set}
 use prelude.{operations_of, operation_total}
 use Rattle.std.specs.Prelude.{ℤ, pos}
@@ -100,18 +100,16 @@ in_operations operations = in_list 100 operation (length operations) operations
     (one_each operation.encoding some_bytes operations)
 
 in_transaction : (tx : Transaction) → Has transaction (length tx.operations) tx
-unfolding transaction after_source
+unfolding transaction transaction_tail
 in_transaction tx = in_struct transaction_fields (in_rest muxed_account tx.source_account
-    (in_struct after_source_fields (in_rest u32 tx.fee (in_rest i64 tx.seq_num
-    (in_rest (optional time_bounds) tx.time_bounds (in_rest memo tx.memo
-    (in_closed (pos 0) (in_operations tx.operations))))))))
+    (in_rest u32 tx.fee (in_rest i64 tx.seq_num (in_rest preconditions tx.cond (in_rest memo tx.memo
+    (in_closed (pos 0) (in_operations tx.operations)))))))
 
 in_v0 : (tx : TransactionV0) → Has transaction_v0 (length tx.operations) tx
-unfolding transaction_v0 after_source
+unfolding transaction_v0 transaction_tail
 in_v0 tx = in_struct transaction_v0_fields (in_rest (fixed 32) tx.source_account_ed25519
-    (in_struct after_source_fields (in_rest u32 tx.fee (in_rest i64 tx.seq_num
-    (in_rest (optional time_bounds) tx.time_bounds (in_rest memo tx.memo
-    (in_closed (pos 0) (in_operations tx.operations))))))))
+    (in_rest u32 tx.fee (in_rest i64 tx.seq_num (in_rest (optional time_bounds) tx.time_bounds (in_rest memo tx.memo
+    (in_closed (pos 0) (in_operations tx.operations)))))))
 
 in_v1_envelope : (signed : TransactionV1Envelope) → Has transaction_v1_envelope (length signed.tx.operations) signed
 unfolding transaction_v1_envelope

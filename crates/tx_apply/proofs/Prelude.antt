@@ -77,9 +77,10 @@ pub use Rattle.value_hashes.specs.xdr_core.Combinators.{Fields, closed, encode_o
 unfoldable pub use Rattle.value_hashes.specs.xdr_core.Combinators.{list, option}
 unfoldable pub use Rattle.xdr_tx.specs.Operations.{create_claimable_balance_op, operation, operation as format}
 unfoldable pub use Rattle.xdr_tx.specs.Operations.{operation_body}
-pub use Rattle.xdr_tx.specs.Transactions.{after_source_fields, bump_fields, fee_bump_fields, set_fields}
+pub use Rattle.xdr_tx.specs.Transactions.{bump_fields, fee_bump_fields, set_fields}
 pub use Rattle.xdr_tx.specs.Transactions.{transaction_fields, transaction_v0_fields, v0_fields, v1_fields}
-unfoldable pub use Rattle.xdr_tx.specs.Transactions.{after_source, decorated_signature, fee_bump_envelope}
+unfoldable pub use Rattle.xdr_tx.specs.Transactions.{transaction_tail, preconditions, decorated_signature}
+unfoldable pub use Rattle.xdr_tx.specs.Transactions.{fee_bump_envelope}
 unfoldable pub use Rattle.xdr_tx.specs.Transactions.{fee_bump_transaction, memo, time_bounds, transaction}
 unfoldable pub use Rattle.xdr_tx.specs.Transactions.{transaction_envelope, transaction_set, transaction_v0}
 unfoldable pub use Rattle.xdr_tx.specs.Transactions.{transaction_v0_envelope, transaction_v1_envelope}

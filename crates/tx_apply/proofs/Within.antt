@@ -1,7 +1,8 @@
 -- What operations in envelopes that have an encoding say of their lists.
 use Rattle.tx_apply.proofs.Prelude.{◌≤◌, length, All, All-from_recursion, list, Operation, Transaction, TransactionV0}
 use Rattle.tx_apply.proofs.Prelude.{TransactionV0Envelope, TransactionV1Envelope, TransactionEnvelope}
-use Rattle.tx_apply.proofs.Prelude.{create_claimable_balance_op, operation, operation_body, after_source, transaction}
+use Rattle.tx_apply.proofs.Prelude.{create_claimable_balance_op, operation, operation_body, transaction_tail}
+use Rattle.tx_apply.proofs.Prelude.{transaction}
 use Rattle.tx_apply.proofs.Prelude.{transaction_v0, transaction_v0_envelope, transaction_v1_envelope}
 use Rattle.tx_apply.proofs.Prelude.{transaction_envelope, operations_of}
 use Rattle.op_types.specs.declared.balance_ops.CreateClaimableBalanceOp.{CreateClaimableBalanceOp}
@@ -23,11 +24,11 @@ unfolding operation
 body_within one within = within.1
 
 of_transaction : (tx : Transaction) → transaction.within tx → All operation.within tx.operations
-unfolding transaction after_source list
+unfolding transaction transaction_tail list
 of_transaction tx within = All-from_recursion operation.within tx.operations within.1.1.1.1.1.0.1
 
 of_v0 : (tx : TransactionV0) → transaction_v0.within tx → All operation.within tx.operations
-unfolding transaction_v0 after_source list
+unfolding transaction_v0 transaction_tail list
 of_v0 tx within = All-from_recursion operation.within tx.operations within.1.1.1.1.1.0.1
 
 of_v1_envelope : (signed : TransactionV1Envelope) → transaction_v1_envelope.within signed

@@ -1,6 +1,6 @@
 -- The checks of a transaction before its operations (TransactionFrame::commonValid in stellar-core; CAP-0015 for the
 -- inner transaction of a fee bump, whose fee and balance aren't looked at).
-use Rattle.std.specs.Prelude.{ℕ, ◌*◌, nat_eq, nat_lt, max, ℤ, pos, ◌+ℤ◌, Bool, false, not, ◌&&◌, ◌||◌}
+use Rattle.std.specs.Prelude.{ℕ, ◌*◌, nat_eq, nat_lt, max, ℤ, pos, ◌+ℤ◌, Bool, true, false, not, ◌&&◌, ◌||◌}
 use Rattle.std.specs.Prelude.{List, [], ◌∷◌, length, Option, Some, None, is_some, if◌then◌else◌}
 use Rattle.std.specs.List.{list_all}
 use Rattle.std.specs.Ordering.{is_lt, int_cmp, int_eq}
@@ -9,7 +9,9 @@ use Rattle.ledger_types.specs.declared.ids.AccountId.{AccountId}
 use Rattle.ledger_types.specs.declared.ids.Hash.{Hash}
 use Rattle.ledger_types.specs.declared.account.AccountEntry.{AccountEntry}
 use Rattle.op_types.specs.declared.operation.Operation.{Operation}
-use Rattle.op_types.specs.declared.transaction.TimeBounds.{TimeBounds}
+use Rattle.op_types.specs.declared.preconditions.TimeBounds.{TimeBounds}
+use Rattle.op_types.specs.declared.preconditions.Preconditions.{Preconditions}
+use Rattle.op_types.specs.declared.preconditions.Preconditions.TheVariants as conditions
 use Rattle.op_types.specs.declared.transaction.Transaction.{Transaction}
 use Rattle.op_types.specs.declared.transaction_result.TransactionOutcome.{TransactionOutcome}
 use Rattle.op_types.specs.declared.transaction_result.TransactionOutcome.TheVariants as outcome
@@ -27,6 +29,17 @@ abbrev pub source_account : Transaction → AccountId
 source_account tx = account_of tx.source_account
 
 -- ---- before the sequence number
+
+-- preconditions of the second form (CAP-0021), which this version of the protocol doesn't know
+abbrev pub are_unsupported : Preconditions → Bool
+are_unsupported conditions.None = false
+are_unsupported (conditions.Time bounds) = false
+are_unsupported (conditions.V2 all) = true
+
+abbrev pub time_bounds_of : Preconditions → Option TimeBounds
+time_bounds_of conditions.None = None
+time_bounds_of (conditions.Time bounds) = Some bounds
+time_bounds_of (conditions.V2 all) = all.time_bounds
 
 abbrev pub is_early : ℕ → Option TimeBounds → Bool
 is_early close_time None = false
@@ -56,9 +69,10 @@ source_tests seq_num source =
 -- `pays` says whether the transaction's own fee and balance are looked at
 abbrev pub own_tests : (pays : Bool) → (base_fee : ℕ) → Ctx → Transaction → Tests TransactionOutcome
 own_tests pays base_fee ctx tx =
-    (nat_eq (length tx.operations) 0, outcome.MissingOperation)
-    ∷ (is_early ctx.close_time tx.time_bounds, outcome.TooEarly)
-    ∷ (is_late ctx.close_time tx.time_bounds, outcome.TooLate)
+    (are_unsupported tx.cond, outcome.NotSupported)
+    ∷ (nat_eq (length tx.operations) 0, outcome.MissingOperation)
+    ∷ (is_early ctx.close_time (time_bounds_of tx.cond), outcome.TooEarly)
+    ∷ (is_late ctx.close_time (time_bounds_of tx.cond), outcome.TooLate)
     ∷ (pays && is_low base_fee tx, outcome.InsufficientFee)
     ∷ []
 

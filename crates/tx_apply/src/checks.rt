@@ -15,13 +15,34 @@ use entry_slots::{load_facts, set_seq_num};
 use item_list::ItemList;
 use ledger_types::AccountId;
 use op_form::ThresholdLevel;
-use op_types::{Operation, TimeBounds, Transaction, TransactionOutcome};
+use op_types::{Operation, Preconditions, TimeBounds, Transaction, TransactionOutcome};
 use reserve_rules::facts_available;
 use signer_check::Checker;
 use sponsor_rules::Ctx;
 use std::alloc::AllocError;
 
 // ---- before the sequence number
+
+/// Whether preconditions are of the second form.
+fn are_unsupported(cond: &Preconditions) -> bool
+    ensures { result ≡ spec.are_unsupported cond.now }
+{
+    match cond {
+        Preconditions::V2(_) => true,
+        Preconditions::None | Preconditions::Time(_) => false,
+    }
+}
+
+/// The time bounds, or none.
+fn time_bounds_of(cond: &Preconditions) -> Option<TimeBounds>
+    ensures { result ≡ spec.time_bounds_of cond.now }
+{
+    match cond {
+        Preconditions::None => None,
+        Preconditions::Time(bounds) => Some(*bounds),
+        Preconditions::V2(cond) => cond.time_bounds,
+    }
+}
 
 /// Whether the ledger closes before the time bounds.
 fn is_early(close_time: u64, bounds: &Option<TimeBounds>) -> bool
@@ -62,13 +83,17 @@ fn is_low(base_fee: u32, tx: &Transaction) -> bool
 fn own_fault(pays: bool, base_fee: u32, ctx: &Ctx, tx: &Transaction) -> Option<TransactionOutcome>
     ensures { result ≡ first_fault (spec.own_tests pays base_fee ctx.now tx.now) }
 {
+    if are_unsupported(&tx.cond) {
+        return Some(TransactionOutcome::NotSupported);
+    }
     if tx.operations.is_empty() {
         return Some(TransactionOutcome::MissingOperation);
     }
-    if is_early(ctx.close_time, &tx.time_bounds) {
+    let bounds = time_bounds_of(&tx.cond);
+    if is_early(ctx.close_time, &bounds) {
         return Some(TransactionOutcome::TooEarly);
     }
-    if is_late(ctx.close_time, &tx.time_bounds) {
+    if is_late(ctx.close_time, &bounds) {
         return Some(TransactionOutcome::TooLate);
     }
     if pays && is_low(base_fee, tx) {

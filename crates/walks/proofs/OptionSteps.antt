@@ -68,13 +68,13 @@ module _ (x : Answering) (P : EntryMap → Type 0) (ctx : Ctx) (m : EntryMap) (a
       (λ some. by_found one found done)
 
 pub options_steps : (x : Answering) (Q : Done → Type 0) (ctx : Ctx) (op : SetOptionsOp) (m : EntryMap)
-    → ((account : AccountEntry) (signed : EntryMap) → AllPass (tests.given_tests ctx.op_source op)
+    → ((account : AccountEntry) (signed : EntryMap) → AllPass (tests.given_tests ctx op)
     → account_at m ctx.op_source ≡ Some account → AllPass (tests.source_tests op account)
     → signers.map_after_signer ctx account m op.signer ≡ Ok signed
     → Q (succeeded ctx (tests.answer set.Success) (with_account signed ctx.op_source (options.with_options op)) []))
     → Ends x Q (options.set_options ctx op m)
 options_steps x Q ctx op m done =
-    past (tests.given_tests ctx.op_source op) _ (
+    past (tests.given_tests ctx op) _ (
       code x set.UnknownFlag,
       (
         code x set.BadFlags,

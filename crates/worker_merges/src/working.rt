@@ -8,11 +8,11 @@ ghost use Rattle.worker_merges.specs.WorkerSlots.{IsManned, HasEnded};
 
 use crate::slots::WorkerSlot;
 use merge_board::{Room, Worker, WorkerEnd};
-use outside::{Gate, Steps};
 use std::marker::Brand;
 use std::sync::Wait;
 use std::sync::ledger::{Blank, Ledger};
 use std::thread::{self, Threads};
+use steps::{Gate, Steps};
 
 /// How many threads the workers take at most.
 const THREADS: usize = 8;

@@ -2,9 +2,11 @@
 use Rattle.xdr_entries.proofs.Prelude.{lawful_of, faults_located, written, option_laws}
 use Rattle.xdr_core.proofs.Grammar.{prefix_free, faults_rightly}
 use Rattle.xdr_entries.proofs.BasicLaws.{hash_laws, account_id_laws, claimable_balance_id_laws, muxed_account_laws}
+use Rattle.xdr_entries.proofs.BasicLaws.{bytes64_laws}
 use Rattle.xdr_entries.proofs.BasicLaws.{signer_key_laws, signer_laws, asset_laws, trust_line_asset_laws}
 use Rattle.xdr_entries.proofs.BasicLaws.{pool_params_laws, change_trust_asset_laws, price_laws, liabilities_laws}
 use Rattle.xdr_entries.proofs.PredicateLaws.{claim_predicate_laws}
+use Rattle.xdr_entries.proofs.EntryLaws.{account_extension_v3_laws}
 use Rattle.xdr_entries.proofs.EntryLaws.{account_extension_v2_laws, account_extension_v1_laws, account_entry_laws}
 use Rattle.xdr_entries.proofs.EntryLaws.{trust_line_extension_v2_laws, trust_line_extension_v1_laws}
 use Rattle.xdr_entries.proofs.EntryLaws.{trust_line_entry_laws, offer_entry_laws, data_entry_laws, claimant_laws}
@@ -22,6 +24,7 @@ pub ruleset all_laws = (
   account_id_laws,
   claimable_balance_id_laws,
   muxed_account_laws,
+  bytes64_laws,
   signer_key_laws,
   signer_laws,
   asset_laws,
@@ -31,6 +34,7 @@ pub ruleset all_laws = (
   price_laws,
   liabilities_laws,
   claim_predicate_laws,
+  account_extension_v3_laws,
   account_extension_v2_laws,
   account_extension_v1_laws,
   account_entry_laws,
@@ -56,10 +60,12 @@ pub ruleset written_values = (
   option_laws,
   account_id_laws,
   muxed_account_laws,
+  signer_key_laws,
   signer_laws,
   asset_laws,
   account_extension_v1_laws,
   account_extension_v2_laws,
+  account_extension_v3_laws,
   trust_line_extension_v1_laws,
   trust_line_extension_v2_laws,
   claimant_laws,

@@ -1,5 +1,6 @@
 -- The laws of ids, signers, assets and prices.
-use Rattle.xdr_entries.proofs.Prelude.{pos, refl, Laws, u32_laws, u64_laws, i32_laws, i64_laws, fixed_laws, empty_laws}
+use Rattle.xdr_entries.proofs.Prelude.{pos, refl, arith, Laws, u32_laws, u64_laws, i32_laws, i64_laws, fixed_laws}
+use Rattle.xdr_entries.proofs.Prelude.{var_laws, empty_laws}
 use Rattle.xdr_entries.proofs.Prelude.{◌&◌, struct_laws, marked_laws, tag_laws, arm_laws, found, union_laws, IsFound}
 use Rattle.ledger_types.specs.declared.ids.MuxedAccount.{MuxedAccount}
 use Rattle.ledger_types.specs.declared.ids.MuxedAccount.TheVariants as muxed
@@ -13,7 +14,8 @@ use Rattle.ledger_types.specs.declared.asset.ChangeTrustAsset.{ChangeTrustAsset}
 use Rattle.ledger_types.specs.declared.asset.ChangeTrustAsset.TheVariants as change
 use Rattle.xdr_entries.specs.Basic.{hash_fields, hash, account_id_fields, account_id, balance_id_fields}
 use Rattle.xdr_entries.specs.Basic.{claimable_balance_id, muxed_ed25519, muxed_with_id, muxed_arms, muxed_part}
-use Rattle.xdr_entries.specs.Basic.{muxed_account, signer_ed25519, signer_pre_auth, signer_hash_x, signer_key_arms}
+use Rattle.xdr_entries.specs.Basic.{muxed_account, signer_ed25519, signer_pre_auth, signer_hash_x, bytes64}
+use Rattle.xdr_entries.specs.Basic.{signer_signed_payload, signer_key_arms}
 use Rattle.xdr_entries.specs.Basic.{signer_key_part, signer_key, signer_fields, signer, native, alphanum4, alphanum12}
 use Rattle.xdr_entries.specs.Basic.{asset_arms, asset_part, asset, line_native, line_alphanum4, line_alphanum12}
 use Rattle.xdr_entries.specs.Basic.{line_pool, trust_line_asset_arms, trust_line_asset_part, trust_line_asset}
@@ -50,10 +52,15 @@ muxed_account_laws = union_laws (
 
 -- ---- signers
 
+pub bytes64_laws : Laws bytes64
+bytes64_laws = var_laws 64 (omega arith)
+
 signer_key_found : (v : SignerKey) → IsFound signer_key_part signer_key_arms v
 signer_key_found (signing.Ed25519 key) = found signer_ed25519 key (fixed_laws 32) tt refl refl (λ _ _ _. refl)
 signer_key_found (signing.PreAuthTx digest) = found signer_pre_auth digest hash_laws tt refl refl (λ _ _ _. refl)
 signer_key_found (signing.HashX digest) = found signer_hash_x digest hash_laws tt refl refl (λ _ _ _. refl)
+signer_key_found (signing.SignedPayload key payload) =
+    found signer_signed_payload (key, payload) (fixed_laws 32 & bytes64_laws) tt refl refl (λ _ _ _. refl)
 
 pub signer_key_laws : Laws signer_key
 unfolding signer_key
@@ -61,7 +68,10 @@ signer_key_laws = union_laws (
   arm_laws (fixed_laws 32) (λ x. refl),
   (
     arm_laws hash_laws (λ x. refl),
-    (arm_laws hash_laws (λ x. refl), tt),
+    (
+      arm_laws hash_laws (λ x. refl),
+      (arm_laws (fixed_laws 32 & bytes64_laws) (λ x. refl), tt),
+    ),
   ),
 )
     signer_key_found

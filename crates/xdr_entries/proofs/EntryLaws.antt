@@ -1,10 +1,12 @@
 -- The laws of ledger entries.
-use Rattle.xdr_entries.proofs.Prelude.{pos, refl, arith, Laws, u32_laws, i32_laws, i64_laws, fixed_laws, var_laws, ◌&◌}
+use Rattle.xdr_entries.proofs.Prelude.{pos, refl, arith, Laws, u32_laws, u64_laws, i32_laws, i64_laws, fixed_laws}
+use Rattle.xdr_entries.proofs.Prelude.{var_laws, ◌&◌}
 use Rattle.xdr_entries.proofs.Prelude.{struct_laws, entire_laws, marked_laws, closed_laws, tag_laws, option_laws}
 use Rattle.xdr_entries.proofs.Prelude.{list_laws, arm_laws, found, union_laws, extension_laws, IsFound}
 use Rattle.ledger_types.specs.declared.bounds.TheConstants.{MAX_SIGNERS, MAX_HOME_DOMAIN_LEN}
 use Rattle.ledger_types.specs.declared.entry.LedgerEntryBody.{LedgerEntryBody}
 use Rattle.ledger_types.specs.declared.entry.LedgerEntryBody.TheVariants as body
+use Rattle.xdr_entries.specs.Entries.{account_v3_fields, account_extension_v3}
 use Rattle.xdr_entries.specs.Entries.{account_v2_fields, account_extension_v2, account_v1_fields, account_extension_v1}
 use Rattle.xdr_entries.specs.Entries.{account_head, account_tail, account_fields, account_entry, line_v2_fields}
 use Rattle.xdr_entries.specs.Entries.{trust_line_extension_v2, line_v1_fields, trust_line_extension_v1, line_fields}
@@ -18,11 +20,15 @@ use Rattle.xdr_entries.proofs.BasicLaws.{hash_laws, account_id_laws, claimable_b
 use Rattle.xdr_entries.proofs.BasicLaws.{trust_line_asset_laws, pool_params_laws, price_laws, liabilities_laws}
 use Rattle.xdr_entries.proofs.PredicateLaws.{claim_predicate_laws}
 
+pub account_extension_v3_laws : Laws account_extension_v3
+unfolding account_extension_v3
+account_extension_v3_laws = struct_laws account_v3_fields (marked_laws (tag_laws (pos 0) tt) (u32_laws & u64_laws))
+
 pub account_extension_v2_laws : Laws account_extension_v2
 unfolding account_extension_v2
 account_extension_v2_laws = struct_laws account_v2_fields
-    (u32_laws & u32_laws
-    & closed_laws (list_laws MAX_SIGNERS (omega arith) (option_laws account_id_laws)) (tag_laws (pos 0) tt))
+    (u32_laws & u32_laws & list_laws MAX_SIGNERS (omega arith) (option_laws account_id_laws)
+    & extension_laws (pos 3) refl tt account_extension_v3_laws)
 
 pub account_extension_v1_laws : Laws account_extension_v1
 unfolding account_extension_v1

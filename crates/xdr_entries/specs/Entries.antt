@@ -1,7 +1,7 @@
--- The formats of ledger entries (Stellar-ledger-entries.x of protocol 18).
+-- The formats of ledger entries (Stellar-ledger-entries.x of protocol 19).
 use Rattle.std.specs.Prelude.{ℕ, ℤ, pos, List, [], ◌∷◌, Option, refl}
 use Rattle.xdr_core.specs.declared.fault.XdrFault.{XdrFault}
-use Rattle.xdr_core.specs.Leaves.{u32, i32, i64, fixed, var}
+use Rattle.xdr_core.specs.Leaves.{u32, u64, i32, i64, fixed, var}
 use Rattle.xdr_core.specs.Combinators.{◌⨾◌, Fields, struct_of, marked, closed, entire, Arm, Part, part}
 use Rattle.xdr_core.specs.Xdr.{Xdr, tag, optional, list_of, union_of, extension_of}
 use Rattle.ledger_types.specs.declared.bounds.TheConstants.{MAX_SIGNERS, MAX_HOME_DOMAIN_LEN}
@@ -15,6 +15,7 @@ use Rattle.ledger_types.specs.declared.asset.PoolParams.{PoolParams}
 use Rattle.ledger_types.specs.declared.price.Price.{Price}
 use Rattle.ledger_types.specs.declared.price.Liabilities.{Liabilities}
 use Rattle.ledger_types.specs.declared.predicate.ClaimPredicate.{ClaimPredicate}
+use Rattle.ledger_types.specs.declared.account.AccountEntryExtensionV3.{AccountEntryExtensionV3}
 use Rattle.ledger_types.specs.declared.account.AccountEntryExtensionV2.{AccountEntryExtensionV2}
 use Rattle.ledger_types.specs.declared.account.AccountEntryExtensionV1.{AccountEntryExtensionV1}
 use Rattle.ledger_types.specs.declared.account.AccountEntry.{AccountEntry}
@@ -39,18 +40,32 @@ use Rattle.xdr_entries.specs.Predicates.{claim_predicate}
 
 -- ---- accounts
 
-abbrev pub account_v2_fields : Fields (ℕ × (ℕ × List (Option AccountId))) AccountEntryExtensionV2
+abbrev pub account_v3_fields : Fields (ℕ × ℕ) AccountEntryExtensionV3
+account_v3_fields = record {
+  to = λ v. record { seq_ledger = v.0; seq_time = v.1 };
+  from = λ e. (e.seq_ledger, e.seq_time);
+  there = λ _. refl;
+  back = λ _. refl;
+}
+
+-- AccountEntryExtensionV3, which begins with an extension of its own whose one arm is 0
+unfoldable pub account_extension_v3 : Xdr AccountEntryExtensionV3
+account_extension_v3 = struct_of account_v3_fields (marked (tag (pos 0)) (u32 ⨾ u64))
+
+abbrev pub account_v2_fields : Fields (ℕ × (ℕ × (List (Option AccountId) × Option AccountEntryExtensionV3)))
+    AccountEntryExtensionV2
 account_v2_fields = record {
-  to = λ (sponsored, (sponsoring, ids)).
-      record { num_sponsored = sponsored; num_sponsoring = sponsoring; signer_sponsoring_ids = ids };
-  from = λ e. (e.num_sponsored, (e.num_sponsoring, e.signer_sponsoring_ids));
+  to = λ (sponsored, (sponsoring, (ids, ext))).
+      record { num_sponsored = sponsored; num_sponsoring = sponsoring; signer_sponsoring_ids = ids; ext = ext };
+  from = λ e. (e.num_sponsored, (e.num_sponsoring, (e.signer_sponsoring_ids, e.ext)));
   there = λ _. refl;
   back = λ _. refl;
 }
 
 unfoldable pub account_extension_v2 : Xdr AccountEntryExtensionV2
 account_extension_v2 =
-    struct_of account_v2_fields (u32 ⨾ u32 ⨾ closed (list_of MAX_SIGNERS (optional account_id)) (tag (pos 0)))
+    struct_of account_v2_fields
+    (u32 ⨾ u32 ⨾ list_of MAX_SIGNERS (optional account_id) ⨾ extension_of (pos 3) account_extension_v3)
 
 abbrev pub account_v1_fields : Fields (Liabilities × Option AccountEntryExtensionV2) AccountEntryExtensionV1
 account_v1_fields = record {

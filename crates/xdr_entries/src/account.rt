@@ -10,14 +10,45 @@ use crate::price::{read_liabilities, write_liabilities};
 use crate::signer::SignerFormat;
 use item_list::ItemList;
 use ledger_types::{
-    AccountEntry, AccountEntryExtensionV1, AccountEntryExtensionV2, AccountId, MAX_HOME_DOMAIN_LEN,
-    MAX_SIGNERS, Signer,
+    AccountEntry, AccountEntryExtensionV1, AccountEntryExtensionV2, AccountEntryExtensionV3,
+    AccountId, MAX_HOME_DOMAIN_LEN, MAX_SIGNERS, Signer,
 };
 use std::alloc::{AllocError, Global};
 use xdr_core::{
     Builder, Cursor, Decode, Encode, ReadFault, XdrFault, read_extension, read_list, read_option,
     read_var, write_extension, write_list, write_option,
 };
+
+/// Reads when an account's sequence number was last set.
+#[tactic(auto, unfolding(crate::specs::Entries::account_extension_v3))]
+pub fn read_account_extension_v3(
+    cursor: &mut Cursor<'_>,
+) -> Result<AccountEntryExtensionV3, XdrFault>
+    ensures { Reads itself result cursor.old cursor.new (spec.account_extension_v3.read cursor.old) }
+{
+    let mut ahead = cursor.fork();
+    ahead.tag(0)?;
+    let seq_ledger = ahead.u32()?;
+    let seq_time = ahead.u64()?;
+    *cursor = ahead;
+    Ok(AccountEntryExtensionV3 {
+        seq_ledger,
+        seq_time,
+    })
+}
+
+/// Writes when an account's sequence number was last set.
+#[tactic(auto, unfolding(crate::specs::Entries::account_extension_v3))]
+pub fn write_account_extension_v3(
+    value: &AccountEntryExtensionV3,
+    builder: &mut Builder,
+) -> Result<(), AllocError>
+    ensures { OnOk result (builder.new ≡ spec.account_extension_v3.onto builder.old value.now) }
+{
+    builder.tag(0)?;
+    builder.u32(value.seq_ledger)?;
+    builder.u64(value.seq_time)
+}
 
 /// Reads what sponsorship adds to an account.
 #[tactic(auto, unfolding(crate::specs::Entries::account_extension_v2))]
@@ -35,12 +66,13 @@ pub fn read_account_extension_v2(
         MAX_SIGNERS,
         &mut ahead,
     )?;
-    ahead.tag(0)?;
+    let ext = read_extension::<AccountExtensionV3Format>(alloc, 3, &mut ahead)?;
     *cursor = ahead;
     Ok(AccountEntryExtensionV2 {
         num_sponsored,
         num_sponsoring,
         signer_sponsoring_ids,
+        ext,
     })
 }
 
@@ -60,7 +92,7 @@ pub fn write_account_extension_v2(
         MAX_SIGNERS,
         builder,
     )?;
-    builder.tag(0)
+    write_extension::<AccountExtensionV3Format>(&value.ext, 3, builder)
 }
 
 /// Reads what liabilities add to an account.
@@ -194,6 +226,31 @@ pub fn write_account_entry(value: &AccountEntry, builder: &mut Builder) -> Resul
 {
     write_account_head(value, builder)?;
     write_account_tail(value, builder)
+}
+
+/// When sequence numbers of accounts were last set, as a format.
+pub enum AccountExtensionV3Format {}
+
+impl Decode for AccountExtensionV3Format {
+    type Value = AccountEntryExtensionV3;
+
+    type Failure = ReadFault;
+
+    ghost format = { spec.account_extension_v3 };
+
+    fn decode(
+        _alloc: Global,
+        cursor: &mut Cursor<'_>,
+    ) -> Result<AccountEntryExtensionV3, ReadFault> {
+        Ok(read_account_extension_v3(cursor)?)
+    }
+}
+
+impl Encode for AccountExtensionV3Format {
+    #[tactic(auto, using(crate::proofs::AllLaws::written_values))]
+    fn encode(value: &AccountEntryExtensionV3, builder: &mut Builder) -> Result<(), AllocError> {
+        write_account_extension_v3(value, builder)
+    }
 }
 
 /// What sponsorship adds to accounts, as a format.

@@ -13,6 +13,7 @@ pub fn reading_and_encoding_agree()
     ensures account_ids { Lawful basic.account_id }
     ensures claimable_balance_ids { Lawful basic.claimable_balance_id }
     ensures muxed_accounts { Lawful basic.muxed_account }
+    ensures texts_of_64_bytes { Lawful basic.bytes64 }
     ensures signer_keys { Lawful basic.signer_key }
     ensures signers { Lawful basic.signer }
     ensures assets { Lawful basic.asset }
@@ -22,6 +23,7 @@ pub fn reading_and_encoding_agree()
     ensures prices { Lawful basic.price }
     ensures liabilities { Lawful basic.liabilities }
     ensures claim_predicates { Lawful predicates.claim_predicate }
+    ensures account_extensions_v3 { Lawful entries.account_extension_v3 }
     ensures account_extensions_v2 { Lawful entries.account_extension_v2 }
     ensures account_extensions_v1 { Lawful entries.account_extension_v1 }
     ensures account_entries { Lawful entries.account_entry }
@@ -48,6 +50,7 @@ pub fn no_encoding_begins_another()
     ensures account_ids { IsPrefixFree basic.account_id }
     ensures claimable_balance_ids { IsPrefixFree basic.claimable_balance_id }
     ensures muxed_accounts { IsPrefixFree basic.muxed_account }
+    ensures texts_of_64_bytes { IsPrefixFree basic.bytes64 }
     ensures signer_keys { IsPrefixFree basic.signer_key }
     ensures signers { IsPrefixFree basic.signer }
     ensures assets { IsPrefixFree basic.asset }
@@ -57,6 +60,7 @@ pub fn no_encoding_begins_another()
     ensures prices { IsPrefixFree basic.price }
     ensures liabilities { IsPrefixFree basic.liabilities }
     ensures claim_predicates { IsPrefixFree predicates.claim_predicate }
+    ensures account_extensions_v3 { IsPrefixFree entries.account_extension_v3 }
     ensures account_extensions_v2 { IsPrefixFree entries.account_extension_v2 }
     ensures account_extensions_v1 { IsPrefixFree entries.account_extension_v1 }
     ensures account_entries { IsPrefixFree entries.account_entry }
@@ -83,6 +87,7 @@ pub fn faults_come_only_without_encoding()
     ensures account_ids { FaultsRightly basic.account_id }
     ensures claimable_balance_ids { FaultsRightly basic.claimable_balance_id }
     ensures muxed_accounts { FaultsRightly basic.muxed_account }
+    ensures texts_of_64_bytes { FaultsRightly basic.bytes64 }
     ensures signer_keys { FaultsRightly basic.signer_key }
     ensures signers { FaultsRightly basic.signer }
     ensures assets { FaultsRightly basic.asset }
@@ -92,6 +97,7 @@ pub fn faults_come_only_without_encoding()
     ensures prices { FaultsRightly basic.price }
     ensures liabilities { FaultsRightly basic.liabilities }
     ensures claim_predicates { FaultsRightly predicates.claim_predicate }
+    ensures account_extensions_v3 { FaultsRightly entries.account_extension_v3 }
     ensures account_extensions_v2 { FaultsRightly entries.account_extension_v2 }
     ensures account_extensions_v1 { FaultsRightly entries.account_extension_v1 }
     ensures account_entries { FaultsRightly entries.account_entry }
@@ -119,6 +125,7 @@ pub fn faults_are_located()
     ensures account_ids { LocatesFaults basic.account_id }
     ensures claimable_balance_ids { LocatesFaults basic.claimable_balance_id }
     ensures muxed_accounts { LocatesFaults basic.muxed_account }
+    ensures texts_of_64_bytes { LocatesFaults basic.bytes64 }
     ensures signer_keys { LocatesFaults basic.signer_key }
     ensures signers { LocatesFaults basic.signer }
     ensures assets { LocatesFaults basic.asset }
@@ -128,6 +135,7 @@ pub fn faults_are_located()
     ensures prices { LocatesFaults basic.price }
     ensures liabilities { LocatesFaults basic.liabilities }
     ensures claim_predicates { LocatesFaults predicates.claim_predicate }
+    ensures account_extensions_v3 { LocatesFaults entries.account_extension_v3 }
     ensures account_extensions_v2 { LocatesFaults entries.account_extension_v2 }
     ensures account_extensions_v1 { LocatesFaults entries.account_extension_v1 }
     ensures account_entries { LocatesFaults entries.account_entry }

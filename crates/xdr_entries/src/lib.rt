@@ -10,6 +10,7 @@
 mod account;
 mod asset;
 mod bucket;
+mod bytes64;
 mod claimable_balance;
 mod data_entry;
 mod entry;
@@ -24,14 +25,16 @@ mod signer;
 mod trust_line;
 
 pub use account::{
-    read_account_entry, read_account_extension_v1, read_account_extension_v2, write_account_entry,
-    write_account_extension_v1, write_account_extension_v2,
+    read_account_entry, read_account_extension_v1, read_account_extension_v2,
+    read_account_extension_v3, write_account_entry, write_account_extension_v1,
+    write_account_extension_v2, write_account_extension_v3,
 };
 pub use asset::{
     AssetFormat, read_asset, read_change_trust_asset, read_pool_params, read_trust_line_asset,
     write_asset, write_change_trust_asset, write_pool_params, write_trust_line_asset,
 };
 pub use bucket::{read_bucket_entry, write_bucket_entry};
+pub use bytes64::{read_bytes64, write_bytes64};
 pub use claimable_balance::{
     ClaimantFormat, MAX_CLAIMANTS, read_claimable_balance_entry,
     read_claimable_balance_extension_v1, read_claimant, write_claimable_balance_entry,
@@ -52,7 +55,9 @@ pub use liquidity_pool::{read_liquidity_pool_entry, write_liquidity_pool_entry};
 pub use offer::{read_offer_entry, write_offer_entry};
 pub use predicate::{read_claim_predicate, write_claim_predicate};
 pub use price::{read_liabilities, read_price, write_liabilities, write_price};
-pub use signer::{SignerFormat, read_signer, read_signer_key, write_signer, write_signer_key};
+pub use signer::{
+    SignerFormat, SignerKeyFormat, read_signer, read_signer_key, write_signer, write_signer_key,
+};
 pub use trust_line::{
     read_trust_line_entry, read_trust_line_extension_v1, read_trust_line_extension_v2,
     write_trust_line_entry, write_trust_line_extension_v1, write_trust_line_extension_v2,

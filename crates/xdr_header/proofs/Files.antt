@@ -3,8 +3,15 @@ use Rattle.xdr_header.proofs.Prelude.{◌≡◌, ℕ, zero, suc, ◌-◌, ◌+�
 use Rattle.xdr_header.proofs.Prelude.{sym, ap, ◌∙◌, append_assoc, arith, fold, append-nil, XdrFault, Position, Reading}
 use Rattle.xdr_header.proofs.Prelude.{◌>>=◌, u64, with_prefix, file, files}
 
+-- a file, and those that were read after it
+abbrev paired : List ℕ → List (List ℕ) × Position → Reading XdrFault (List ℕ × List (List ℕ))
+paired v x = Ok ((v, x.0), x.1)
+
+abbrev joined : (List ℕ × List (List ℕ)) × Position → Reading XdrFault (List (List ℕ))
+joined x = Ok (x.0.0 ∷ x.0.1, x.1)
+
 regroup : (prefix : List (List ℕ)) (v : List ℕ) (reading : Reading XdrFault (List (List ℕ)))
-    → with_prefix prefix (reading >>= λ x. Ok (v ∷ x.0, x.1)) ≡ with_prefix (prefix ++ v ∷ []) reading
+    → with_prefix prefix ((reading >>= paired v) >>= joined) ≡ with_prefix (prefix ++ v ∷ []) reading
 regroup prefix v (Ok x) = ap (λ vs. Ok (vs, x.1)) (simp append_assoc)
 regroup prefix v (Err f) = refl
 
@@ -51,5 +58,5 @@ pub files-onto : (n left : ℕ) (out : List ℕ) (vs : List (List ℕ)) → (fil
     → (files n left).onto out vs ≡ fold file_onto out vs
 unfolding files file
 files-onto zero left out vs h = rw h refl
-files-onto (suc n) left out [] h = absurd h
-files-onto (suc n) left out (v ∷ vs) h = files-onto n (left - length v) (file_onto out v) vs h.1
+files-onto (suc n) left out [] h = absurd h.0
+files-onto (suc n) left out (v ∷ vs) h = files-onto n (left - length v) (file_onto out v) vs h.1.1

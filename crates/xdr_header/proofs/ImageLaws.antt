@@ -3,16 +3,17 @@ use Rattle.xdr_header.proofs.Prelude as prelude
 use prelude.{◌≡◌, ℕ, zero, suc, ◌+◌, ◌-◌, ◌^◌, ◌<◌, ◌≤◌, pos, Bool, true, false, cond, ltb, List, [], ◌∷◌, ◌++◌, length}
 use prelude.{Ok, Err, refl, sym, ap, subst, ◌∙◌, append_assoc, arith, append-nil, XdrFault, Position, Reading, followed}
 use prelude.{end_of, fault_at, ◌>>=◌, u64, bytes_at, Laws, mark_laws, ◌&◌, struct_laws, marked_laws, tag_laws, file_at}
-use prelude.{file, no_files, prefix_and, encode_prefix, onto_prefix, files, image_fields, start_image}
+use prelude.{file, prefix_fields, files, image_fields, start_image}
+use Rattle.xdr_core.proofs.DependentLaws.{dependent_laws, known_laws, partial_laws}
 use Rattle.std.proofs.lemmas.Bool.{ltb-false, le-ltb}
-use Rattle.xdr_core.specs.Format.{IsBytes, Takes, Encodes, Lawful}
+use Rattle.xdr_core.specs.Format.{IsBytes, Takes, Lawful}
 use Rattle.xdr_core.specs.Xdr.{Xdr}
 use Rattle.xdr_core.specs.declared.fault.XdrKind.TheVariants.{TooLong}
-use Rattle.xdr_core.proofs.Steps.{bind_ok, guarded_ok, ok_is, Takes-then, end_of_two}
+use Rattle.xdr_core.proofs.Steps.{bind_ok, guarded_ok, Takes-then, end_of_two}
 use Rattle.xdr_core.proofs.LeafLaws.{u64_lawful}
 use Rattle.xdr_core.proofs.Opaque.{bytes_again}
 use Rattle.xdr_core.proofs.Marks.{bytes_takes}
-use Rattle.xdr_core.proofs.Placing.{Placed, Locates, goes_on, bind_locates, map_locates, located_other, err_is}
+use Rattle.xdr_core.proofs.Placing.{Placed, Locates, goes_on, bind_locates, located_other, err_is}
 use Rattle.xdr_core.proofs.Placing.{bytes_locates, u64_locates}
 
 -- a number of 64 bits has an encoding
@@ -50,57 +51,6 @@ file_lawful max lt = record {
       ∙ append_assoc out (u64.encoding (length v)) v;
 }
 
-no_files_lawful : Lawful no_files
-no_files_lawful = record {
-  takes = λ p q v fits e.
-      subst (λ (x : List (List ℕ) × Position). Encodes no_files p x.1 x.0) (ok_is {F = XdrFault} ([], p) (v, q) e)
-      (record { taken = record { parts = refl; at = omega arith; rest = fits }; within = refl; sized = tt });
-  again = λ at v rest within sized. rw within (ap (λ (k : ℕ). Ok ([], record { at = k; rest = rest })) (omega arith));
-  appends = λ out v. sym (append-nil out);
-}
-
-prefix_again : (first : Xdr (List ℕ)) (others : List ℕ → Xdr (List (List ℕ))) → Lawful first
-    → ((v : List ℕ) → Lawful (others v)) → (at : ℕ) (vs : List (List ℕ)) (rest : List ℕ)
-    → (prefix_and first others).within vs → (prefix_and first others).sized vs
-    → (prefix_and first others).read (record { at = at; rest = encode_prefix first others vs ++ rest })
-    ≡ Ok (vs, record { at = at + length (encode_prefix first others vs); rest = rest })
-prefix_again first others law laws at [] rest within sized = absurd within
-prefix_again first others law laws at (v ∷ vs) rest within sized =
-    ap (λ (t : List ℕ). (prefix_and first others).read (record { at = at; rest = t }))
-    (append_assoc (first.encoding v) ((others v).encoding vs) rest)
-    ∙ ap (λ (r : Reading XdrFault (List ℕ)). r >>= λ x. (others x.0).read x.1 >>= λ xs. Ok (x.0 ∷ xs.0, xs.1))
-    (law.again at v ((others v).encoding vs ++ rest) within.0 sized.0)
-    ∙ ap (λ (r : Reading XdrFault (List (List ℕ))). r >>= λ xs. Ok (v ∷ xs.0, xs.1))
-    ((laws v).again (at + length (first.encoding v)) vs rest within.1 sized.1)
-    ∙ ap (λ (k : ℕ). Ok (v ∷ vs, record { at = k; rest = rest }))
-    (end_of_two at (first.encoding v) ((others v).encoding vs) rest _ refl)
-
-prefix_appends : (first : Xdr (List ℕ)) (others : List ℕ → Xdr (List (List ℕ))) → Lawful first
-    → ((v : List ℕ) → Lawful (others v)) → (out : List ℕ) (vs : List (List ℕ))
-    → onto_prefix first others out vs ≡ out ++ encode_prefix first others vs
-prefix_appends first others law laws out [] = sym (append-nil out)
-prefix_appends first others law laws out (v ∷ vs) =
-    (laws v).appends (first.onto out v) vs ∙ ap (λ (t : List ℕ). t ++ (others v).encoding vs) (law.appends out v)
-    ∙ append_assoc out (first.encoding v) ((others v).encoding vs)
-
-prefix_law : (first : Xdr (List ℕ)) (others : List ℕ → Xdr (List (List ℕ))) → Lawful first
-    → ((v : List ℕ) → Lawful (others v)) → Lawful (prefix_and first others)
-prefix_law first others law laws = record {
-  takes = λ p q vs fits e.
-      let a = bind_ok (first.read p) (λ x. (others x.0).read x.1 >>= λ xs. Ok (x.0 ∷ xs.0, xs.1)) (vs, q) e in
-      let b = bind_ok ((others a.0.0).read a.0.1) (λ xs. Ok (a.0.0 ∷ xs.0, xs.1)) (vs, q) a.2 in
-      let s = law.takes p a.0.1 a.0.0 fits a.1 in
-      let t = (laws a.0.0).takes a.0.1 b.0.1 b.0.0 s.taken.rest b.1 in
-      subst (λ (x : List (List ℕ) × Position). Encodes (prefix_and first others) p x.1 x.0) {x = (a.0.0 ∷ b.0.0, b.0.1)}
-      (ok_is {F = XdrFault} (a.0.0 ∷ b.0.0, b.0.1) (vs, q) b.2) (record {
-        taken = Takes-then p a.0.1 b.0.1 (first.encoding a.0.0) ((others a.0.0).encoding b.0.0) s.taken t.taken;
-        within = (s.within, t.within);
-        sized = (s.sized, t.sized);
-      });
-  again = λ at vs rest within sized. prefix_again first others law laws at vs rest within sized;
-  appends = λ out vs. prefix_appends first others law laws out vs;
-}
-
 -- ---- offsets of faults
 
 file_located : (p m : Position) (n : ℕ) (fault : XdrFault) (above : Bool) → IsBytes m.rest
@@ -121,26 +71,13 @@ file_locates max =
 file_laws : (max : ℕ) → max < 2 ^ 64 → Laws (file max)
 file_laws max lt = record { lawful = file_lawful max lt; locates = file_locates max }
 
-no_files_laws : Laws no_files
-no_files_laws = record { lawful = no_files_lawful; locates = λ p fault fits e. absurd cc }
-
-prefix_laws : (first : Xdr (List ℕ)) (others : List ℕ → Xdr (List (List ℕ))) → Laws first
-    → ((v : List ℕ) → Laws (others v)) → Laws (prefix_and first others)
-prefix_laws first others law laws = record {
-  lawful = prefix_law first others law.lawful (λ v. (laws v).lawful);
-  locates =
-      bind_locates first.read (λ _ x. (others x.0).read x.1 >>= λ xs. Ok (x.0 ∷ xs.0, xs.1)) law.locates
-      (goes_on law.lawful)
-      (λ p m v fault fits e.
-      map_locates (others v).read (λ xs. (v ∷ xs.0, xs.1)) (laws v).locates m fault fits e);
-}
-
 files_laws : (n left : ℕ) → left < 2 ^ 64 → Laws (files n left)
 unfolding files
-files_laws zero left lt = no_files_laws
+files_laws zero left lt = known_laws []
 files_laws (suc n) left lt =
-    prefix_laws (file left) (λ v. files n (left - length v)) (file_laws left lt)
-    (λ v. files_laws n (left - length v) (omega arith))
+    let others : List ℕ → Xdr (List (List ℕ)) = λ v. files n (left - length v) in
+    partial_laws (prefix_fields (file left) others)
+    (dependent_laws (file_laws left lt) (λ v. files_laws n (left - length v) (omega arith)))
 
 pub start_image_laws : Laws start_image
 unfolding start_image

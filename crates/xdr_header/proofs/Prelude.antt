@@ -11,5 +11,5 @@ pub use Rattle.xdr_core.specs.Leaves.{bytes_at}
 unfoldable pub use Rattle.xdr_core.specs.Leaves.{u64, var}
 pub use Rattle.xdr_core.specs.Position.{Position, Reading, end_of, fault_at, followed, ◌>>=◌}
 pub use Rattle.xdr_core.specs.declared.fault.XdrFault.{XdrFault}
-pub use Rattle.xdr_header.specs.Image.{encode_prefix, file_at, image_fields, no_files, onto_prefix, prefix_and}
+pub use Rattle.xdr_header.specs.Image.{file_at, image_fields, prefix_fields}
 unfoldable pub use Rattle.xdr_header.specs.Image.{file, files, start_image}

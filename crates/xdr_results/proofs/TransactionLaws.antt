@@ -38,6 +38,8 @@ inner_transaction_outcome_found inner.InternalError = plain_under inner_code tt 
 inner_transaction_outcome_found inner.NotSupported = plain_under inner_code tt refl (λ _ _ _. refl)
 inner_transaction_outcome_found inner.FeeBumpInnerFailed = plain_under inner_code tt refl (λ _ _ _. refl)
 inner_transaction_outcome_found inner.BadSponsorship = plain_under inner_code tt refl (λ _ _ _. refl)
+inner_transaction_outcome_found inner.BadMinSeqAgeOrGap = plain_under inner_code tt refl (λ _ _ _. refl)
+inner_transaction_outcome_found inner.Malformed = plain_under inner_code tt refl (λ _ _ _. refl)
 inner_transaction_outcome_found inner.FeeBumpInnerSuccess = plain_under inner_code tt refl (λ _ _ _. refl)
 
 pub inner_transaction_outcome_laws : Laws inner_transaction_outcome
@@ -50,7 +52,13 @@ inner_transaction_outcome_laws = union_laws (
       refl,
       (
         refl,
-        (refl, (refl, (refl, (refl, (refl, (refl, (refl, (refl, (refl, (refl, (refl, (refl, tt)))))))))))),
+        (
+          refl,
+          (
+            refl,
+            (refl, (refl, (refl, (refl, (refl, (refl, (refl, (refl, (refl, (refl, (refl, (refl, tt)))))))))))),
+          ),
+        ),
       ),
     ),
   ),
@@ -89,6 +97,8 @@ transaction_outcome_found outcome.BadAuthExtra = plain_under outcome_code tt ref
 transaction_outcome_found outcome.InternalError = plain_under outcome_code tt refl (λ _ _ _. refl)
 transaction_outcome_found outcome.NotSupported = plain_under outcome_code tt refl (λ _ _ _. refl)
 transaction_outcome_found outcome.BadSponsorship = plain_under outcome_code tt refl (λ _ _ _. refl)
+transaction_outcome_found outcome.BadMinSeqAgeOrGap = plain_under outcome_code tt refl (λ _ _ _. refl)
+transaction_outcome_found outcome.Malformed = plain_under outcome_code tt refl (λ _ _ _. refl)
 
 pub transaction_outcome_laws : Laws transaction_outcome
 unfolding transaction_outcome
@@ -100,8 +110,13 @@ transaction_outcome_laws = union_laws (
       arm_laws inner_transaction_result_pair_laws (λ x. refl),
       (
         arm_laws inner_transaction_result_pair_laws (λ x. refl),
-        plain_are _ outcome_code outcome_values
+        plain_are _ outcome_code outcome_values (
+          refl,
+          (
+            refl,
             (refl, (refl, (refl, (refl, (refl, (refl, (refl, (refl, (refl, (refl, (refl, (refl, tt)))))))))))),
+          ),
+        ),
       ),
     ),
   ),

@@ -12,6 +12,7 @@ use Rattle.xdr_tx.proofs.OperationLaws.{clawback_claimable_balance_op_laws, begi
 use Rattle.xdr_tx.proofs.OperationLaws.{revoke_sponsorship_op_laws, liquidity_pool_deposit_op_laws}
 use Rattle.xdr_tx.proofs.OperationLaws.{liquidity_pool_withdraw_op_laws}
 use Rattle.xdr_tx.proofs.BodyLaws.{operation_body_laws, operation_laws}
+use Rattle.xdr_tx.proofs.TransactionLaws.{ledger_bounds_laws, preconditions_v2_laws, preconditions_laws}
 use Rattle.xdr_tx.proofs.TransactionLaws.{memo_laws, time_bounds_laws, decorated_signature_laws, transaction_laws}
 use Rattle.xdr_tx.proofs.TransactionLaws.{transaction_v0_laws, transaction_v1_envelope_laws}
 use Rattle.xdr_tx.proofs.TransactionLaws.{transaction_v0_envelope_laws, fee_bump_transaction_laws}
@@ -49,6 +50,9 @@ pub ruleset all_laws = (
   operation_laws,
   memo_laws,
   time_bounds_laws,
+  ledger_bounds_laws,
+  preconditions_v2_laws,
+  preconditions_laws,
   decorated_signature_laws,
   transaction_laws,
   transaction_v0_laws,

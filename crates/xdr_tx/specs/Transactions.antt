@@ -1,5 +1,5 @@
 -- The formats of transactions, their envelopes and sets of them (Stellar-transaction.x and Stellar-ledger.x of protocol
--- 18, over RFC 4506).
+-- 19, over RFC 4506).
 use Rattle.std.specs.Prelude.{ℕ, ℤ, pos, List, [], ◌∷◌, Option, refl}
 use Rattle.xdr_core.specs.declared.fault.XdrFault.{XdrFault}
 use Rattle.xdr_core.specs.Leaves.{u32, u64, i64, fixed, var}
@@ -11,7 +11,11 @@ use Rattle.ledger_types.specs.declared.ids.Hash.{Hash}
 use Rattle.op_types.specs.declared.operation.Operation.{Operation}
 use Rattle.op_types.specs.declared.transaction.Memo.{Memo}
 use Rattle.op_types.specs.declared.transaction.Memo.TheVariants as memos
-use Rattle.op_types.specs.declared.transaction.TimeBounds.{TimeBounds}
+use Rattle.op_types.specs.declared.preconditions.TimeBounds.{TimeBounds}
+use Rattle.op_types.specs.declared.preconditions.LedgerBounds.{LedgerBounds}
+use Rattle.op_types.specs.declared.preconditions.PreconditionsV2.{PreconditionsV2}
+use Rattle.op_types.specs.declared.preconditions.Preconditions.{Preconditions}
+use Rattle.op_types.specs.declared.preconditions.Preconditions.TheVariants as conditions
 use Rattle.op_types.specs.declared.transaction.DecoratedSignature.{DecoratedSignature}
 use Rattle.op_types.specs.declared.transaction.Transaction.{Transaction}
 use Rattle.op_types.specs.declared.transaction.TransactionV0.{TransactionV0}
@@ -22,8 +26,8 @@ use Rattle.op_types.specs.declared.transaction.FeeBumpTransactionEnvelope.{FeeBu
 use Rattle.op_types.specs.declared.transaction.TransactionEnvelope.{TransactionEnvelope}
 use Rattle.op_types.specs.declared.transaction.TransactionSet.{TransactionSet}
 use Rattle.op_types.specs.declared.transaction.TransactionEnvelope.TheVariants as envelope
-use Rattle.xdr_entries.specs.Basic.{arm, hash, muxed_account}
-use Rattle.xdr_tx.specs.declared.transaction.AfterSource.{AfterSource}
+use Rattle.ledger_types.specs.declared.signer.SignerKey.{SignerKey}
+use Rattle.xdr_entries.specs.Basic.{arm, hash, muxed_account, signer_key}
 use Rattle.xdr_tx.specs.Operations.{operation}
 
 -- ---- parts of transactions
@@ -67,6 +71,61 @@ time_bounds_fields = record {
 unfoldable pub time_bounds : Xdr TimeBounds
 time_bounds = struct_of time_bounds_fields (u64 ⨾ u64)
 
+abbrev pub ledger_bounds_fields : Fields (ℕ × ℕ) LedgerBounds
+ledger_bounds_fields = record {
+  to = λ v. record { min_ledger = v.0; max_ledger = v.1 };
+  from = λ b. (b.min_ledger, b.max_ledger);
+  there = λ _. refl;
+  back = λ _. refl;
+}
+
+unfoldable pub ledger_bounds : Xdr LedgerBounds
+ledger_bounds = struct_of ledger_bounds_fields (u32 ⨾ u32)
+
+abbrev pub preconditions_v2_fields : Fields
+    (Option TimeBounds × (Option LedgerBounds × (Option ℤ × (ℕ × (ℕ × List SignerKey))))) PreconditionsV2
+preconditions_v2_fields = record {
+  to = λ (times, (ledgers, (seq_num, (age, (gap, signers))))). record {
+    time_bounds = times;
+    ledger_bounds = ledgers;
+    min_seq_num = seq_num;
+    min_seq_age = age;
+    min_seq_ledger_gap = gap;
+    extra_signers = signers;
+  };
+  from = λ c. (
+    c.time_bounds,
+    (c.ledger_bounds, (c.min_seq_num, (c.min_seq_age, (c.min_seq_ledger_gap, c.extra_signers)))),
+  );
+  there = λ _. refl;
+  back = λ _. refl;
+}
+
+unfoldable pub preconditions_v2 : Xdr PreconditionsV2
+preconditions_v2 =
+    struct_of preconditions_v2_fields
+    (optional time_bounds ⨾ optional ledger_bounds ⨾ optional i64 ⨾ u64 ⨾ u32 ⨾ list_of 2 signer_key)
+
+abbrev pub no_conditions : Arm XdrFault Preconditions
+no_conditions = arm (pos 0) empty (λ v. conditions.None)
+
+abbrev pub time_conditions : Arm XdrFault Preconditions
+time_conditions = arm (pos 1) time_bounds conditions.Time
+
+abbrev pub conditions_v2 : Arm XdrFault Preconditions
+conditions_v2 = arm (pos 2) preconditions_v2 conditions.V2
+
+abbrev pub preconditions_arms : List (Arm XdrFault Preconditions)
+preconditions_arms = no_conditions ∷ time_conditions ∷ conditions_v2 ∷ []
+
+abbrev pub preconditions_part : Preconditions → Part XdrFault Preconditions
+preconditions_part conditions.None = part no_conditions tt
+preconditions_part (conditions.Time bounds) = part time_conditions bounds
+preconditions_part (conditions.V2 all) = part conditions_v2 all
+
+unfoldable pub preconditions : Xdr Preconditions
+preconditions = union_of preconditions_part preconditions_arms
+
 abbrev pub signature_fields : Fields (List ℕ × List ℕ) DecoratedSignature
 signature_fields = record {
   to = λ v. record { hint = v.0; signature = v.1 };
@@ -80,71 +139,48 @@ decorated_signature = struct_of signature_fields (fixed 4 ⨾ var 64)
 
 -- ---- transactions
 
--- what both versions of a transaction have after their source
-abbrev pub after_source_fields : Fields (ℕ × (ℤ × (Option TimeBounds × (Memo × List Operation)))) AfterSource
-after_source_fields = record {
-  to = λ (fee, (seq_num, (bounds, (note, operations)))). record {
+-- what both versions of a transaction end with
+unfoldable pub transaction_tail : Xdr (Memo × List Operation)
+transaction_tail = memo ⨾ closed (list_of 100 operation) (tag (pos 0))
+
+abbrev pub transaction_fields : Fields
+    (MuxedAccount × (ℕ × (ℤ × (Preconditions × (Memo × List Operation))))) Transaction
+transaction_fields = record {
+  to = λ (source, (fee, (seq_num, (cond, (note, operations))))). record {
+    source_account = source;
+    fee = fee;
+    seq_num = seq_num;
+    cond = cond;
+    memo = note;
+    operations = operations;
+  };
+  from = λ t. (t.source_account, (t.fee, (t.seq_num, (t.cond, (t.memo, t.operations)))));
+  there = λ _. refl;
+  back = λ _. refl;
+}
+
+unfoldable pub transaction : Xdr Transaction
+transaction = struct_of transaction_fields (muxed_account ⨾ u32 ⨾ i64 ⨾ preconditions ⨾ transaction_tail)
+
+abbrev pub transaction_v0_fields : Fields
+    (List ℕ × (ℕ × (ℤ × (Option TimeBounds × (Memo × List Operation))))) TransactionV0
+transaction_v0_fields = record {
+  to = λ (key, (fee, (seq_num, (bounds, (note, operations))))). record {
+    source_account_ed25519 = key;
     fee = fee;
     seq_num = seq_num;
     time_bounds = bounds;
     memo = note;
     operations = operations;
   };
-  from = λ b. (b.fee, (b.seq_num, (b.time_bounds, (b.memo, b.operations))));
-  there = λ _. refl;
-  back = λ _. refl;
-}
-
-abbrev pub after : ℕ → ℤ → Option TimeBounds → Memo → List Operation → AfterSource
-after fee seq_num bounds note operations = record {
-  fee = fee;
-  seq_num = seq_num;
-  time_bounds = bounds;
-  memo = note;
-  operations = operations;
-}
-
-unfoldable pub after_source : Xdr AfterSource
-after_source =
-    struct_of after_source_fields
-    (u32 ⨾ i64 ⨾ optional time_bounds ⨾ memo ⨾ closed (list_of 100 operation) (tag (pos 0)))
-
-abbrev pub transaction_fields : Fields (MuxedAccount × AfterSource) Transaction
-transaction_fields = record {
-  to = λ (source, after). record {
-    source_account = source;
-    fee = after.fee;
-    seq_num = after.seq_num;
-    time_bounds = after.time_bounds;
-    memo = after.memo;
-    operations = after.operations;
-  };
-  from = λ t. (t.source_account, after t.fee t.seq_num t.time_bounds t.memo t.operations);
-  there = λ _. refl;
-  back = λ _. refl;
-}
-
-unfoldable pub transaction : Xdr Transaction
-transaction = struct_of transaction_fields (muxed_account ⨾ after_source)
-
-abbrev pub transaction_v0_fields : Fields (List ℕ × AfterSource) TransactionV0
-transaction_v0_fields = record {
-  to = λ (key, after). record {
-    source_account_ed25519 = key;
-    fee = after.fee;
-    seq_num = after.seq_num;
-    time_bounds = after.time_bounds;
-    memo = after.memo;
-    operations = after.operations;
-  };
-  from = λ t. (t.source_account_ed25519, after t.fee t.seq_num t.time_bounds t.memo t.operations);
+  from = λ t. (t.source_account_ed25519, (t.fee, (t.seq_num, (t.time_bounds, (t.memo, t.operations)))));
   there = λ _. refl;
   back = λ _. refl;
 }
 
 -- its source is a key without a type
 unfoldable pub transaction_v0 : Xdr TransactionV0
-transaction_v0 = struct_of transaction_v0_fields (fixed 32 ⨾ after_source)
+transaction_v0 = struct_of transaction_v0_fields (fixed 32 ⨾ u32 ⨾ i64 ⨾ optional time_bounds ⨾ transaction_tail)
 
 -- ---- envelopes
 

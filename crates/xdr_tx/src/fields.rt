@@ -1,6 +1,6 @@
 //! Fields that may be absent.
 
-ghost use Rattle.xdr_core.specs.Leaves.{u32 as u32_format, var};
+ghost use Rattle.xdr_core.specs.Leaves.{i64 as i64_format, u32 as u32_format, var};
 
 use item_list::ItemList;
 use ledger_types::MAX_HOME_DOMAIN_LEN;
@@ -27,6 +27,28 @@ impl Encode for U32Format {
     #[tactic(auto, using(xdr_core::proofs::FormatLaws::written, xdr_core::proofs::FormatLaws::u32_laws))]
     fn encode(value: &u32, builder: &mut Builder) -> Result<(), AllocError> {
         builder.u32(*value)
+    }
+}
+
+/// Signed numbers of 64 bits, as a format.
+pub enum I64Format {}
+
+impl Decode for I64Format {
+    type Value = i64;
+
+    type Failure = ReadFault;
+
+    ghost format = { i64_format };
+
+    fn decode(_alloc: Global, cursor: &mut Cursor<'_>) -> Result<i64, ReadFault> {
+        Ok(cursor.i64()?)
+    }
+}
+
+impl Encode for I64Format {
+    #[tactic(auto, using(xdr_core::proofs::FormatLaws::written, xdr_core::proofs::FormatLaws::i64_laws))]
+    fn encode(value: &i64, builder: &mut Builder) -> Result<(), AllocError> {
+        builder.i64(*value)
     }
 }
 

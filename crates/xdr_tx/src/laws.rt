@@ -34,6 +34,9 @@ pub fn reading_and_encoding_agree()
     ensures operations { Lawful operation_formats.operation }
     ensures memos { Lawful transaction_formats.memo }
     ensures time_bounds { Lawful transaction_formats.time_bounds }
+    ensures ledger_bounds { Lawful transaction_formats.ledger_bounds }
+    ensures preconditions_v2 { Lawful transaction_formats.preconditions_v2 }
+    ensures preconditions { Lawful transaction_formats.preconditions }
     ensures decorated_signatures { Lawful transaction_formats.decorated_signature }
     ensures transactions { Lawful transaction_formats.transaction }
     ensures transaction_v0s { Lawful transaction_formats.transaction_v0 }
@@ -75,6 +78,9 @@ pub fn no_encoding_begins_another()
     ensures operations { IsPrefixFree operation_formats.operation }
     ensures memos { IsPrefixFree transaction_formats.memo }
     ensures time_bounds { IsPrefixFree transaction_formats.time_bounds }
+    ensures ledger_bounds { IsPrefixFree transaction_formats.ledger_bounds }
+    ensures preconditions_v2 { IsPrefixFree transaction_formats.preconditions_v2 }
+    ensures preconditions { IsPrefixFree transaction_formats.preconditions }
     ensures decorated_signatures { IsPrefixFree transaction_formats.decorated_signature }
     ensures transactions { IsPrefixFree transaction_formats.transaction }
     ensures transaction_v0s { IsPrefixFree transaction_formats.transaction_v0 }
@@ -116,6 +122,9 @@ pub fn faults_come_only_without_encoding()
     ensures operations { FaultsRightly operation_formats.operation }
     ensures memos { FaultsRightly transaction_formats.memo }
     ensures time_bounds { FaultsRightly transaction_formats.time_bounds }
+    ensures ledger_bounds { FaultsRightly transaction_formats.ledger_bounds }
+    ensures preconditions_v2 { FaultsRightly transaction_formats.preconditions_v2 }
+    ensures preconditions { FaultsRightly transaction_formats.preconditions }
     ensures decorated_signatures { FaultsRightly transaction_formats.decorated_signature }
     ensures transactions { FaultsRightly transaction_formats.transaction }
     ensures transaction_v0s { FaultsRightly transaction_formats.transaction_v0 }
@@ -158,6 +167,9 @@ pub fn faults_are_located()
     ensures operations { LocatesFaults operation_formats.operation }
     ensures memos { LocatesFaults transaction_formats.memo }
     ensures time_bounds { LocatesFaults transaction_formats.time_bounds }
+    ensures ledger_bounds { LocatesFaults transaction_formats.ledger_bounds }
+    ensures preconditions_v2 { LocatesFaults transaction_formats.preconditions_v2 }
+    ensures preconditions { LocatesFaults transaction_formats.preconditions }
     ensures decorated_signatures { LocatesFaults transaction_formats.decorated_signature }
     ensures transactions { LocatesFaults transaction_formats.transaction }
     ensures transaction_v0s { LocatesFaults transaction_formats.transaction_v0 }

@@ -1,4 +1,4 @@
-//! The encodings of operations, transactions, their envelopes and sets of them, read and written (protocol 18, over RFC
+//! The encodings of operations, transactions, their envelopes and sets of them, read and written (protocol 19, over RFC
 //! 4506).
 //!
 //! A reader answers the value that a prefix of the text encodes, and the cursor is after it; else it answers the first
@@ -16,6 +16,7 @@ mod offer_ops;
 mod operation;
 mod payment_ops;
 mod pool_ops;
+mod preconditions;
 mod signature;
 mod sponsor_ops;
 mod time_bounds;
@@ -54,6 +55,10 @@ pub use payment_ops::{
 pub use pool_ops::{
     read_liquidity_pool_deposit_op, read_liquidity_pool_withdraw_op,
     write_liquidity_pool_deposit_op, write_liquidity_pool_withdraw_op,
+};
+pub use preconditions::{
+    read_ledger_bounds, read_preconditions, read_preconditions_v2, write_ledger_bounds,
+    write_preconditions, write_preconditions_v2,
 };
 pub use signature::{
     DecoratedSignatureFormat, read_decorated_signature, write_decorated_signature,

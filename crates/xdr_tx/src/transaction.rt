@@ -7,9 +7,10 @@ ghost use Rattle.xdr_tx.specs.Transactions as spec;
 
 use crate::memo::{read_memo, write_memo};
 use crate::operation::OperationFormat;
+use crate::preconditions::{read_preconditions, write_preconditions};
 use crate::time_bounds::TimeBoundsFormat;
 use item_list::ItemList;
-use op_types::{Memo, Operation, TimeBounds, Transaction, TransactionV0};
+use op_types::{Memo, Operation, Transaction, TransactionV0};
 use std::alloc::{AllocError, Global};
 use xdr_core::{Builder, Cursor, ReadFault, read_list, read_option, write_list, write_option};
 use xdr_entries::{read_muxed_account, write_muxed_account};
@@ -17,55 +18,32 @@ use xdr_entries::{read_muxed_account, write_muxed_account};
 /// The most operations of a transaction (MAX_OPS_PER_TX in Stellar-transaction.x).
 const MAX_OPERATIONS: u32 = 100;
 
-/// What both versions of a transaction have after their source.
-#[derive(Drop)]
-struct AfterSource {
-    fee: u32,
-    seq_num: i64,
-    time_bounds: Option<TimeBounds>,
-    memo: Memo,
-    operations: ItemList<Operation>,
-}
-
-/// Reads what both versions have after their source.
-#[tactic(auto, unfolding(crate::specs::Transactions::after_source))]
-fn read_after_source(alloc: Global, cursor: &mut Cursor<'_>) -> Result<AfterSource, ReadFault>
-    ensures { Reads cause_of result cursor.old cursor.new (spec.after_source.read cursor.old) }
+/// Reads what both versions end with.
+#[tactic(auto, unfolding(crate::specs::Transactions::transaction_tail))]
+fn read_tail(
+    alloc: Global,
+    cursor: &mut Cursor<'_>,
+) -> Result<(Memo, ItemList<Operation>), ReadFault>
+    ensures { Reads cause_of result cursor.old cursor.new (spec.transaction_tail.read cursor.old) }
 {
     let mut ahead = cursor.fork();
-    let fee = ahead.u32()?;
-    let seq_num = ahead.i64()?;
-    let time_bounds = read_option::<TimeBoundsFormat>(alloc, &mut ahead)?;
     let memo = read_memo(alloc, &mut ahead)?;
     let operations = read_list::<OperationFormat>(alloc, MAX_OPERATIONS, &mut ahead)?;
     ahead.tag(0)?;
     *cursor = ahead;
-    Ok(AfterSource {
-        fee,
-        seq_num,
-        time_bounds,
-        memo,
-        operations,
-    })
+    Ok((memo, operations))
 }
 
-/// Writes what both versions have after their source.
-#[tactic(auto, unfolding(crate::specs::Transactions::after_source, xdr_core::specs::Combinators::constant))]
-fn write_after_source(
-    fee: u32,
-    seq_num: i64,
-    time_bounds: &Option<TimeBounds>,
+/// Writes what both versions end with.
+#[tactic(auto, unfolding(crate::specs::Transactions::transaction_tail, xdr_core::specs::Combinators::constant))]
+fn write_tail(
     memo: &Memo,
     operations: &[Operation],
     builder: &mut Builder,
 ) -> Result<(), AllocError>
-    requires { spec.after_source.within (spec.after fee seq_num time_bounds.now memo.now operations.now) }
-    ensures { OnOk result (builder.new
-        ≡ spec.after_source.onto builder.old (spec.after fee seq_num time_bounds.now memo.now operations.now)) }
+    requires { spec.transaction_tail.within (memo.now, operations.now) }
+    ensures { OnOk result (builder.new ≡ spec.transaction_tail.onto builder.old (memo.now, operations.now)) }
 {
-    builder.u32(fee)?;
-    builder.i64(seq_num)?;
-    write_option::<TimeBoundsFormat>(time_bounds, builder)?;
     write_memo(memo, builder)?;
     write_list::<OperationFormat>(operations, MAX_OPERATIONS, builder)?;
     builder.i32(0)
@@ -78,15 +56,18 @@ pub fn read_transaction(alloc: Global, cursor: &mut Cursor<'_>) -> Result<Transa
 {
     let mut ahead = cursor.fork();
     let source_account = read_muxed_account(&mut ahead)?;
-    let after = read_after_source(alloc, &mut ahead)?;
+    let fee = ahead.u32()?;
+    let seq_num = ahead.i64()?;
+    let cond = read_preconditions(alloc, &mut ahead)?;
+    let (memo, operations) = read_tail(alloc, &mut ahead)?;
     *cursor = ahead;
     Ok(Transaction {
         source_account,
-        fee: after.fee,
-        seq_num: after.seq_num,
-        time_bounds: after.time_bounds,
-        memo: after.memo,
-        operations: after.operations,
+        fee,
+        seq_num,
+        cond,
+        memo,
+        operations,
     })
 }
 
@@ -106,14 +87,10 @@ fn write_transaction_fields(value: &Transaction, builder: &mut Builder) -> Resul
     ensures { OnOk result (builder.new ≡ spec.transaction.onto builder.old value.now) }
 {
     write_muxed_account(&value.source_account, builder)?;
-    write_after_source(
-        value.fee,
-        value.seq_num,
-        &value.time_bounds,
-        &value.memo,
-        value.operations.as_slice(),
-        builder,
-    )
+    builder.u32(value.fee)?;
+    builder.i64(value.seq_num)?;
+    write_preconditions(&value.cond, builder)?;
+    write_tail(&value.memo, value.operations.as_slice(), builder)
 }
 
 /// Reads a transaction of the first version.
@@ -126,15 +103,18 @@ pub fn read_transaction_v0(
 {
     let mut ahead = cursor.fork();
     let source_account_ed25519 = ahead.array::<32>()?;
-    let after = read_after_source(alloc, &mut ahead)?;
+    let fee = ahead.u32()?;
+    let seq_num = ahead.i64()?;
+    let time_bounds = read_option::<TimeBoundsFormat>(alloc, &mut ahead)?;
+    let (memo, operations) = read_tail(alloc, &mut ahead)?;
     *cursor = ahead;
     Ok(TransactionV0 {
         source_account_ed25519,
-        fee: after.fee,
-        seq_num: after.seq_num,
-        time_bounds: after.time_bounds,
-        memo: after.memo,
-        operations: after.operations,
+        fee,
+        seq_num,
+        time_bounds,
+        memo,
+        operations,
     })
 }
 
@@ -157,12 +137,8 @@ fn write_transaction_v0_fields(
     ensures { OnOk result (builder.new ≡ spec.transaction_v0.onto builder.old value.now) }
 {
     builder.fixed(&value.source_account_ed25519)?;
-    write_after_source(
-        value.fee,
-        value.seq_num,
-        &value.time_bounds,
-        &value.memo,
-        value.operations.as_slice(),
-        builder,
-    )
+    builder.u32(value.fee)?;
+    builder.i64(value.seq_num)?;
+    write_option::<TimeBoundsFormat>(&value.time_bounds, builder)?;
+    write_tail(&value.memo, value.operations.as_slice(), builder)
 }

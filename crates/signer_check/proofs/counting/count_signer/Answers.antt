@@ -44,9 +44,9 @@ bounds-signers-index c =
 pub returns-clause-signer : goal.returns-clause-signer
 returns-clause-signer c =
     let found =
-    matched_at c.args.signature.now past c.args.counted.now c.args.signers.now (Some c.in_ok-index.index)
-    (sym c.in_ok-index.was ∙ c.first_index.ensures) in
-    sym (ap (option_map (λ (m : Match). m.signer)) found)
+    matched_at c.args.signature.now c.index-signers-index.result c.args.counted.now c.args.signers.now
+    (Some c.in_ok-index.index) (sym c.in_ok-index.was ∙ c.first_index.ensures) in
+    ap Some c.index-signers-index.is ∙ sym (ap (option_map (λ (m : Match). m.signer)) found)
 
 pub returns-clause-others : goal.returns-clause-others
 returns-clause-others c =

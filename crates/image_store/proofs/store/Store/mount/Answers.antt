@@ -1,6 +1,14 @@
-use Rattle.image_store.proofs.Prelude.{subst, ◌∙◌, Err, Image, Disk, image_in, IsImage, IsChosenHead, ReportsImage}
+use Rattle.image_store.proofs.Prelude.{subst, ◌∙◌, Err, Image, Disk, image_offset, image_in, IsImage, IsChosenHead}
+use Rattle.image_store.proofs.Prelude.{ReportsImage, arith}
 use Rattle.image_store.proofs.Unmounted.{no_image, no_journal}
+use Rattle.image_store.proofs.Words.{top_is}
 use Rattle.image_store.proofs.store.Store.mount.Goals as goal
+
+pub returns-clause-low : goal.returns-clause-low
+returns-clause-low g c = λ first.
+    let fits = rw c.in-Some.is at c.in_ok-file.ensures.fits in
+    let low = fits.1.low first in
+    omega (arith, low, top_is)
 
 pub returns-in-Err-image_of-clause-mounts : goal.returns-in-Err-image_of-clause-mounts
 returns-in-Err-image_of-clause-mounts g c = λ reported.
@@ -12,7 +20,10 @@ returns-in-Err-image_of-clause-mounts g c = λ reported.
     (rw c.in-Some.is at (c.in_ok-file.ensures.reported reported)) in
     no_image old new c.in-Some.file c.in-Some.head its (g.V.Volume.faults c.chosen.new.vol)
     (g.V.Volume.faults c.image_of.new.vol) c.in-Err-image_of.wrong (c.image_of.ensures.stays.reads ∙ same)
-    (subst (λ (image : Image). ReportsImage c.in-Some.file (image c.in-Some.file) (Err c.in-Err-image_of.wrong)) same
+    (subst
+    (λ (image : Image).
+    ReportsImage c.in-Some.file (image_offset c.in-Some.head.format) (image c.in-Some.file)
+    (Err c.in-Err-image_of.wrong)) same
     (c.in-Err-image_of.ensures.reported reported))
     c.in-Err-image_of.ensures.cause.1
 

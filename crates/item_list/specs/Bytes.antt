@@ -1,0 +1,6 @@
+-- Bytes as numbers.
+use Rattle.std.specs.Prelude.{ℕ, ◌<◌, List, slice_index}
+
+-- every item is a byte
+abbrev pub IsBytes : List ℕ → Type 0
+IsBytes bytes = (i : ℕ) → slice_index bytes i < 256

@@ -7,9 +7,9 @@ use Rattle.close_laws.specs.ledger_types.declared.ids.AccountId.{AccountId}
 use Rattle.close_laws.specs.ledger_types.declared.key.LedgerKey.{LedgerKey}
 use Rattle.close_laws.proofs.sponsor_laws_proofs.Settling.{exists_erased, exists_put}
 use Rattle.std.specs.Prelude.{◌≢◌}
-use Rattle.step_logic.proofs.Entries.{FitsBody, Invariant, IsOther, Kinds}
-use Rattle.step_logic.proofs.Steps.{anything}
-use Rattle.step_logic.proofs.Walks.{Logic}
+use Rattle.sponsor_rules.proofs.Entries.{FitsBody, Invariant, IsOther, Kinds}
+use Rattle.op_form.proofs.Steps.{anything}
+use Rattle.op_form.proofs.Walks.{Logic}
 use Rattle.close_laws.specs.ledger_types.declared.entry.LedgerEntryBody.TheVariants as body
 use Rattle.close_laws.specs.ledger_types.declared.key.LedgerKey.TheVariants as key
 

@@ -1,7 +1,7 @@
 -- An operation that isn't ACCOUNT_MERGE keeps each account that existed.
 use Rattle.account_laws.proofs.Existing.{Keeps, any, existing, keeps_itself, kept}
 use Rattle.account_laws.specs.Existing.{OperationsKeepAccounts, is_merge}
-use Rattle.close_laws.proofs.AllSteps.{Asked, FlagAsked, OfferAsked, any_left}
+use Rattle.op_laws.proofs.AllSteps.{Asked, FlagAsked, OfferAsked, any_left}
 use Rattle.close_laws.proofs.tx_apply_proofs.TakenFees.{keeps}
 use Rattle.close_laws.specs.entry_map.EntryMap.{EntryMap}
 use Rattle.close_laws.specs.ledger_types.declared.asset.Asset.{Asset}
@@ -15,8 +15,8 @@ use Rattle.close_laws.specs.op_types.declared.operation.OperationBody.{Operation
 use Rattle.close_laws.specs.sponsor_rules.declared.context.Ctx.{Ctx}
 use Rattle.std.proofs.lemmas.List.Elements.{All-cons, All-nil}
 use Rattle.std.specs.Prelude.{All, List, [], false, ℤ, ◌∷◌, ◌≡◌}
-use Rattle.walks.proofs.PathSteps.{IsPathNamed}
-use Rattle.walks.proofs.ShareTrustSteps.{DoesTrustFit}
+use Rattle.op_payment.proofs.PathSteps.{IsPathNamed}
+use Rattle.op_trust.proofs.ShareTrustSteps.{DoesTrustFit}
 use Rattle.close_laws.specs.ledger_types.declared.asset.ChangeTrustAsset.TheVariants as asked
 use Rattle.close_laws.specs.op_offers.declared.answers.Kind.TheVariants as kind
 use Rattle.close_laws.specs.op_types.declared.operation.OperationBody.TheVariants as body

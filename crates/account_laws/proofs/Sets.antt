@@ -31,8 +31,8 @@ use Rattle.close_laws.specs.tx_apply.Checks as checks
 use Rattle.close_laws.proofs.Unmarked.{AreAlike, AreMapsAlike, next_alike}
 use Rattle.account_laws.proofs.Operations.{any_keeps}
 use Rattle.account_laws.proofs.Existing.{Keeps, kept, keeps_itself}
-use Rattle.close_laws.proofs.SetsHold.{Begins, BeginsEnvelope, envelope_holds, fees_hold, judged_holds, without_used}
-use Rattle.step_logic.proofs.Charges.{removing_signer}
+use Rattle.tx_apply.proofs.SetsHold.{Begins, BeginsEnvelope, envelope_holds, fees_hold, judged_holds, without_used}
+use Rattle.sponsor_rules.proofs.Charges.{removing_signer}
 
 -- ---- operations
 

@@ -28,11 +28,11 @@ use Rattle.close_laws.proofs.EncodedSets.{body_encoded, body_fit, operations_fit
 use Rattle.close_laws.proofs.FewDrawn.{set_fits}
 use Rattle.close_laws.proofs.WrittenOffers.{CanTrade}
 use Rattle.close_laws.proofs.Bytes.{IsId, muxed_id, AreBytes, IsOpener, AreSponsors}
-use Rattle.close_laws.proofs.SetsHold.{Begins, BeginsEnvelope, envelope_holds, fees_hold, judged_holds, without_used}
+use Rattle.tx_apply.proofs.SetsHold.{Begins, BeginsEnvelope, envelope_holds, fees_hold, judged_holds, without_used}
 use Rattle.close_laws.proofs.Written.{no_account, of_bytes, writing}
 use Rattle.close_laws.proofs.WrittenOperations.{any_written}
-use Rattle.step_logic.proofs.Charges.{removing_signer}
-use Rattle.step_logic.proofs.Walks.{Before, Left}
+use Rattle.sponsor_rules.proofs.Charges.{removing_signer}
+use Rattle.op_form.proofs.Walks.{Before, Left}
 
 -- ---- sources
 

@@ -13,10 +13,8 @@ pub mod AccountBytes
 pub mod Written
 pub mod WrittenOffers
 pub mod WrittenPaths
-pub mod AllSteps
 pub mod WrittenOperations
 pub mod BytesPredicates
-pub mod SetsHold
 pub mod BytesSets
 pub mod Short
 pub mod ShortIds

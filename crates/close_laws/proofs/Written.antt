@@ -28,9 +28,9 @@ use Rattle.std.proofs.Common.{drop, subst, suc, sym, take}
 use Rattle.std.proofs.lemmas.List.Elements.{All-append, All-cons, All-drop, All-head, All-nil, All-tail, All-take}
 use Rattle.std.specs.List.{AllByRecursion, remove}
 use Rattle.std.specs.Prelude.{All, List, Some, [], pos, ℕ, ℤ, ◌++◌, ◌∷◌, ◌≤ℤ◌}
-use Rattle.step_logic.proofs.Entries.{Invariant}
-use Rattle.step_logic.proofs.Steps.{IsBare}
-use Rattle.step_logic.proofs.Walks.{Logic}
+use Rattle.sponsor_rules.proofs.Entries.{Invariant}
+use Rattle.op_form.proofs.Steps.{IsBare}
+use Rattle.op_form.proofs.Walks.{Logic}
 use Rattle.close_rules.specs.ledger_types.declared.claim_atom.ClaimAtom.TheVariants as atom
 use Rattle.close_rules.specs.op_types.declared.account_results.AccountMergeResult.TheVariants as merge
 use Rattle.close_rules.specs.op_types.declared.balance_results.CreateClaimableBalanceResult.TheVariants as create

@@ -34,8 +34,8 @@ use Rattle.std.proofs.Common.{arith, suc, zero}
 use Rattle.std.proofs.lemmas.Int.{ints}
 use Rattle.std.proofs.lemmas.List.Elements.{All-nil}
 use Rattle.std.specs.Prelude.{All, List, [], length, pos, ℕ, ℤ, ◌+◌, ◌≤ℤ◌, ◌≤◌}
-use Rattle.walks.proofs.ManagedHold.{DoesAskFit}
-use Rattle.walks.proofs.OfferSteps.{DoesSaleAnswer}
+use Rattle.op_offers.proofs.ManagedHold.{DoesAskFit}
+use Rattle.op_offers.proofs.OfferSteps.{DoesSaleAnswer}
 use Rattle.close_rules.specs.op_offers.declared.answers.Kind.TheVariants as kind
 use Rattle.close_rules.specs.op_types.declared.offer_results.ManageOfferEffect.TheVariants as effect
 use Rattle.close_rules.specs.op_types.declared.offer_results.ManageOfferResult.TheVariants as manage

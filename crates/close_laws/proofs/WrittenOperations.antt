@@ -1,6 +1,6 @@
 -- What each operation asks a walk for can be written, so that what it leaves and answers can be.
 use Rattle.bucket_levels.specs.entry_map.EntryMap.{EntryMap}
-use Rattle.close_laws.proofs.AllSteps.{Asked, FlagAsked, OfferAsked, any_left}
+use Rattle.op_laws.proofs.AllSteps.{Asked, FlagAsked, OfferAsked, any_left}
 use Rattle.close_laws.proofs.Bytes.{AreAccountBytes, IsClaimant, IsId, IsIdIf, IsKey, KeepsAccounts}
 use Rattle.close_laws.proofs.Bytes.{no_id, no_stamp, some_id}
 use Rattle.close_laws.proofs.BytesPredicates.{claimants_fixed, unconditional_claimant}
@@ -53,11 +53,11 @@ use Rattle.std.proofs.lemmas.Int.{ints}
 use Rattle.std.proofs.lemmas.List.Elements.{All-cons, All-nil}
 use Rattle.std.specs.Prelude.{All, Bool, List, None, Option, Some, [], false, nat_lt, pos, slice_index, true}
 use Rattle.std.specs.Prelude.{unwrap_or, ℕ, ℤ, ◌+◌, ◌||◌, ◌∷◌, ◌≡◌, ◌≤ℤ◌, ◌≤◌}
-use Rattle.step_logic.proofs.Entries.{Fits}
-use Rattle.step_logic.proofs.Walks.{Before, Left}
-use Rattle.walks.proofs.RevokedHold.{DoBalancesFit}
-use Rattle.walks.proofs.ShareTrustSteps.{DoLinesFit, DoesTrustFit}
-use Rattle.walks.proofs.SharesGiven.{can_revoke}
+use Rattle.sponsor_rules.proofs.Entries.{Fits}
+use Rattle.op_form.proofs.Walks.{Before, Left}
+use Rattle.op_flags.proofs.RevokedHold.{DoBalancesFit}
+use Rattle.op_trust.proofs.ShareTrustSteps.{DoLinesFit, DoesTrustFit}
+use Rattle.op_flags.proofs.SharesGiven.{can_revoke}
 use Rattle.close_rules.specs.ledger_types.declared.asset.Asset.TheVariants as plain
 use Rattle.close_rules.specs.ledger_types.declared.asset.ChangeTrustAsset.TheVariants as asked
 use Rattle.close_rules.specs.op_account.CreateAccount as creating

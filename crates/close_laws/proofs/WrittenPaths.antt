@@ -20,8 +20,8 @@ use Rattle.close_rules.specs.xdr_tx.Operations.{operation_body, path_payment_str
 use Rattle.close_rules.specs.xdr_tx.Operations.{path_payment_strict_send_op}
 use Rattle.std.proofs.Common.{arith}
 use Rattle.std.specs.Prelude.{All, List, length, ℕ, ℤ, ◌≤◌}
-use Rattle.walks.proofs.PathSteps.{IsPathNamed}
-use Rattle.walks.proofs.PathsHold.{most_in_paths}
+use Rattle.op_payment.proofs.PathSteps.{IsPathNamed}
+use Rattle.op_payment.proofs.PathsHold.{most_in_paths}
 use Rattle.close_rules.specs.op_payment.PathReceive as receiving
 use Rattle.close_rules.specs.op_payment.PathSend as sending
 use Rattle.close_rules.specs.op_types.declared.operation.OperationBody.TheVariants as body

@@ -1,2 +1,3 @@
 pub mod Removing
+pub mod ClaimSteps
 mod Prelude

@@ -9,6 +9,10 @@ pub mod BalanceLeft
 pub mod SharesRevoked
 pub mod FlagTests
 pub mod Steps
+pub mod SharesBeside
+pub mod SharesGiven
+pub mod RevokedHold
+pub mod FlagSteps
 pub use Rattle.entry_map.proofs as entry_map_proofs
 pub use Rattle.trade_cross.proofs.entry_sums_proofs
 pub use Rattle.ledger_types.proofs as ledger_types_proofs

@@ -57,7 +57,7 @@ pub use Rattle.op_flags.specs.Revoking.{map_after_cancelling_all, trades_in}
 unfoldable pub use Rattle.op_flags.specs.Revoking.{map_without_offers}
 pub use Rattle.op_form.specs.Assets.{is_issued_by, is_native, line_asset_of, line_of_asset}
 pub use Rattle.op_form.specs.Flags.{flagged_ext, has_any, is_auth_revocable, is_clawback_line}
-pub use Rattle.op_form.specs.Steps.{after, after_charge, after_some, after_step, unless_refused, unless_result}
+pub use Rattle.op_form.specs.Steps.{after, after_charge, after_some, unless_refused, unless_result}
 pub use Rattle.op_types.specs.declared.operation_result.OperationResult.{OperationResult}
 pub use Rattle.pool_shares.proofs.Shared.{line_now, pool_now, shared_fits}
 pub use Rattle.pool_shares.proofs.Sharing.{CanShare, sharing_left, sharing_legal}

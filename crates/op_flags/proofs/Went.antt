@@ -1,7 +1,7 @@
 -- What has passed: tests that let a step through, and steps of operations that went on.
 use Rattle.op_flags.proofs.Prelude.{◌≡◌, refl, Option, Some, None, Result, Ok, Err, OperationResult, EntryMap, Tests}
 use Rattle.op_flags.proofs.Prelude.{first_fault, AddFault, unless_result, unless_refused, after, after_some}
-use Rattle.op_flags.proofs.Prelude.{after_charge, after_step}
+use Rattle.op_flags.proofs.Prelude.{after_charge}
 
 -- an operation that went on
 pub went_on : {A : Type 0} (tests : Tests OperationResult) (next : Result A OperationResult) (a : A)
@@ -27,9 +27,3 @@ pub went_after_charge : {B : Type 0} (r : Result EntryMap AddFault) (low : Opera
     → (m : EntryMap) × (r ≡ Ok m) × (next m ≡ Ok b)
 went_after_charge (Err fault) low next b is = absurd (cc)
 went_after_charge (Ok m) low next b is = (m, refl, is)
-
-pub went_after_step : {B F : Type 0} (r : Result EntryMap F) (answers : F → OperationResult)
-    (next : EntryMap → Result B OperationResult) (b : B) → after_step r answers next ≡ Ok b
-    → (m : EntryMap) × (r ≡ Ok m) × (next m ≡ Ok b)
-went_after_step (Err fault) answers next b is = absurd (cc)
-went_after_step (Ok m) answers next b is = (m, refl, is)

@@ -1,4 +1,7 @@
 pub mod Ranges
 pub mod Premises
 pub mod Balances
+pub mod Steps
+pub mod Walks
+pub mod AmountSteps
 mod Prelude

@@ -9,8 +9,8 @@ use Rattle.op_flags.specs.op_types.declared.account_results.BumpSequenceResult.T
 use Rattle.op_account.specs.BumpSequence.{answer}
 use Rattle.op_laws.proofs.Lawful.{KeepsLegal, lawful_still}
 use Rattle.op_laws.proofs.Payments.{numbered_aggregates, numbered_range}
-use Rattle.step_logic.proofs.Steps.{done_so, anything}
-use Rattle.walks.proofs.AccountSteps.{bump_steps}
+use Rattle.op_form.proofs.Steps.{done_so, anything}
+use Rattle.op_account.proofs.AccountSteps.{bump_steps}
 
 -- ---- an account whose sequence number alone may differ
 

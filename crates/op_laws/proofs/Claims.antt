@@ -37,9 +37,9 @@ use Rattle.op_laws.proofs.NewBalances.{IsBalanceEntry, balance_entry, claimants_
 use Rattle.op_laws.proofs.Described.{more_for, account_location, balance_location, moved, move_describes, more_turned}
 use Rattle.op_laws.proofs.Described.{redeemed_more}
 use Rattle.op_laws.proofs.Described.{balance_more}
-use Rattle.step_logic.proofs.Steps.{done_so, anything}
-use Rattle.step_logic.proofs.Walks.{succeeded}
-use Rattle.walks.proofs.ClaimSteps.{create_balance_steps, claim_steps, clawback_balance_steps}
+use Rattle.op_form.proofs.Steps.{done_so, anything}
+use Rattle.op_form.proofs.Walks.{succeeded}
+use Rattle.op_claim.proofs.ClaimSteps.{create_balance_steps, claim_steps, clawback_balance_steps}
 
 -- ---- what moves issue and give
 

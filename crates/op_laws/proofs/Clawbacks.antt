@@ -14,8 +14,8 @@ use Rattle.op_laws.proofs.Lawful.{lawful_with}
 use Rattle.op_laws.proofs.LineFlags.{issued_is}
 use Rattle.op_laws.proofs.Payment.{asset_move}
 use Rattle.op_laws.proofs.Described.{account_location, moved, move_describes, redeemed_more, line_more}
-use Rattle.step_logic.proofs.Steps.{done_so, anything}
-use Rattle.walks.proofs.ClaimSteps.{clawback_steps}
+use Rattle.op_form.proofs.Steps.{done_so, anything}
+use Rattle.op_claim.proofs.ClaimSteps.{clawback_steps}
 
 -- an asset has one issuer
 other_issuer : (held : Asset) (id other : AccountId) → is_issued_by held id ≡ true → is_same_account other id ≡ false

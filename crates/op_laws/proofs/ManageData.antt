@@ -18,9 +18,9 @@ use Rattle.op_flags.specs.entry_slots.DataEntries.{data_in, data_of, data_at, wi
 use Rattle.op_flags.specs.op_types.declared.account_results.ManageDataResult.TheVariants as manage
 use Rattle.op_options.specs.ManageData.{answer}
 use Rattle.op_laws.proofs.Lawful.{KeepsLegal, lawful_still}
-use Rattle.step_logic.proofs.Steps.{done_so, anything, AllPass}
-use Rattle.step_logic.proofs.Walks.{succeeded}
-use Rattle.walks.proofs.OptionSteps.{data_steps}
+use Rattle.op_form.proofs.Steps.{done_so, anything, AllPass}
+use Rattle.op_form.proofs.Walks.{succeeded}
+use Rattle.op_options.proofs.OptionSteps.{data_steps}
 
 -- ---- the entry of data
 

@@ -30,9 +30,9 @@ use Rattle.op_laws.proofs.Lawful.{KeepsLegal, AreEachAfter, terms_kept, lawful_b
 use Rattle.op_laws.proofs.Lumens.{lumens_described, none_issued}
 use Rattle.op_laws.proofs.Signers.{signer_kept, without_core}
 use Rattle.op_laws.proofs.SetOptions.{is_its_key}
-use Rattle.step_logic.proofs.Steps.{done_so, anything}
-use Rattle.step_logic.proofs.Walks.{succeeded}
-use Rattle.walks.proofs.AccountSteps.{merge_steps}
+use Rattle.op_form.proofs.Steps.{done_so, anything}
+use Rattle.op_form.proofs.Walks.{succeeded}
+use Rattle.op_account.proofs.AccountSteps.{merge_steps}
 
 -- ---- an account without its first signer
 

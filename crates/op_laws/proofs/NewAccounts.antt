@@ -28,9 +28,9 @@ use Rattle.op_account.specs.CreateAccount.{answer, start_move}
 use Rattle.op_laws.proofs.Lawful.{KeepsLegal, lawful_here}
 use Rattle.op_laws.proofs.Lumens.{lumens_move, lumens_described, none_issued}
 use Rattle.op_flags.proofs.legal_rules_proofs.Multiples.{still_available}
-use Rattle.step_logic.proofs.Steps.{done_so, anything}
-use Rattle.step_logic.proofs.Walks.{succeeded}
-use Rattle.walks.proofs.AccountSteps.{create_steps}
+use Rattle.op_form.proofs.Steps.{done_so, anything}
+use Rattle.op_form.proofs.Walks.{succeeded}
+use Rattle.op_account.proofs.AccountSteps.{create_steps}
 
 -- ---- where no account exists
 

@@ -20,8 +20,8 @@ use Rattle.op_laws.proofs.Lawful.{sound_after}
 use Rattle.op_laws.proofs.Parts.{lawful_now}
 use Rattle.op_laws.proofs.SharePools.{IsPooled, pooled}
 use Rattle.op_laws.proofs.TrustLines.{no_line}
-use Rattle.step_logic.proofs.Steps.{AllPass}
-use Rattle.walks.proofs.TrustSteps.{trusted}
+use Rattle.op_form.proofs.Steps.{AllPass}
+use Rattle.op_trust.proofs.TrustSteps.{trusted}
 
 -- ---- the lines that the account needs
 

@@ -17,8 +17,8 @@ use Rattle.op_laws.proofs.Carrying.{IsCarried}
 use Rattle.op_laws.proofs.Hopping.{path_back, path_on}
 use Rattle.op_laws.proofs.Lawful.{shifted_after}
 use Rattle.op_laws.proofs.PathPayments.{received_lawful, sent_lawful}
-use Rattle.step_logic.proofs.Steps.{done_so, anything}
-use Rattle.walks.proofs.PathSteps.{receive_steps, send_steps, received_so, sent_so, received_low, sent_low}
+use Rattle.op_form.proofs.Steps.{done_so, anything}
+use Rattle.op_payment.proofs.PathSteps.{receive_steps, send_steps, received_so, sent_so, received_low, sent_low}
 
 nothing_after : (l : List ClaimAtom) → l ++ [] ≡ l
 nothing_after [] = refl

@@ -17,9 +17,9 @@ use Rattle.op_laws.proofs.Lawful.{lawful_here, lawful_with, shifted_after}
 use Rattle.op_laws.proofs.Lumens.{lumens_move, itself_described, none_issued}
 use Rattle.op_laws.proofs.Described.{more_for, account_location, moved, move_describes}
 use Rattle.op_laws.proofs.MoveSums.{move_issues}
-use Rattle.step_logic.proofs.Steps.{done_so, anything, AllPass}
-use Rattle.step_logic.proofs.Walks.{succeeded}
-use Rattle.walks.proofs.PaymentSteps.{payment_steps, paid_so}
+use Rattle.op_form.proofs.Steps.{done_so, anything, AllPass}
+use Rattle.op_form.proofs.Walks.{succeeded}
+use Rattle.op_payment.proofs.PaymentSteps.{payment_steps, paid_so}
 
 -- ---- what a payment gives and issues
 

@@ -21,13 +21,13 @@ pub use Rattle.std.specs.Prelude.{if◌then◌else◌, int_le, int_lt, neg_ℤ, 
 pub use Rattle.std.specs.Prelude.{◌-ℤ◌, ◌<ℤ◌, ◌≤ℤ◌}
 pub use Rattle.std.specs.declared.cmp.Ordering.{Ordering}
 pub use Rattle.std.specs.declared.cmp.Ordering.TheVariants.{Equal, Greater, Less}
-pub use Rattle.op_account.specs.AccountMerge.{account_merge, map_without_account, merge_of, taken_and_removed}
+pub use Rattle.op_account.specs.AccountMerge.{account_merge, map_without_account}
 unfoldable pub use Rattle.op_account.specs.AccountMerge.{map_without_signers}
 pub use Rattle.op_account.specs.BumpSequence.{bump_sequence, with_seq_num_from}
-pub use Rattle.op_account.specs.CreateAccount.{added_and_paid, create_account, new_account, new_entry, start_tests}
+pub use Rattle.op_account.specs.CreateAccount.{create_account, new_account, new_entry}
 pub use Rattle.op_claim.specs.Predicates.{fixed_claimant, fixed_level, time_after}
 unfoldable pub use Rattle.op_claim.specs.Predicates.{fixed_below}
-pub use Rattle.op_flags.proofs.Went.{went_after, went_after_charge, went_after_some, went_after_step, went_on}
+pub use Rattle.op_flags.proofs.Went.{went_after, went_after_charge, went_after_some, went_on}
 pub use Rattle.op_flags.proofs.entry_map_proofs.KeyMaps.{same_itself}
 pub use Rattle.op_flags.proofs.entry_map_proofs.Lookups.{erase_get, erase_there, put_elsewhere, put_get, put_there}
 pub use Rattle.op_flags.proofs.entry_map_proofs.Ranked.{all_ranked, apart_filter}
@@ -117,7 +117,7 @@ pub use Rattle.op_flags.specs.entry_slots.Offers.{offer_of}
 unfoldable pub use Rattle.op_flags.specs.entry_slots.Offers.{offer_at, with_offer}
 pub use Rattle.op_flags.specs.entry_slots.Pools.{pool_in, pool_of}
 unfoldable pub use Rattle.op_flags.specs.entry_slots.Pools.{pool_at}
-pub use Rattle.op_flags.specs.entry_slots.Tests.{Tests, first_fault}
+pub use Rattle.op_flags.specs.entry_slots.Tests.{first_fault}
 pub use Rattle.op_flags.specs.entry_sums.Sums.{part}
 unfoldable pub use Rattle.op_flags.specs.entry_sums.Sums.{total}
 pub use Rattle.op_flags.specs.ledger_types.Ids.{account_of}
@@ -162,16 +162,15 @@ pub use Rattle.op_flags.specs.legal_rules.Trades.{holder}
 unfoldable pub use Rattle.op_flags.specs.offer_book.Book.{best, book}
 pub use Rattle.op_flags.specs.op_form.Amounts.{line_debit_tests, map_after_credit, map_after_debit}
 pub use Rattle.op_flags.specs.op_form.Amounts.{map_after_line_debit_of}
-pub use Rattle.op_flags.specs.op_form.Assets.{is_issued_by, is_native, issuer_at, line_asset_of, line_of_asset}
+pub use Rattle.op_flags.specs.op_form.Assets.{is_issued_by, is_native, line_asset_of, line_of_asset}
 pub use Rattle.op_flags.specs.op_form.AtomMoves.{atom_moves, moves_of, trade_moves}
 pub use Rattle.op_flags.specs.op_form.Done.{Attempt, Done, FeePool, Holder, Move, OfAccount, OfBalance, OfPool, Transit}
 pub use Rattle.op_flags.specs.op_form.Done.{done_of}
 pub use Rattle.op_flags.specs.op_form.Flags.{flagged_ext, is_account_clawback_enabled, is_auth_required}
-pub use Rattle.op_flags.specs.op_form.Flags.{is_line_clawback_enabled}
 pub use Rattle.op_flags.specs.op_form.Lumens.{map_after_lumens_credit, map_after_lumens_debit, with_less_lumens}
 pub use Rattle.op_flags.specs.op_form.Lumens.{with_more_lumens}
 unfoldable pub use Rattle.op_flags.specs.op_form.Sponsorships.{is_open_sponsor}
-pub use Rattle.op_flags.specs.op_form.Steps.{after_charge, success, unless_refused}
+pub use Rattle.op_flags.specs.op_form.Steps.{after_charge, success}
 pub use Rattle.op_flags.specs.op_types.declared.account_ops.SetOptionsOp.{SetOptionsOp}
 pub use Rattle.op_flags.specs.op_types.declared.operation_result.OperationResult.{OperationResult}
 pub use Rattle.op_flags.specs.op_types.declared.operation_result.OperationResult.TheVariants.{NoAccount, NotSupported}
@@ -194,7 +193,7 @@ pub use Rattle.op_flags.specs.sponsor_rules.Removing.{map_after_removing_entry, 
 pub use Rattle.op_flags.specs.sponsor_rules.SignerIndex.{found_at, found_signer, index_for, without_signer}
 unfoldable pub use Rattle.op_flags.specs.sponsor_rules.SignerIndex.{index_of}
 pub use Rattle.op_flags.specs.sponsor_rules.Signers.{map_after_adding_signer, map_after_moving_found}
-pub use Rattle.op_flags.specs.sponsor_rules.Signers.{map_after_moving_signer, map_after_moving_signer_between}
+pub use Rattle.op_flags.specs.sponsor_rules.Signers.{map_after_moving_signer_between}
 pub use Rattle.op_flags.specs.sponsor_rules.Signers.{map_after_removing_signer, map_with_signer, map_without_signer}
 pub use Rattle.op_flags.specs.sponsor_rules.Signers.{with_counted_signer, with_moved_signer, without_counted_signer}
 pub use Rattle.op_flags.specs.sponsor_rules.declared.context.Ctx.{Ctx}
@@ -235,12 +234,12 @@ unfoldable pub use Rattle.op_offers.specs.Selling.{sold}
 pub use Rattle.op_offers.specs.offer_exchange.Exchange.{Amounts, Bounds, unlimited}
 unfoldable pub use Rattle.op_offers.specs.offer_exchange.Exchange.{exchanged, wheat_stays}
 pub use Rattle.op_offers.specs.offer_exchange.declared.rounding.Rounding.{Rounding}
-pub use Rattle.op_options.specs.ManageData.{added, manage_data, managed, name_tests, new_data, removed, valued}
+pub use Rattle.op_options.specs.ManageData.{manage_data, name_tests, new_data}
 pub use Rattle.op_options.specs.ManageData.{with_value}
 pub use Rattle.op_options.specs.OptionSigner.{count_tests, map_after_signer, map_after_weighing, with_signer_set}
-pub use Rattle.op_options.specs.OptionTests.{flags_in, has_unknown, inflation_tests, is_bad_domain, is_bad_signer}
-pub use Rattle.op_options.specs.OptionTests.{is_out_of_range, is_own_key, new_flags, source_tests}
-pub use Rattle.op_options.specs.SetOptions.{options_of, options_set, set_options, with_options}
+pub use Rattle.op_options.specs.OptionTests.{flags_in, has_unknown, is_bad_domain, is_bad_signer}
+pub use Rattle.op_options.specs.OptionTests.{is_own_key, new_flags, source_tests}
+pub use Rattle.op_options.specs.SetOptions.{set_options, with_options}
 pub use Rattle.op_payment.proofs.Amounts.{IsMoved, in_line, line_given, more_of, ok_of}
 pub use Rattle.op_payment.proofs.Paying.{IsGiven, IsTaken, credit_is_taken, debit_is_given, given_back, given_left}
 pub use Rattle.op_payment.proofs.Paying.{given_legal, taken_left, taken_legal}
@@ -251,18 +250,17 @@ pub use Rattle.op_payment.specs.PathSend.{path_payment_strict_send}
 pub use Rattle.op_payment.specs.Paths.{Carried, after_hop, and_then, by_end, carried_on, hopped, is_same_asset}
 pub use Rattle.op_payment.specs.Paths.{needed_before, received, received_hop, receiving, sending, sent, sent_hop}
 pub use Rattle.op_payment.specs.Paths.{set_out}
-pub use Rattle.op_payment.specs.Payment.{credit_result, debit_result, destination_tests, is_to_itself, paid, payment}
-pub use Rattle.op_payment.specs.Payment.{payment_move, payment_tests, taken_and_given}
+pub use Rattle.op_payment.specs.Payment.{payment}
+pub use Rattle.op_payment.specs.Payment.{payment_move, payment_tests}
 pub use Rattle.op_payment.specs.declared.path_fault.PathFault.{PathFault}
-pub use Rattle.op_pool.specs.Deposit.{deposit_by, deposit_tests, do_shares_pass, does_pass, given_tests, is_above}
-pub use Rattle.op_pool.specs.Deposit.{is_pool_full, is_price_bad, is_price_outside, is_price_wrong, is_unusable}
-pub use Rattle.op_pool.specs.Deposit.{liquidity_pool_deposit, map_after_depositing, put_in}
-pub use Rattle.op_pool.specs.Withdraw.{disabled_tests, liquidity_pool_withdraw, map_after_taking, move_of_a, move_of_b}
-pub use Rattle.op_pool.specs.Withdraw.{share_tests, taken, taken_tests, withdraw_tests}
+pub use Rattle.op_pool.specs.Deposit.{deposit_by, does_pass, given_tests, is_above}
+pub use Rattle.op_pool.specs.Deposit.{is_price_bad, is_price_outside}
+pub use Rattle.op_pool.specs.Deposit.{liquidity_pool_deposit, map_after_depositing}
+pub use Rattle.op_pool.specs.Withdraw.{liquidity_pool_withdraw, map_after_taking, move_of_a, move_of_b}
+pub use Rattle.op_pool.specs.Withdraw.{taken_tests}
 pub use Rattle.op_pool.specs.reserve_rules.Reserve.{IsLineInRange, available, greatest_i64, line_available, line_room}
-pub use Rattle.op_sponsor.specs.RevokeSponsorship.{entry_moved, entry_revoked, entry_tests, is_malformed}
-pub use Rattle.op_sponsor.specs.RevokeSponsorship.{revoke_sponsorship, signer_moved, signer_tests}
+pub use Rattle.op_sponsor.specs.RevokeSponsorship.{revoke_sponsorship}
 pub use Rattle.op_trust.proofs.Counts.{same_params}
-pub use Rattle.op_trust.specs.ChangeTrust.{answer, is_exceeded, limit_tests, with_limit}
+pub use Rattle.op_trust.specs.ChangeTrust.{answer, is_exceeded}
 pub use Rattle.op_trust.specs.Operations.{change_trust, trust_in}
 unfoldable pub use Rattle.op_trust.specs.Operations.{trust_operation}

@@ -19,8 +19,8 @@ use Rattle.op_flags.specs.op_types.declared.sponsor_ops.RevokeSponsorshipOp.TheV
 use Rattle.op_flags.specs.op_types.declared.sponsor_results.RevokeSponsorshipResult.TheVariants as revoke
 use Rattle.op_sponsor.specs.RevokeSponsorship.{answer}
 use Rattle.op_laws.proofs.Lawful.{lawful_still}
-use Rattle.step_logic.proofs.Steps.{done_so, anything}
-use Rattle.walks.proofs.SponsorSteps.{revoke_steps, RevokeSuccesses}
+use Rattle.op_form.proofs.Steps.{done_so, anything}
+use Rattle.op_sponsor.proofs.SponsorSteps.{revoke_steps, RevokeSuccesses}
 
 module _ (ctx : Ctx) (m new : EntryMap) (keyed : IsKeyed m) where
   abbrev IsLeft : EntryMap → Type 0

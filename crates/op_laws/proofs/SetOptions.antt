@@ -29,9 +29,9 @@ use Rattle.op_laws.proofs.Lawful.{KeepsLegal, lawful_still}
 use Rattle.op_laws.proofs.Signers.{without_core}
 use Rattle.op_laws.proofs.Signers.{signer_kept}
 use Rattle.op_laws.proofs.SignerWeights.{weighed_legal, weighed_left}
-use Rattle.step_logic.proofs.Steps.{done_so, anything, AllPass}
-use Rattle.step_logic.proofs.Walks.{succeeded}
-use Rattle.walks.proofs.OptionSteps.{options_steps}
+use Rattle.op_form.proofs.Steps.{done_so, anything, AllPass}
+use Rattle.op_form.proofs.Walks.{succeeded}
+use Rattle.op_options.proofs.OptionSteps.{options_steps}
 
 -- ---- keys of signers
 

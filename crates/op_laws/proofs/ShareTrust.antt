@@ -13,9 +13,9 @@ use Rattle.op_trust.specs.ShareTrust as spec
 use Rattle.op_laws.proofs.LineLimits.{not_zero, nothing_in_line, line_limited_lawful}
 use Rattle.op_laws.proofs.NewShares.{share_added_lawful}
 use Rattle.op_laws.proofs.Parts.{lawful_now}
-use Rattle.step_logic.proofs.Steps.{done_so, anything}
-use Rattle.walks.proofs.TrustSteps.{trusted}
-use Rattle.walks.proofs.ShareTrustSteps.{share_steps}
+use Rattle.op_form.proofs.Steps.{done_so, anything}
+use Rattle.op_trust.proofs.TrustSteps.{trusted}
+use Rattle.op_trust.proofs.ShareTrustSteps.{share_steps}
 
 module _ (ctx : Ctx) (m : EntryMap) (under : IsUnderway ctx m) (exists : HasAccount m ctx.op_source)
     (params : PoolParams) (limit : ℤ) (low : pos 0 ≤ℤ limit) (high : limit ≤ℤ greatest_i64)

@@ -15,8 +15,8 @@ use Rattle.op_sponsor.specs.EndSponsoringFutureReserves as ends
 use Rattle.op_laws.proofs.Lawful.{lawful_by}
 use Rattle.op_laws.proofs.Lumens.{nothing_issued}
 use Rattle.op_laws.proofs.Described.{describes_nothing}
-use Rattle.step_logic.proofs.Steps.{done_so, anything}
-use Rattle.walks.proofs.SponsorSteps.{begin_steps, end_steps}
+use Rattle.op_form.proofs.Steps.{done_so, anything}
+use Rattle.op_sponsor.proofs.SponsorSteps.{begin_steps, end_steps}
 
 -- ---- other sponsorships
 

@@ -22,8 +22,8 @@ use Rattle.op_flags.specs.op_types.declared.trust_results.ChangeTrustResult.TheV
 use Rattle.op_trust.specs.ChangeTrust as spec
 use Rattle.op_laws.proofs.Lawful.{KeepsLegal, lawful_still}
 use Rattle.op_laws.proofs.LineLimits.{not_zero, nothing_in_line, line_limited_lawful}
-use Rattle.step_logic.proofs.Steps.{done_so, anything, AllPass}
-use Rattle.walks.proofs.TrustSteps.{trust_steps, trusted}
+use Rattle.op_form.proofs.Steps.{done_so, anything, AllPass}
+use Rattle.op_trust.proofs.TrustSteps.{trust_steps, trusted}
 
 -- ---- keys
 

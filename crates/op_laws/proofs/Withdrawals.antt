@@ -23,9 +23,9 @@ use Rattle.op_laws.proofs.PoolPayments.{holder_exists, takes_so, shift_of, more_
 use Rattle.op_laws.proofs.PoolPayments.{both_taken}
 use Rattle.op_laws.proofs.Described.{Describes, more_for, account_location, pool_location, moved, move_describes}
 use Rattle.op_laws.proofs.Described.{describes_both}
-use Rattle.step_logic.proofs.Steps.{done_so, anything, AllPass}
-use Rattle.step_logic.proofs.Walks.{succeeded}
-use Rattle.walks.proofs.PoolSteps.{withdraw_steps}
+use Rattle.op_form.proofs.Steps.{done_so, anything, AllPass}
+use Rattle.op_form.proofs.Walks.{succeeded}
+use Rattle.op_pool.proofs.PoolSteps.{withdraw_steps}
 
 -- ---- what a withdrawal moves
 

@@ -5,6 +5,9 @@ pub mod Tested
 pub mod OutLeft
 pub mod NewOffers
 pub mod OldOffers
+pub mod SoldHold
+pub mod ManagedHold
+pub mod OfferSteps
 mod Ready
 mod Begun
 mod Loaded

@@ -5,4 +5,7 @@ pub mod Amounts
 pub mod HopsMade
 pub mod PathLegality
 pub mod PathEnds
+pub mod PathsHold
+pub mod PaymentSteps
+pub mod PathSteps
 mod Prelude

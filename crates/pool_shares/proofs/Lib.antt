@@ -9,5 +9,7 @@ pub mod GoneLeft
 pub mod Shared
 pub mod Loaded
 pub mod Parts
+pub mod PoolsBeside
+pub mod SharesHold
 pub use Rattle.pool_math.proofs.wide_math_proofs
 mod Prelude

@@ -30,6 +30,9 @@ pub mod Crossables
 pub mod Served
 pub mod HopsKeep
 pub mod Chosen
+pub mod BoundHold
+pub mod CrossedHold
+pub mod HopsHold
 pub use Rattle.legal_rules.proofs.entry_sums_proofs
 pub use Rattle.legal_rules.proofs as legal_rules_proofs
 pub use Rattle.offer_book.proofs as offer_book_proofs

@@ -21,8 +21,8 @@ use Rattle.sponsor_rules.specs.declared.signer_index.FoundSigner.{FoundSigner}
 use Rattle.std.proofs.Common.{refl}
 use Rattle.std.specs.FinMap.{get}
 use Rattle.std.specs.Prelude.{None, Option, Some, ℕ, ◌≡◌}
-use Rattle.step_logic.proofs.Changes.{HoldsIf, account_changed, unless_holds}
-use Rattle.step_logic.proofs.Entries.{Fits, Invariant, Kinds}
+use Rattle.sponsor_rules.proofs.Changes.{HoldsIf, account_changed, unless_holds}
+use Rattle.sponsor_rules.proofs.Entries.{Fits, Invariant, Kinds}
 use Rattle.ledger_types.specs.declared.entry.LedgerEntryBody.TheVariants as body
 use Rattle.sponsor_rules.specs.Adding as adding
 use Rattle.sponsor_rules.specs.Moving as moving

@@ -24,9 +24,9 @@ use Rattle.std.proofs.lemmas.Int.{ints}
 use Rattle.std.proofs.lemmas.List.Elements.{All-cons, All-nil}
 use Rattle.std.specs.Prelude.{All, Bool, Option, Some, false, if◌then◌else◌, length, min, neg_ℤ, pos, true}
 use Rattle.std.specs.Prelude.{unsigned_abs, ℕ, ℤ, ◌+ℤ◌, ◌≡◌, ◌≤ℤ◌, ◌≤◌}
-use Rattle.step_logic.proofs.Changes.{offer_changed}
-use Rattle.step_logic.proofs.Charges.{removing_holds}
-use Rattle.step_logic.proofs.Entries.{FitsBody, Invariant}
+use Rattle.sponsor_rules.proofs.Changes.{offer_changed}
+use Rattle.sponsor_rules.proofs.Charges.{removing_holds}
+use Rattle.sponsor_rules.proofs.Entries.{FitsBody, Invariant}
 use Rattle.trade_cross.proofs.Binding.{given_fits}
 use Rattle.trade_cross.proofs.Bonds.{available_within}
 use Rattle.trade_cross.proofs.CrossedLegal.{met}
@@ -43,7 +43,7 @@ use Rattle.trade_cross.specs.declared.crossed.CrossEnd.{CrossEnd}
 use Rattle.trade_cross.specs.declared.trade.Trade.{Trade}
 use Rattle.trade_cross.specs.declared.turn.Turn.TheVariants.{Ends, Meets}
 use Rattle.trade_cross.specs.declared.turn.Turn.{Turn}
-use Rattle.walks.proofs.BoundHold.{MaySell, acquiring_holds, paying_holds, releasing_holds, same_may, still_may}
+use Rattle.trade_cross.proofs.BoundHold.{MaySell, acquiring_holds, paying_holds, releasing_holds, same_may, still_may}
 use Rattle.ledger_types.specs.declared.key.LedgerKey.TheVariants as key
 
 -- ---- what may be sold

@@ -1,5 +1,5 @@
 -- CHANGE_TRUST for shares of a pool, and by what the line is in, step by step.
-use Rattle.walks.proofs.TrustSteps.{code, trusted}
+use Rattle.op_trust.proofs.TrustSteps.{code, trusted}
 use Rattle.entry_map.proofs.Lookups.{put_there}
 use Rattle.entry_map.specs.EntryMap.{EntryMap, put}
 use Rattle.entry_slots.specs.LineExtensions.{use_count}
@@ -30,14 +30,14 @@ use Rattle.std.proofs.lemmas.Int.{ints}
 use Rattle.std.specs.Ordering.{int_eq}
 use Rattle.std.specs.Prelude.{None, Ok, Option, Some, [], false, int_le, not, pos, true, ℕ, ℤ, ◌+ℤ◌, ◌+◌, ◌||◌, ◌∷◌}
 use Rattle.std.specs.Prelude.{◌≡◌, ◌≤ℤ◌}
-use Rattle.step_logic.proofs.Changes.{line_changed}
-use Rattle.step_logic.proofs.Charges.{adding_subentry}
-use Rattle.step_logic.proofs.Entries.{Fits, Invariant}
-use Rattle.step_logic.proofs.Steps.{AllAnswer, AllPass, Answering, Ends, either_ends, past, past_charge}
-use Rattle.step_logic.proofs.Walks.{Before, Leaves, Left, Logic, left, made_holds}
-use Rattle.walks.proofs.PoolsBeside.{beside_subentry}
-use Rattle.walks.proofs.SharesHold.{MayCount, pool_made, same_pool, share_line_removed, share_lines_hold}
-use Rattle.walks.proofs.TrustSteps.{asset_trusted}
+use Rattle.sponsor_rules.proofs.Changes.{line_changed}
+use Rattle.sponsor_rules.proofs.Charges.{adding_subentry}
+use Rattle.sponsor_rules.proofs.Entries.{Fits, Invariant}
+use Rattle.op_form.proofs.Steps.{AllAnswer, AllPass, Answering, Ends, either_ends, past, past_charge}
+use Rattle.op_form.proofs.Walks.{Before, Leaves, Left, Logic, left, made_holds}
+use Rattle.pool_shares.proofs.PoolsBeside.{beside_subentry}
+use Rattle.pool_shares.proofs.SharesHold.{MayCount, pool_made, same_pool, share_line_removed, share_lines_hold}
+use Rattle.op_trust.proofs.TrustSteps.{asset_trusted}
 use Rattle.ledger_types.specs.declared.asset.Asset.TheVariants as asset
 use Rattle.ledger_types.specs.declared.asset.ChangeTrustAsset.TheVariants as asked
 use Rattle.ledger_types.specs.declared.asset.TrustLineAsset.TheVariants as line

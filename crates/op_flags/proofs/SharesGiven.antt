@@ -34,8 +34,8 @@ use Rattle.std.specs.FinMap.{get}
 use Rattle.std.specs.Ordering.{eq_by_cmp}
 use Rattle.std.specs.Prelude.{Bool, None, Option, Some, if◌then◌else◌, neg_ℤ, pos, ℕ, ◌≡◌, ◌≢◌, ◌≤ℤ◌, ◌⊎◌}
 use Rattle.trade_cross.specs.Holdings.{paying}
-use Rattle.walks.proofs.SharesBeside.{IsOfPools, KeepsPools, keeps_twice, no_account, uses_keep}
-use Rattle.walks.proofs.SharesHold.{same_pool}
+use Rattle.op_flags.proofs.SharesBeside.{IsOfPools, KeepsPools, keeps_twice, no_account, uses_keep}
+use Rattle.pool_shares.proofs.SharesHold.{same_pool}
 use Rattle.ledger_types.specs.declared.asset.TrustLineAsset.TheVariants as line
 use Rattle.ledger_types.specs.declared.key.LedgerKey.TheVariants as key
 use Rattle.op_flags.specs.RevokedShares as revoking

@@ -19,12 +19,12 @@ use Rattle.std.proofs.Common.{ap, arith, refl, sym, ◌∙◌}
 use Rattle.std.proofs.lemmas.Int.{ints}
 use Rattle.std.specs.FinMap.{get}
 use Rattle.std.specs.Prelude.{None, Option, Some, neg_ℤ, pos, ℕ, ℤ, ◌+ℤ◌, ◌≡◌, ◌≤ℤ◌}
-use Rattle.step_logic.proofs.Changes.{line_changed, pool_changed}
-use Rattle.step_logic.proofs.Charges.{removing_holds}
-use Rattle.step_logic.proofs.Entries.{AreBoundBy, Fits, Invariant, IsBoundBy}
+use Rattle.sponsor_rules.proofs.Changes.{line_changed, pool_changed}
+use Rattle.sponsor_rules.proofs.Charges.{removing_holds}
+use Rattle.sponsor_rules.proofs.Entries.{AreBoundBy, Fits, Invariant, IsBoundBy}
 use Rattle.trade_cross.specs.Holdings.{paying}
-use Rattle.walks.proofs.BoundHold.{paying_holds}
-use Rattle.walks.proofs.PoolsBeside.{beside_paying, beside_uses}
+use Rattle.trade_cross.proofs.BoundHold.{paying_holds}
+use Rattle.pool_shares.proofs.PoolsBeside.{beside_paying, beside_uses}
 use Rattle.ledger_types.specs.declared.asset.TrustLineAsset.TheVariants as line
 use Rattle.ledger_types.specs.declared.key.LedgerKey.TheVariants as key
 

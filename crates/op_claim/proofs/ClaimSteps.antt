@@ -24,12 +24,12 @@ use Rattle.sponsor_rules.specs.Removing.{map_after_removing}
 use Rattle.sponsor_rules.specs.declared.context.Ctx.{Ctx}
 use Rattle.std.proofs.Common.{refl}
 use Rattle.std.specs.Prelude.{Bool, Ok, Some, [], false, is_some, length, map, ◌∷◌, ◌≡◌}
-use Rattle.step_logic.proofs.AmountSteps.{credit_holds, debit_holds}
-use Rattle.step_logic.proofs.Changes.{line_changed}
-use Rattle.step_logic.proofs.Charges.{adding_balance, payer_named, removing_holds}
-use Rattle.step_logic.proofs.Entries.{Fits}
-use Rattle.step_logic.proofs.Steps.{AllPass, Answering, Ends, past, past_charge, past_some, past_step}
-use Rattle.step_logic.proofs.Walks.{Before, Leaves, Left, Logic, left, made_holds, succeeded}
+use Rattle.op_form.proofs.AmountSteps.{credit_holds, debit_holds}
+use Rattle.sponsor_rules.proofs.Changes.{line_changed}
+use Rattle.sponsor_rules.proofs.Charges.{adding_balance, payer_named, removing_holds}
+use Rattle.sponsor_rules.proofs.Entries.{Fits}
+use Rattle.op_form.proofs.Steps.{AllPass, Answering, Ends, past, past_charge, past_some, past_step}
+use Rattle.op_form.proofs.Walks.{Before, Leaves, Left, Logic, left, made_holds, succeeded}
 use Rattle.ledger_types.specs.declared.key.LedgerKey.TheVariants as key
 use Rattle.op_claim.specs.ClaimClaimableBalance as claiming
 use Rattle.op_claim.specs.Clawback as clawing

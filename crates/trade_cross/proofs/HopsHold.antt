@@ -13,15 +13,15 @@ use Rattle.std.proofs.lemmas.Int.{ints}
 use Rattle.std.proofs.lemmas.List.Elements.{All-cons, All-nil}
 use Rattle.std.specs.Prelude.{Bool, Some, [], false, if◌then◌else◌, length, neg_ℤ, pos, true, unsigned_abs, ℕ, ℤ}
 use Rattle.std.specs.Prelude.{◌+ℤ◌, ◌+◌, ◌≡◌, ◌≤ℤ◌, ◌≤◌}
-use Rattle.step_logic.proofs.Changes.{pool_changed}
-use Rattle.step_logic.proofs.Entries.{FitsBody, Invariant}
+use Rattle.sponsor_rules.proofs.Changes.{pool_changed}
+use Rattle.sponsor_rules.proofs.Entries.{FitsBody, Invariant}
 use Rattle.trade_cross.proofs.PoolSwaps.{DoesSwap, IsEither, IsSwapping, hop_is_either, swaps}
 use Rattle.trade_cross.proofs.PoolsLegal.{pool_legal}
 use Rattle.trade_cross.specs.Crossable.{IsCrossable}
 use Rattle.trade_cross.specs.Crossing.{Crossing, converted, left_of, most_crossings}
 use Rattle.trade_cross.specs.Hop.{hop, is_sheep_first, pool_atom, pool_of_pair, swapped, with_reserves, with_swap}
 use Rattle.trade_cross.specs.declared.trade.Trade.{Trade}
-use Rattle.walks.proofs.CrossedHold.{AreCrossed, crossed_holds}
+use Rattle.trade_cross.proofs.CrossedHold.{AreCrossed, crossed_holds}
 use Rattle.ledger_types.specs.declared.key.LedgerKey.TheVariants as key
 
 -- the most atoms that a hop has: so many offers, or one pool

@@ -13,8 +13,8 @@ use Rattle.sponsor_rules.specs.declared.context.Ctx.{Ctx}
 use Rattle.std.proofs.Common.{refl}
 use Rattle.std.specs.Option.{ok_or}
 use Rattle.std.specs.Prelude.{None, Ok, Option, Some, ℤ}
-use Rattle.step_logic.proofs.Changes.{HoldsIf, HoldsIfSome, account_changed, line_changed, some_unless, unless_holds}
-use Rattle.step_logic.proofs.Entries.{Invariant}
+use Rattle.sponsor_rules.proofs.Changes.{HoldsIf, HoldsIfSome, account_changed, line_changed, some_unless, unless_holds}
+use Rattle.sponsor_rules.proofs.Entries.{Invariant}
 use Rattle.ledger_types.specs.declared.asset.Asset.TheVariants as asset
 use Rattle.op_form.specs.Amounts as amounts
 use Rattle.op_form.specs.Lumens as lumens

@@ -11,7 +11,7 @@ use Rattle.std.proofs.Common.{arith, length-append, refl, subst, suc, sym, ◌*�
 use Rattle.std.proofs.lemmas.List.Elements.{All-append, All-head, All-nil, All-tail}
 use Rattle.std.specs.Prelude.{All, Bool, Err, List, Ok, Result, [], false, if◌then◌else◌, length, true, ℕ, ℤ, ◌+◌}
 use Rattle.std.specs.Prelude.{◌∷◌, ◌≡◌, ◌≤◌}
-use Rattle.step_logic.proofs.Entries.{Invariant}
+use Rattle.sponsor_rules.proofs.Entries.{Invariant}
 use Rattle.trade_cross.proofs.HopsKeep.{hop_keeps}
 use Rattle.trade_cross.specs.Crossable.{IsCrossable}
 use Rattle.trade_cross.specs.Crossing.{Crossing, most_crossings}
@@ -20,8 +20,8 @@ use Rattle.trade_cross.specs.HopLaws.{IsHopTrade, crossings_in}
 use Rattle.trade_cross.specs.declared.crossed.CrossEnd.TheVariants.{CrossSelf, TooMany}
 use Rattle.trade_cross.specs.declared.crossed.CrossEnd.{CrossEnd}
 use Rattle.trade_cross.specs.declared.trade.Trade.{Trade}
-use Rattle.walks.proofs.CrossedHold.{AreCrossed}
-use Rattle.walks.proofs.HopsHold.{AreNamed, hop_holds, most_atoms}
+use Rattle.trade_cross.proofs.CrossedHold.{AreCrossed}
+use Rattle.trade_cross.proofs.HopsHold.{AreNamed, hop_holds, most_atoms}
 use Rattle.op_payment.specs.declared.path_fault.PathFault.TheVariants as fault
 
 -- ---- numbers

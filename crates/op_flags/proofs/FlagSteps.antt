@@ -11,12 +11,12 @@ use Rattle.op_types.specs.declared.trust_ops.SetTrustLineFlagsOp.{SetTrustLineFl
 use Rattle.sponsor_rules.specs.declared.context.Ctx.{Ctx}
 use Rattle.std.proofs.Common.{refl}
 use Rattle.std.specs.Prelude.{Some, ℕ}
-use Rattle.step_logic.proofs.Changes.{line_changed}
-use Rattle.step_logic.proofs.Steps.{IsBare, past, past_part, past_some}
-use Rattle.step_logic.proofs.Walks.{Before, Leaves, Logic, left}
-use Rattle.walks.proofs.RevokedHold.{DoBalancesFit, IsRevoked, revoking_holds, shares_left_hold}
-use Rattle.walks.proofs.SharesBeside.{flagging_keeps}
-use Rattle.walks.proofs.SharesGiven.{CanRevoke, still_can}
+use Rattle.sponsor_rules.proofs.Changes.{line_changed}
+use Rattle.op_form.proofs.Steps.{IsBare, past, past_part, past_some}
+use Rattle.op_form.proofs.Walks.{Before, Leaves, Logic, left}
+use Rattle.op_flags.proofs.RevokedHold.{DoBalancesFit, IsRevoked, revoking_holds, shares_left_hold}
+use Rattle.op_flags.proofs.SharesBeside.{flagging_keeps}
+use Rattle.op_flags.proofs.SharesGiven.{CanRevoke, still_can}
 use Rattle.op_flags.specs.AllowTrust as allowing
 use Rattle.op_flags.specs.LineFlags as flagging
 use Rattle.op_flags.specs.SetTrustLineFlags as setting

@@ -15,9 +15,9 @@ use Rattle.sponsor_rules.specs.declared.context.Ctx.{Ctx}
 use Rattle.sponsor_rules.specs.declared.signer_index.FoundSigner.{FoundSigner}
 use Rattle.std.specs.FinMap.{get}
 use Rattle.std.specs.Prelude.{Ok, Some, [], false, ℕ, ◌∷◌, ◌≡◌}
-use Rattle.step_logic.proofs.Charges.{moving_holds, moving_signer}
-use Rattle.step_logic.proofs.Steps.{AllPass, Answering, Ends, past, past_charge, past_some}
-use Rattle.step_logic.proofs.Walks.{Before, Leaves, Left, Logic, left, made_holds, succeeded}
+use Rattle.sponsor_rules.proofs.Charges.{moving_holds, moving_signer}
+use Rattle.op_form.proofs.Steps.{AllPass, Answering, Ends, past, past_charge, past_some}
+use Rattle.op_form.proofs.Walks.{Before, Leaves, Left, Logic, left, made_holds, succeeded}
 use Rattle.op_sponsor.specs.BeginSponsoringFutureReserves as beginning
 use Rattle.op_sponsor.specs.EndSponsoringFutureReserves as ending
 use Rattle.op_sponsor.specs.RevokeSponsorship as revoking

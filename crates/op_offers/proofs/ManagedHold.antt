@@ -8,7 +8,7 @@ use Rattle.ledger_types.specs.declared.ids.AccountId.{AccountId}
 use Rattle.ledger_types.specs.declared.offer.OfferEntry.{OfferEntry}
 use Rattle.legal_rules.specs.Binding.{releasing}
 use Rattle.legal_rules.specs.Trades.{holder}
-use Rattle.op_offers.proofs.NewOffers.{new_counted, new_rightly}
+use Rattle.op_offers.proofs.Begun.{made_sellable}
 use Rattle.op_offers.proofs.OldOffers.{old_counted, old_rightly}
 use Rattle.op_offers.proofs.Tested.{valid_ask}
 use Rattle.op_offers.specs.Asked.{is_malformed}
@@ -29,13 +29,13 @@ use Rattle.std.specs.FinMap.{get}
 use Rattle.std.specs.Ordering.{int_eq}
 use Rattle.std.specs.Prelude.{Bool, Err, None, Ok, Option, Result, Some, false, if◌then◌else◌, pos, true, ℕ, ℤ, ◌+◌}
 use Rattle.std.specs.Prelude.{◌≡◌, ◌≤ℤ◌, ◌≤◌}
-use Rattle.step_logic.proofs.Changes.{HoldsIf}
-use Rattle.step_logic.proofs.Charges.{counting_subentry, sponsored_entry_fits}
-use Rattle.step_logic.proofs.Entries.{Fits, FitsBody, Invariant}
+use Rattle.sponsor_rules.proofs.Changes.{HoldsIf}
+use Rattle.sponsor_rules.proofs.Charges.{counting_subentry, sponsored_entry_fits}
+use Rattle.sponsor_rules.proofs.Entries.{Fits, FitsBody, Invariant}
 use Rattle.trade_cross.specs.Cancelling.{map_after_cancelling}
 use Rattle.trade_cross.specs.Crossing.{offer_key}
-use Rattle.walks.proofs.BoundHold.{cancelling_holds, releasing_holds}
-use Rattle.walks.proofs.SoldHold.{AreSold, Gives, IsAskedFit, sold_holds}
+use Rattle.trade_cross.proofs.BoundHold.{cancelling_holds, releasing_holds}
+use Rattle.op_offers.proofs.SoldHold.{AreSold, Gives, IsAskedFit, sold_holds}
 use Rattle.ledger_types.specs.declared.entry.LedgerEntryBody.TheVariants as body
 use Rattle.ledger_types.specs.declared.key.LedgerKey.TheVariants as key
 use Rattle.op_offers.specs.declared.fault.OfferFault.TheVariants as fault
@@ -57,23 +57,6 @@ same_or_more n = omega arith
 
 ids : {i j : ℤ} {p q : AccountId} → key.Offer p i ≡ key.Offer q j → p ≡ q
 ids same = cc
-
--- ---- a new offer, once its reserve is counted
-
-new_sellable : (ctx : Ctx) (ask : Ask) (m : EntryMap) → IsManageable ctx m → IsSound ask
-    → sell_fault m (holder ctx.op_source ask.selling) ≡ None → buy_fault m (holder ctx.op_source ask.buying) ≡ None
-    → (new : EntryMap) → map_after_counting_subentry ctx ctx.op_source 1 m ≡ Ok new
-    → IsSellable (new_asked ctx ask) new
-new_sellable ctx ask m k sound gives takes new counted = record {
-  view = k.view;
-  id_pool = ctx.id_pool;
-  next = ctx.id_pool + 1;
-  sum = k.sum;
-  legal = new_counted ctx ask m k.view k.sum k.legal k.source k.sponsor new counted;
-  wide = omega arith;
-  right = new_rightly ctx ask m k.view k.sum k.legal k.source k.sponsor new counted (valid_ask ask sound.valid)
-      sound.formed.flags gives takes;
-}
 
 -- ---- an old offer, once it is out of its book
 
@@ -135,7 +118,7 @@ module _ (g : Invariant) (ctx : Ctx) (ask : Ask) (m : EntryMap) (can : g.Asks �
         let asked = new_asked ctx ask in
         let offer = fits.new (λ asks. (can asks).ids) in
         let sellable : g.Asks → IsSellable asked now =
-        λ asks. new_sellable ctx ask m (can asks) sound gives takes now counted in
+        λ asks. made_sellable ctx m (can asks) ask sound gives takes now counted in
         let its_fits : IsAskedFit g asked = record {
           offer = offer;
           sponsor = (sponsored_entry_fits g (open_sponsor ctx ctx.op_source)

@@ -21,11 +21,11 @@ use Rattle.sponsor_rules.specs.declared.context.Ctx.{Ctx}
 use Rattle.std.proofs.Common.{subst}
 use Rattle.std.proofs.lemmas.Bool.{or_parts}
 use Rattle.std.specs.Prelude.{Some, [], false, int_le, int_lt, neg_ℤ, pos, ◌+ℤ◌, ◌||◌, ◌∷◌, ◌≡◌, ◌≤ℤ◌}
-use Rattle.step_logic.proofs.Steps.{AllPass, Answering, Ends, past, past_some}
-use Rattle.step_logic.proofs.Walks.{Before, Leaves, Left, Logic, left, succeeded}
+use Rattle.op_form.proofs.Steps.{AllPass, Answering, Ends, past, past_some}
+use Rattle.op_form.proofs.Walks.{Before, Leaves, Left, Logic, left, succeeded}
 use Rattle.trade_cross.specs.Holdings.{paying}
-use Rattle.walks.proofs.BoundHold.{paying_holds}
-use Rattle.walks.proofs.SharesHold.{MayHave, may_give, shares_hold}
+use Rattle.trade_cross.proofs.BoundHold.{paying_holds}
+use Rattle.pool_shares.proofs.SharesHold.{MayHave, may_give, shares_hold}
 use Rattle.ledger_types.specs.declared.asset.TrustLineAsset.TheVariants as line
 use Rattle.op_pool.specs.Deposit as depositing_into
 use Rattle.op_pool.specs.Withdraw as withdrawing_from

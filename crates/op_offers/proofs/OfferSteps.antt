@@ -11,10 +11,10 @@ use Rattle.op_offers.specs.declared.fault.OfferFault.{OfferFault}
 use Rattle.op_types.specs.declared.offer_results.ManageOfferResult.{ManageOfferResult}
 use Rattle.sponsor_rules.specs.declared.context.Ctx.{Ctx}
 use Rattle.std.specs.Prelude.{Err, Ok, Result, [], ◌≤◌}
-use Rattle.step_logic.proofs.Steps.{Answering, IsBare, IsBareOffer, charged}
-use Rattle.step_logic.proofs.Walks.{Before, Leaves, Logic}
-use Rattle.walks.proofs.ManagedHold.{DoesAskFit, IsManaged, managed_holds}
-use Rattle.walks.proofs.SoldHold.{AreSold, Gives, IsAskedFit}
+use Rattle.op_form.proofs.Steps.{Answering, IsBare, IsBareOffer, charged}
+use Rattle.op_form.proofs.Walks.{Before, Leaves, Logic}
+use Rattle.op_offers.proofs.ManagedHold.{DoesAskFit, IsManaged, managed_holds}
+use Rattle.op_offers.proofs.SoldHold.{AreSold, Gives, IsAskedFit}
 use Rattle.op_offers.specs.declared.answers.Kind.TheVariants as kind
 use Rattle.op_offers.specs.declared.fault.OfferFault.TheVariants as fault
 use Rattle.op_types.specs.declared.offer_results.ManageOfferEffect.TheVariants as effect

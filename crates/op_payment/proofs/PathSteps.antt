@@ -24,14 +24,15 @@ use Rattle.sponsor_rules.specs.declared.context.Ctx.{Ctx}
 use Rattle.std.proofs.Common.{refl, subst}
 use Rattle.std.proofs.lemmas.Bool.{or_parts}
 use Rattle.std.specs.Prelude.{All, Err, List, Ok, Result, int_le, length, not, pos, ℤ, ◌||◌, ◌≡◌, ◌≤ℤ◌, ◌≤◌}
-use Rattle.step_logic.proofs.AmountSteps.{credit_holds, debit_holds}
-use Rattle.step_logic.proofs.Entries.{Invariant}
-use Rattle.step_logic.proofs.Steps.{AllPass, Answering, Ends, IsBareReceive, IsBareSend, past, past_step}
-use Rattle.step_logic.proofs.Walks.{Before, Leaves, Left, Logic, made_holds, succeeded}
+use Rattle.op_form.proofs.AmountSteps.{credit_holds, debit_holds}
+use Rattle.sponsor_rules.proofs.Entries.{Invariant}
+use Rattle.op_form.proofs.Steps.{AllPass, Answering, Ends, IsBareReceive, IsBareSend, past, past_step}
+use Rattle.op_form.proofs.Walks.{Before, Leaves, Left, Logic, made_holds, succeeded}
 use Rattle.trade_cross.proofs.Crossables.{crossable_of}
 use Rattle.trade_cross.specs.Crossable.{IsCrossable}
-use Rattle.walks.proofs.PathsHold.{IsOnWay, IsOnWayIf, before_path, most_after, most_before, most_in_paths, past_path}
-use Rattle.walks.proofs.PathsHold.{received_on_way, sent_on_way, sets_out}
+use Rattle.op_payment.proofs.PathsHold.{IsOnWay, IsOnWayIf, before_path, most_after, most_before, most_in_paths}
+use Rattle.op_payment.proofs.PathsHold.{past_path}
+use Rattle.op_payment.proofs.PathsHold.{received_on_way, sent_on_way, sets_out}
 use Rattle.op_form.specs.declared.amounts.CreditFault.TheVariants as credit
 use Rattle.op_form.specs.declared.amounts.DebitFault.TheVariants as debit
 use Rattle.op_payment.specs.PathReceive as receiving

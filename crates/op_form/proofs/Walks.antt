@@ -10,9 +10,9 @@ use Rattle.sponsor_rules.specs.declared.context.Sponsorship.{Sponsorship}
 use Rattle.std.proofs.Common.{subst}
 use Rattle.std.specs.List.{remove}
 use Rattle.std.specs.Prelude.{Err, List, Ok, Option, Result, Some, [], ℕ, ◌++◌, ◌∷◌, ◌≡◌}
-use Rattle.step_logic.proofs.Changes.{HoldsIf, HoldsIfSome}
-use Rattle.step_logic.proofs.Entries.{Invariant}
-use Rattle.step_logic.proofs.Steps.{Answering, Ends, IsBare}
+use Rattle.sponsor_rules.proofs.Changes.{HoldsIf, HoldsIfSome}
+use Rattle.sponsor_rules.proofs.Entries.{Invariant}
+use Rattle.op_form.proofs.Steps.{Answering, Ends, IsBare}
 use Rattle.op_types.specs.declared.operation_result.OperationResult.TheVariants.{Inner}
 
 pub record Logic : Type 1 where

@@ -15,11 +15,11 @@ use Rattle.sponsor_rules.specs.declared.context.Ctx.{Ctx}
 use Rattle.std.proofs.Common.{refl}
 use Rattle.std.specs.Ordering.{int_eq}
 use Rattle.std.specs.Prelude.{None, Ok, Option, Some, [], false, is_some, not, pos, true, ℤ, ◌∷◌, ◌≡◌}
-use Rattle.step_logic.proofs.Changes.{line_changed}
-use Rattle.step_logic.proofs.Charges.{adding_subentry, removing_holds}
-use Rattle.step_logic.proofs.Entries.{Fits}
-use Rattle.step_logic.proofs.Steps.{AllPass, Answering, Ends, either_ends, past, past_charge, past_some}
-use Rattle.step_logic.proofs.Walks.{Before, Leaves, Left, Logic, left, made_holds, succeeded}
+use Rattle.sponsor_rules.proofs.Changes.{line_changed}
+use Rattle.sponsor_rules.proofs.Charges.{adding_subentry, removing_holds}
+use Rattle.sponsor_rules.proofs.Entries.{Fits}
+use Rattle.op_form.proofs.Steps.{AllPass, Answering, Ends, either_ends, past, past_charge, past_some}
+use Rattle.op_form.proofs.Walks.{Before, Leaves, Left, Logic, left, made_holds, succeeded}
 use Rattle.ledger_types.specs.declared.key.LedgerKey.TheVariants as key
 use Rattle.op_trust.specs.ChangeTrust as trusting
 use Rattle.op_types.specs.declared.operation_result.OperationResultTr.TheVariants as tr

@@ -10,9 +10,9 @@ use Rattle.op_types.specs.declared.payment_ops.PaymentOp.{PaymentOp}
 use Rattle.op_types.specs.declared.payment_results.PaymentResult.{PaymentResult}
 use Rattle.sponsor_rules.specs.declared.context.Ctx.{Ctx}
 use Rattle.std.specs.Prelude.{Ok, [], true, ◌∷◌, ◌≡◌}
-use Rattle.step_logic.proofs.AmountSteps.{credit_holds, debit_holds}
-use Rattle.step_logic.proofs.Steps.{AllPass, Answering, Ends, either_ends, past, past_step}
-use Rattle.step_logic.proofs.Walks.{Before, Leaves, Left, Logic, left, made_holds, succeeded}
+use Rattle.op_form.proofs.AmountSteps.{credit_holds, debit_holds}
+use Rattle.op_form.proofs.Steps.{AllPass, Answering, Ends, either_ends, past, past_step}
+use Rattle.op_form.proofs.Walks.{Before, Leaves, Left, Logic, left, made_holds, succeeded}
 use Rattle.op_form.specs.declared.amounts.CreditFault.TheVariants as credit
 use Rattle.op_form.specs.declared.amounts.DebitFault.TheVariants as debit
 use Rattle.op_payment.specs.Payment as paying

@@ -1,73 +1,73 @@
 -- Operations by their types: what a walk asks of each, and what all of them leave.
-use Rattle.bucket_levels.specs.entry_map.EntryMap.{EntryMap}
-use Rattle.close_rules.specs.ledger_types.Ids.{account_of}
-use Rattle.close_rules.specs.ledger_types.declared.account.AccountEntry.{AccountEntry}
-use Rattle.close_rules.specs.ledger_types.declared.data_entry.DataEntry.{DataEntry}
-use Rattle.close_rules.specs.ledger_types.declared.ids.AccountId.{AccountId}
-use Rattle.close_rules.specs.ledger_types.declared.signer.Signer.{Signer}
-use Rattle.close_rules.specs.legal_rules.Owing.{AreEntriesLegal}
-use Rattle.close_rules.specs.op_account.Operations.{account_operation}
-use Rattle.close_rules.specs.op_claim.Operations.{claim_operation}
-use Rattle.close_rules.specs.op_flags.Operations.{flags_operation}
-use Rattle.close_rules.specs.op_form.Done.{done_of}
-use Rattle.close_rules.specs.op_offers.Asked.{ask_passively, ask_to_buy, ask_to_sell}
-use Rattle.close_rules.specs.op_offers.Calls.{IsFormed, IsManageable}
-use Rattle.close_rules.specs.op_offers.Managing.{managed}
-use Rattle.close_rules.specs.op_offers.Operations.{answer_of, attempt_of_managed, offers_operation}
-use Rattle.close_rules.specs.op_offers.declared.answers.Kind.{Kind}
-use Rattle.close_rules.specs.op_offers.declared.ask.Ask.{Ask}
-use Rattle.close_rules.specs.op_options.Operations.{options_operation}
-use Rattle.close_rules.specs.op_payment.Operations.{payment_operation}
-use Rattle.close_rules.specs.op_payment.PathPayment.{arrived}
-use Rattle.close_rules.specs.op_pool.Operations.{pool_operation}
-use Rattle.close_rules.specs.op_sponsor.Operations.{sponsor_operation}
-use Rattle.close_rules.specs.op_trust.Operations.{change_trust, trust_operation}
-use Rattle.close_rules.specs.op_types.declared.operation.OperationBody.{OperationBody}
-use Rattle.close_rules.specs.sponsor_rules.declared.context.Ctx.{Ctx}
+use Rattle.entry_map.specs.EntryMap.{EntryMap}
+use Rattle.ledger_types.specs.Ids.{account_of}
+use Rattle.ledger_types.specs.declared.account.AccountEntry.{AccountEntry}
+use Rattle.ledger_types.specs.declared.data_entry.DataEntry.{DataEntry}
+use Rattle.ledger_types.specs.declared.ids.AccountId.{AccountId}
+use Rattle.ledger_types.specs.declared.signer.Signer.{Signer}
+use Rattle.legal_rules.specs.Owing.{AreEntriesLegal}
+use Rattle.op_account.specs.Operations.{account_operation}
+use Rattle.op_claim.specs.Operations.{claim_operation}
+use Rattle.op_flags.specs.Operations.{flags_operation}
+use Rattle.op_form.specs.Done.{done_of}
+use Rattle.op_offers.specs.Asked.{ask_passively, ask_to_buy, ask_to_sell}
+use Rattle.op_offers.specs.Calls.{IsFormed, IsManageable}
+use Rattle.op_offers.specs.Managing.{managed}
+use Rattle.op_offers.specs.Operations.{answer_of, attempt_of_managed, offers_operation}
+use Rattle.op_offers.specs.declared.answers.Kind.{Kind}
+use Rattle.op_offers.specs.declared.ask.Ask.{Ask}
+use Rattle.op_options.specs.Operations.{options_operation}
+use Rattle.op_payment.specs.Operations.{payment_operation}
+use Rattle.op_payment.specs.PathPayment.{arrived}
+use Rattle.op_pool.specs.Operations.{pool_operation}
+use Rattle.op_sponsor.specs.Operations.{sponsor_operation}
+use Rattle.op_trust.specs.Operations.{change_trust, trust_operation}
+use Rattle.op_types.specs.declared.operation.OperationBody.{OperationBody}
+use Rattle.sponsor_rules.specs.declared.context.Ctx.{Ctx}
 use Rattle.op_laws.specs.AnyOperation.{any_operation}
 use Rattle.std.proofs.Common.{arith, refl}
 use Rattle.std.specs.Prelude.{Bool, List, Some, false, ℕ, ℤ, ◌≡◌}
-use Rattle.step_logic.proofs.Entries.{Fits}
-use Rattle.step_logic.proofs.Walks.{Before, Left, Logic, done_left}
-use Rattle.walks.proofs.AccountSteps.{account_created, account_merged, sequence_bumped}
-use Rattle.walks.proofs.ClaimSteps.{balance_claimed, balance_clawed_back, balance_created, clawed_back}
-use Rattle.walks.proofs.FlagSteps.{flags_set, trust_allowed}
-use Rattle.walks.proofs.ManagedHold.{DoesAskFit}
-use Rattle.walks.proofs.OfferSteps.{DoesSaleAnswer, offer_managed}
-use Rattle.walks.proofs.OptionSteps.{data_managed, options_set}
-use Rattle.walks.proofs.PathSteps.{DoesArriveBy, IsPathNamed, path_received, path_sent}
-use Rattle.walks.proofs.PaymentSteps.{payment_made}
-use Rattle.walks.proofs.PoolSteps.{deposited, withdrawn_from}
-use Rattle.walks.proofs.RevokedHold.{DoBalancesFit}
-use Rattle.walks.proofs.ShareTrustSteps.{DoesTrustFit, trust_changed}
-use Rattle.walks.proofs.SharesGiven.{CanRevoke}
-use Rattle.walks.proofs.SponsorSteps.{sponsoring_begun, sponsoring_ended, sponsorship_revoked}
-use Rattle.close_rules.specs.ledger_types.declared.key.LedgerKey.TheVariants as key
-use Rattle.close_rules.specs.op_account.AccountMerge as merging
-use Rattle.close_rules.specs.op_account.BumpSequence as bumping
-use Rattle.close_rules.specs.op_account.CreateAccount as creating
-use Rattle.close_rules.specs.op_claim.ClaimClaimableBalance as claiming
-use Rattle.close_rules.specs.op_claim.Clawback as clawing
-use Rattle.close_rules.specs.op_claim.ClawbackClaimableBalance as taking
-use Rattle.close_rules.specs.op_claim.CreateClaimableBalance as balances
-use Rattle.close_rules.specs.op_flags.AllowTrust as allowing
-use Rattle.close_rules.specs.op_flags.SetTrustLineFlags as flagging
-use Rattle.close_rules.specs.op_offers.declared.answers.Kind.TheVariants as kind
-use Rattle.close_rules.specs.op_options.ManageData as managing
-use Rattle.close_rules.specs.op_options.OptionTests as tests
-use Rattle.close_rules.specs.op_options.SetOptions as options
-use Rattle.close_rules.specs.op_payment.PathReceive as receiving
-use Rattle.close_rules.specs.op_payment.PathSend as sending
-use Rattle.close_rules.specs.op_payment.Payment as paying
-use Rattle.close_rules.specs.op_pool.Deposit as depositing
-use Rattle.close_rules.specs.op_pool.Withdraw as withdrawing
-use Rattle.close_rules.specs.op_sponsor.BeginSponsoringFutureReserves as beginning
-use Rattle.close_rules.specs.op_sponsor.EndSponsoringFutureReserves as ending
-use Rattle.close_rules.specs.op_sponsor.RevokeSponsorship as revoking
-use Rattle.close_rules.specs.op_types.declared.balance_results.CreateClaimableBalanceResult.TheVariants as create
-use Rattle.close_rules.specs.op_types.declared.operation.OperationBody.TheVariants as body
-use Rattle.close_rules.specs.op_types.declared.payment_results.PathPaymentStrictReceiveResult.TheVariants as got_code
-use Rattle.close_rules.specs.op_types.declared.payment_results.PathPaymentStrictSendResult.TheVariants as sent_code
+use Rattle.sponsor_rules.proofs.Entries.{Fits}
+use Rattle.op_form.proofs.Walks.{Before, Left, Logic, done_left}
+use Rattle.op_account.proofs.AccountSteps.{account_created, account_merged, sequence_bumped}
+use Rattle.op_claim.proofs.ClaimSteps.{balance_claimed, balance_clawed_back, balance_created, clawed_back}
+use Rattle.op_flags.proofs.FlagSteps.{flags_set, trust_allowed}
+use Rattle.op_offers.proofs.ManagedHold.{DoesAskFit}
+use Rattle.op_offers.proofs.OfferSteps.{DoesSaleAnswer, offer_managed}
+use Rattle.op_options.proofs.OptionSteps.{data_managed, options_set}
+use Rattle.op_payment.proofs.PathSteps.{DoesArriveBy, IsPathNamed, path_received, path_sent}
+use Rattle.op_payment.proofs.PaymentSteps.{payment_made}
+use Rattle.op_pool.proofs.PoolSteps.{deposited, withdrawn_from}
+use Rattle.op_flags.proofs.RevokedHold.{DoBalancesFit}
+use Rattle.op_trust.proofs.ShareTrustSteps.{DoesTrustFit, trust_changed}
+use Rattle.op_flags.proofs.SharesGiven.{CanRevoke}
+use Rattle.op_sponsor.proofs.SponsorSteps.{sponsoring_begun, sponsoring_ended, sponsorship_revoked}
+use Rattle.ledger_types.specs.declared.key.LedgerKey.TheVariants as key
+use Rattle.op_account.specs.AccountMerge as merging
+use Rattle.op_account.specs.BumpSequence as bumping
+use Rattle.op_account.specs.CreateAccount as creating
+use Rattle.op_claim.specs.ClaimClaimableBalance as claiming
+use Rattle.op_claim.specs.Clawback as clawing
+use Rattle.op_claim.specs.ClawbackClaimableBalance as taking
+use Rattle.op_claim.specs.CreateClaimableBalance as balances
+use Rattle.op_flags.specs.AllowTrust as allowing
+use Rattle.op_flags.specs.SetTrustLineFlags as flagging
+use Rattle.op_offers.specs.declared.answers.Kind.TheVariants as kind
+use Rattle.op_options.specs.ManageData as managing
+use Rattle.op_options.specs.OptionTests as tests
+use Rattle.op_options.specs.SetOptions as options
+use Rattle.op_payment.specs.PathReceive as receiving
+use Rattle.op_payment.specs.PathSend as sending
+use Rattle.op_payment.specs.Payment as paying
+use Rattle.op_pool.specs.Deposit as depositing
+use Rattle.op_pool.specs.Withdraw as withdrawing
+use Rattle.op_sponsor.specs.BeginSponsoringFutureReserves as beginning
+use Rattle.op_sponsor.specs.EndSponsoringFutureReserves as ending
+use Rattle.op_sponsor.specs.RevokeSponsorship as revoking
+use Rattle.op_types.specs.declared.balance_results.CreateClaimableBalanceResult.TheVariants as create
+use Rattle.op_types.specs.declared.operation.OperationBody.TheVariants as body
+use Rattle.op_types.specs.declared.payment_results.PathPaymentStrictReceiveResult.TheVariants as got_code
+use Rattle.op_types.specs.declared.payment_results.PathPaymentStrictSendResult.TheVariants as sent_code
 
 -- ---- what is asked of an operation: that what it puts fits, and what it reports can be answered
 

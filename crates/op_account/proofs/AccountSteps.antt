@@ -17,12 +17,12 @@ use Rattle.sponsor_rules.specs.Adding.{map_after_adding}
 use Rattle.sponsor_rules.specs.declared.context.Ctx.{Ctx}
 use Rattle.std.proofs.Common.{refl}
 use Rattle.std.specs.Prelude.{List, Ok, Some, [], false, int_lt, pos, ◌∷◌, ◌≡◌}
-use Rattle.step_logic.proofs.AmountSteps.{lumens_credit_holds, lumens_debit_holds}
-use Rattle.step_logic.proofs.Changes.{account_changed}
-use Rattle.step_logic.proofs.Charges.{adding_account, removing_holds, removing_signer}
-use Rattle.step_logic.proofs.Entries.{Invariant}
-use Rattle.step_logic.proofs.Steps.{AllPass, Answering, Ends, past, past_charge, past_some}
-use Rattle.step_logic.proofs.Walks.{Before, Leaves, Left, Logic, found_holds, left, made_holds, succeeded}
+use Rattle.op_form.proofs.AmountSteps.{lumens_credit_holds, lumens_debit_holds}
+use Rattle.sponsor_rules.proofs.Changes.{account_changed}
+use Rattle.sponsor_rules.proofs.Charges.{adding_account, removing_holds, removing_signer}
+use Rattle.sponsor_rules.proofs.Entries.{Invariant}
+use Rattle.op_form.proofs.Steps.{AllPass, Answering, Ends, past, past_charge, past_some}
+use Rattle.op_form.proofs.Walks.{Before, Leaves, Left, Logic, found_holds, left, made_holds, succeeded}
 use Rattle.ledger_types.specs.declared.key.LedgerKey.TheVariants as key
 use Rattle.op_account.specs.AccountMerge as merging
 use Rattle.op_account.specs.BumpSequence as bumping

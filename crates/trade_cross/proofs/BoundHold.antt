@@ -15,9 +15,9 @@ use Rattle.reserve_rules.specs.Reserve.{greatest_i64}
 use Rattle.std.proofs.Common.{arith, refl, sym, ◌∙◌}
 use Rattle.std.proofs.lemmas.Int.{ints}
 use Rattle.std.specs.Prelude.{None, Option, Some, neg_ℤ, pos, ℕ, ℤ, ◌+ℤ◌, ◌≡◌, ◌≤ℤ◌}
-use Rattle.step_logic.proofs.Changes.{account_changed, line_changed, one_changed}
-use Rattle.step_logic.proofs.Charges.{removing_holds}
-use Rattle.step_logic.proofs.Entries.{Invariant, IsBoundBy}
+use Rattle.sponsor_rules.proofs.Changes.{account_changed, line_changed, one_changed}
+use Rattle.sponsor_rules.proofs.Charges.{removing_holds}
+use Rattle.sponsor_rules.proofs.Entries.{Invariant, IsBoundBy}
 use Rattle.trade_cross.specs.Cancelling.{map_after_cancelling}
 use Rattle.trade_cross.specs.Crossing.{offer_key}
 use Rattle.trade_cross.specs.Holdings.{line_paid, paying}

@@ -22,7 +22,7 @@ use Rattle.ledger_types.specs.declared.trust_line.TrustLineEntry.{TrustLineEntry
 use Rattle.std.proofs.Common.{IfOk, ap, refl, ◌∙◌}
 use Rattle.std.specs.FinMap.{get}
 use Rattle.std.specs.Prelude.{Bool, IfSome, List, None, Option, Result, Some, false, if◌then◌else◌, true, ℕ, ℤ, ◌≡◌}
-use Rattle.step_logic.proofs.Entries.{FitsBody, Invariant}
+use Rattle.sponsor_rules.proofs.Entries.{FitsBody, Invariant}
 use Rattle.ledger_types.specs.declared.entry.LedgerEntryBody.TheVariants as body
 use Rattle.ledger_types.specs.declared.key.LedgerKey.TheVariants as key
 

@@ -4,13 +4,11 @@ use Rattle.entry_slots.specs.EntrySponsor.{sponsor_of}
 use Rattle.entry_slots.specs.Tests.{first_fault, unless_fault}
 use Rattle.ledger_types.proofs.Arithmetic.{natural_nonnegative, unsigned_abs_positive, zero_at_most}
 use Rattle.ledger_types.specs.declared.offer.OfferEntry.{OfferEntry}
-use Rattle.legal_rules.proofs.MayOwe.{one_more_is_right}
 use Rattle.legal_rules.specs.OfferLaws.{trade_aggregates}
 use Rattle.legal_rules.specs.OfferLiabilities.{bound_of}
-use Rattle.legal_rules.specs.OneMore.{IsOwedRightly, one_more}
-use Rattle.legal_rules.specs.Owing.{Owed}
 use Rattle.offer_exchange.specs.Exchange.{adjusted, unlimited}
-use Rattle.op_offers.proofs.Sold.{capped_fits, legal_now, legal_paid, right_then, sells_fit}
+use Rattle.op_offers.proofs.Ready.{crossable, given_within, then_sellable}
+use Rattle.op_offers.proofs.Sold.{capped_fits, legal_now, sells_fit}
 use Rattle.op_offers.specs.Calls.{IsSellable}
 use Rattle.op_offers.specs.Selling.{Asked, Sold, after_tests, by_end, crossed_by, kept, left_of, map_after_keeping}
 use Rattle.op_offers.specs.Selling.{offer_left, settled, sold, source_gives_at, source_takes_at, trade_of}
@@ -19,16 +17,14 @@ use Rattle.op_offers.specs.declared.fault.OfferFault.{OfferFault}
 use Rattle.reserve_rules.specs.Reserve.{greatest_i64}
 use Rattle.std.proofs.Common.{IfOk, refl, subst, suc, zero}
 use Rattle.std.specs.Prelude.{All, None, Option, Result, Some, length, neg_ℤ, pos, unsigned_abs, ℕ, ◌≡◌, ◌≤ℤ◌, ◌≤◌}
-use Rattle.step_logic.proofs.Charges.{discounting}
-use Rattle.step_logic.proofs.Entries.{Invariant}
-use Rattle.trade_cross.proofs.Binding.{given_fits}
-use Rattle.trade_cross.specs.Crossable.{IsCrossable}
+use Rattle.sponsor_rules.proofs.Charges.{discounting}
+use Rattle.sponsor_rules.proofs.Entries.{Invariant}
 use Rattle.trade_cross.specs.Crossing.{Crossing, most_crossings}
 use Rattle.trade_cross.specs.Holdings.{most_given, most_taken, paying}
 use Rattle.trade_cross.specs.declared.crossed.CrossEnd.TheVariants.{BadPrice, Converted, CrossSelf, Partial, TooMany}
 use Rattle.trade_cross.specs.declared.crossed.CrossEnd.{CrossEnd}
-use Rattle.walks.proofs.BoundHold.{MaySell, acquiring_holds, paying_holds}
-use Rattle.walks.proofs.CrossedHold.{AreCrossed, adjusted_few, amount_high, available_may, crossed_holds}
+use Rattle.trade_cross.proofs.BoundHold.{MaySell, acquiring_holds, paying_holds}
+use Rattle.trade_cross.proofs.CrossedHold.{AreCrossed, adjusted_few, amount_high, available_may, crossed_holds}
 use Rattle.ledger_types.specs.declared.entry.LedgerEntryBody.TheVariants as body
 use Rattle.trade_cross.specs.Crossing.{left_of as left_of_trade}
 
@@ -58,12 +54,6 @@ pub record IsAskedFit (g : Invariant) (asked : Asked) : Type 0 where
 module _ (base : ℕ) (asked : Asked) (m : EntryMap) where
   -- what legality says of it
   module _ (s : IsSellable asked m) where
-    abbrev owed_once : Owed
-    owed_once = one_more asked.offer.seller_id (sponsor_of asked.entry)
-
-    owed_right : IsOwedRightly owed_once
-    owed_right = one_more_is_right asked.offer.seller_id (sponsor_of asked.entry)
-
     module _ (j send receive : ℕ) (send_fits : send ≤ most_given base m (source_gives_at asked))
         (receive_fits : receive ≤ most_taken m (source_takes_at asked))
         (is : adjusted (unsigned_abs asked.offer.price.n) (unsigned_abs asked.offer.price.d) send receive ≡ suc j) where
@@ -78,8 +68,7 @@ module _ (base : ℕ) (asked : Asked) (m : EntryMap) where
           (adjusted_few (unsigned_abs asked.offer.price.n) (unsigned_abs asked.offer.price.d) send receive
           (most_given base m (source_gives_at asked)) (unsigned_abs_positive asked.offer.price.n s.right.n)
           (unsigned_abs_positive asked.offer.price.d s.right.d) send_fits
-          (given_fits s.view s.id_pool base owed_once s.sum m s.legal owed_right.covered (source_gives_at asked)
-          s.right.gives)))
+          (given_within asked m s base)))
 
       some_may : MaySell put_map (source_gives_at asked) (pos (bound_of new).wheat)
       some_may =
@@ -144,38 +133,13 @@ module _ (g : Invariant) (base : ℕ) (asked : Asked) (m : EntryMap) (legal : g.
   abbrev paid_map : EntryMap
   paid_map = settled asked c
 
-  crossable : g.Asks → IsCrossable m
-  crossable asks =
-      let s = legal asks in
-      record {
-        view = s.view;
-        id_pool = s.id_pool;
-        owed = one_more asked.offer.seller_id (sponsor_of asked.entry);
-        sum = s.sum;
-        legal = s.legal;
-        right = one_more_is_right asked.offer.seller_id (sponsor_of asked.entry);
-      }
-
-  still_sellable : g.Asks → IsSellable asked paid_map
-  still_sellable asks =
-      let s = legal asks in
-      record {
-        view = s.view;
-        id_pool = s.id_pool;
-        next = s.next;
-        sum = _;
-        legal = legal_paid s.view s.id_pool s.next base s.sum asked m s.legal s.wide s.right;
-        wide = s.wide;
-        right = right_then s.view s.id_pool s.next base s.sum asked m s.legal s.wide s.right;
-      }
-
   its_crossed : AreCrossed g most_crossings c
   its_crossed = crossed_holds g base (trade_of base asked m) most_crossings (left_of_trade (trade_of base asked m)) m
-      crossable holds
+      (λ asks. crossable asked m (legal asks)) holds
 
   its_sold : AreSold g (kept base asked c paid_map)
   its_sold =
-      let left = kept_holds base asked paid_map g still_sellable fits
+      let left = kept_holds base asked paid_map g (λ asks. then_sellable asked m (legal asks) base) fits
       (paying_holds g (source_takes_at asked) (pos c.wheat)
       (paying (source_gives_at asked) (neg_ℤ (pos c.sheep)) c.entries)
       (paying_holds g (source_gives_at asked) (neg_ℤ (pos c.sheep)) c.entries its_crossed.entries)) c in

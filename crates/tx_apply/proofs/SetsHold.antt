@@ -1,37 +1,37 @@
 -- Transactions and sets, step by step, in a map of which an invariant holds.
-use Rattle.bucket_levels.specs.entry_map.EntryMap.{EntryMap}
-use Rattle.close_rules.proofs.ledger_types_proofs.Booleans.{if_either}
-use Rattle.close_rules.specs.entry_slots.Accounts.{account_at}
-use Rattle.close_rules.specs.entry_slots.Tests.{first_fault}
-use Rattle.close_rules.specs.fee_rules.Envelopes.{fee_source_of}
-use Rattle.close_rules.specs.ledger_types.declared.ids.AccountId.{AccountId}
-use Rattle.close_rules.specs.ledger_types.declared.ids.Hash.{Hash}
-use Rattle.close_rules.specs.ledger_types.declared.signer.SignerKey.TheVariants.{PreAuthTx}
-use Rattle.close_rules.specs.legal_rules.Payments.{numbered, paid}
-use Rattle.close_rules.specs.op_form.declared.levels.ThresholdLevel.TheVariants.{Low}
-use Rattle.close_rules.specs.op_types.declared.operation.Operation.{Operation}
-use Rattle.close_rules.specs.op_types.declared.transaction.FeeBumpTransaction.{FeeBumpTransaction}
-use Rattle.close_rules.specs.op_types.declared.transaction.Transaction.{Transaction}
-use Rattle.close_rules.specs.op_types.declared.transaction.TransactionEnvelope.{TransactionEnvelope}
-use Rattle.close_rules.specs.op_types.declared.transaction_result.TransactionOutcome.{TransactionOutcome}
-use Rattle.close_rules.specs.signer_check.declared.held.HeldSignature.{HeldSignature}
-use Rattle.close_rules.specs.sponsor_rules.Signers.{map_after_removing_preauth}
-use Rattle.close_rules.specs.sponsor_rules.declared.context.Ctx.{Ctx}
-use Rattle.close_rules.specs.tx_apply.Fees.{fee_of, fees_taken, map_after_fee}
-use Rattle.close_rules.specs.tx_apply.Running.{Ran, run}
-use Rattle.close_rules.specs.tx_apply.Set.{Setting, all_held, ctx_in, envelope_applied}
-use Rattle.close_rules.specs.tx_apply.Signing.{Auth, are_used, auth_of, source_of}
-use Rattle.close_rules.specs.value_hashes.Hashes.{signed_hash_of, transaction_hash_of}
+use Rattle.entry_map.specs.EntryMap.{EntryMap}
+use Rattle.ledger_types.proofs.Booleans.{if_either}
+use Rattle.entry_slots.specs.Accounts.{account_at}
+use Rattle.entry_slots.specs.Tests.{first_fault}
+use Rattle.fee_rules.specs.Envelopes.{fee_source_of}
+use Rattle.ledger_types.specs.declared.ids.AccountId.{AccountId}
+use Rattle.ledger_types.specs.declared.ids.Hash.{Hash}
+use Rattle.ledger_types.specs.declared.signer.SignerKey.TheVariants.{PreAuthTx}
+use Rattle.legal_rules.specs.Payments.{numbered, paid}
+use Rattle.op_form.specs.declared.levels.ThresholdLevel.TheVariants.{Low}
+use Rattle.op_types.specs.declared.operation.Operation.{Operation}
+use Rattle.op_types.specs.declared.transaction.FeeBumpTransaction.{FeeBumpTransaction}
+use Rattle.op_types.specs.declared.transaction.Transaction.{Transaction}
+use Rattle.op_types.specs.declared.transaction.TransactionEnvelope.{TransactionEnvelope}
+use Rattle.op_types.specs.declared.transaction_result.TransactionOutcome.{TransactionOutcome}
+use Rattle.signer_check.specs.declared.held.HeldSignature.{HeldSignature}
+use Rattle.sponsor_rules.specs.Signers.{map_after_removing_preauth}
+use Rattle.sponsor_rules.specs.declared.context.Ctx.{Ctx}
+use Rattle.tx_apply.specs.Fees.{fee_of, fees_taken, map_after_fee}
+use Rattle.tx_apply.specs.Running.{Ran, run}
+use Rattle.tx_apply.specs.Set.{Setting, all_held, ctx_in, envelope_applied}
+use Rattle.tx_apply.specs.Signing.{Auth, are_used, auth_of, source_of}
+use Rattle.value_hashes.specs.Hashes.{signed_hash_of, transaction_hash_of}
 use Rattle.std.specs.Prelude.{Bool, List, None, Option, Some, [], false, if◌then◌else◌, length, nat_eq, neg_ℤ, not}
 use Rattle.std.specs.Prelude.{true, ℕ, ◌∷◌}
-use Rattle.step_logic.proofs.Changes.{account_changed}
-use Rattle.step_logic.proofs.Charges.{removing_signer}
-use Rattle.step_logic.proofs.Entries.{Invariant}
-use Rattle.close_rules.specs.op_types.declared.transaction.TransactionEnvelope.TheVariants as envelope
-use Rattle.close_rules.specs.op_types.declared.transaction_result.TransactionOutcome.TheVariants as outcome
-use Rattle.close_rules.specs.tx_apply.Checks as checks
-use Rattle.close_rules.specs.tx_apply.FeeBump as bump
-use Rattle.close_rules.specs.tx_apply.Transaction as spec
+use Rattle.sponsor_rules.proofs.Changes.{account_changed}
+use Rattle.sponsor_rules.proofs.Charges.{removing_signer}
+use Rattle.sponsor_rules.proofs.Entries.{Invariant}
+use Rattle.op_types.specs.declared.transaction.TransactionEnvelope.TheVariants as envelope
+use Rattle.op_types.specs.declared.transaction_result.TransactionOutcome.TheVariants as outcome
+use Rattle.tx_apply.specs.Checks as checks
+use Rattle.tx_apply.specs.FeeBump as bump
+use Rattle.tx_apply.specs.Transaction as spec
 
 module _ (v : Invariant) where
   -- ---- signers, sequence numbers and fees

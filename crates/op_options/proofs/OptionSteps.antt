@@ -19,12 +19,12 @@ use Rattle.sponsor_rules.specs.declared.signer_index.FoundSigner.{FoundSigner}
 use Rattle.std.proofs.Common.{refl}
 use Rattle.std.proofs.lemmas.Bool.{not-false}
 use Rattle.std.specs.Prelude.{List, None, Ok, Option, Some, [], false, is_some, nat_eq, not, true, ℕ, ◌∷◌, ◌≡◌}
-use Rattle.step_logic.proofs.Changes.{account_changed, data_changed}
-use Rattle.step_logic.proofs.Charges.{adding_signer, adding_subentry, removing_holds, removing_signer}
-use Rattle.step_logic.proofs.Entries.{Fits}
-use Rattle.step_logic.proofs.Steps.{AllPass, Answering, Ends, done_so, either_ends, past, past_charge, past_part}
-use Rattle.step_logic.proofs.Steps.{past_some}
-use Rattle.step_logic.proofs.Walks.{Before, Leaves, Left, Logic, left, made_holds, succeeded}
+use Rattle.sponsor_rules.proofs.Changes.{account_changed, data_changed}
+use Rattle.sponsor_rules.proofs.Charges.{adding_signer, adding_subentry, removing_holds, removing_signer}
+use Rattle.sponsor_rules.proofs.Entries.{Fits}
+use Rattle.op_form.proofs.Steps.{AllPass, Answering, Ends, done_so, either_ends, past, past_charge, past_part}
+use Rattle.op_form.proofs.Steps.{past_some}
+use Rattle.op_form.proofs.Walks.{Before, Leaves, Left, Logic, left, made_holds, succeeded}
 use Rattle.ledger_types.specs.declared.key.LedgerKey.TheVariants as key
 use Rattle.op_options.specs.ManageData as managing
 use Rattle.op_options.specs.OptionSigner as signers

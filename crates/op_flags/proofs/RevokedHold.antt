@@ -38,15 +38,15 @@ use Rattle.std.specs.FinMap.{get}
 use Rattle.std.specs.List.{filter}
 use Rattle.std.specs.Prelude.{Bool, List, None, Ok, Option, Some, [], false, is_some, neg_ℤ, pos, true, unsigned_abs}
 use Rattle.std.specs.Prelude.{ℕ, ℤ, ◌∷◌, ◌≡◌, ◌≤ℤ◌, ◌≤◌}
-use Rattle.step_logic.proofs.Charges.{adding_balance, payer_named}
-use Rattle.step_logic.proofs.Entries.{Fits, FitsBody, Invariant}
-use Rattle.step_logic.proofs.Steps.{Ends, either_ends, past, past_charge, past_part}
-use Rattle.step_logic.proofs.Walks.{Logic, made_holds}
+use Rattle.sponsor_rules.proofs.Charges.{adding_balance, payer_named}
+use Rattle.sponsor_rules.proofs.Entries.{Fits, FitsBody, Invariant}
+use Rattle.op_form.proofs.Steps.{Ends, either_ends, past, past_charge, past_part}
+use Rattle.op_form.proofs.Walks.{Logic, made_holds}
 use Rattle.trade_cross.specs.Cancelling.{map_after_cancelling}
-use Rattle.walks.proofs.BoundHold.{cancelling_holds}
-use Rattle.walks.proofs.SharesBeside.{KeepsPools, charging_keeps, keeps_itself, keeps_twice, putting_keeps}
-use Rattle.walks.proofs.SharesGiven.{CanRevoke, IsWithdrawable, left_can, still_can}
-use Rattle.walks.proofs.SharesHold.{may_give, share_line_removed, shares_hold}
+use Rattle.trade_cross.proofs.BoundHold.{cancelling_holds}
+use Rattle.op_flags.proofs.SharesBeside.{KeepsPools, charging_keeps, keeps_itself, keeps_twice, putting_keeps}
+use Rattle.op_flags.proofs.SharesGiven.{CanRevoke, IsWithdrawable, left_can, still_can}
+use Rattle.pool_shares.proofs.SharesHold.{may_give, share_line_removed, shares_hold}
 use Rattle.ledger_types.specs.declared.asset.TrustLineAsset.TheVariants as line
 use Rattle.ledger_types.specs.declared.key.LedgerKey.TheVariants as key
 use Rattle.op_flags.specs.LineFlags as flagging

@@ -1,6 +1,0 @@
-pub mod Entries
-pub mod Changes
-pub mod Charges
-pub mod Steps
-pub mod Walks
-pub mod AmountSteps

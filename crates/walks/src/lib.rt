@@ -1,2 +1,0 @@
-//! Walks of operations.
-#![tactic(auto)]

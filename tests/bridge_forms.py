@@ -426,7 +426,7 @@ def try_vouched_in_format_1(tally: Tally, folder: str) -> None:
     vouched = (xdr.VOUCHED_FORM).to_bytes(4, "big") + record + bytes(4)
     length, at = len(record), files["journal0"].rindex(record)
     changed = files["journal0"][:at - 4] + len(vouched).to_bytes(4, "big") + vouched + files["journal0"][at + length:]
-    lay_out(folder, {**files, "journal0": changed})
+    lay_out(folder, {**files, "image0": bridge.store_model.in_format_1(files["image0"]), "journal0": changed})
     answer = bridge.run("show", "store", f"{folder}/ledger-store")
     is_so = bridge.is_refused(answer) and f"journal0: offset {at - 5}: BadStore, a record of form 2" in answer.err
     tally.check("a record of form 2 in a store of format 1 is found at its gate", is_so, answer)

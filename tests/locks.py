@@ -95,6 +95,20 @@ def made_meanwhile(program: Program, story: Story, tally: Tally) -> None:
     tally.check("a making beside another writes nothing", ran.store == {"image0": b"\0"}, sorted(ran.store))
 
 
+def made_between_looks(program: Program, story: Story, tally: Tally) -> None:
+    """A store that another process makes between two looks is left to it: what was seen before is out of date."""
+    for words, given in ((INIT, story.image), (RUN, story.records[0]), (SHOW, b"")):
+        # made before the first look, it is a volume with a byte and no image
+        allowed = (DISK_FAULT,) if words == INIT else (DISK_FAULT, MISSING)
+        for look in range(2, 99):
+            ran = program.run(words, given, OTHER_LOOK=look)
+            if ran.store != {"image0": b"\0"}:
+                break
+            tally.check("a command beside another maker is refused, or finds no store", (ran.status, ran.err) in allowed, (words, look, ran.status))
+        was_alone = ran.status == 0 and len(ran.store) == 2 if words == INIT else (ran.status, ran.store) == (11, {})
+        tally.check("a store is made at each look but those after the last", was_alone and 3 < look < 98, (words, look, ran.status))
+
+
 def nothing_made(program: Program, story: Story, tally: Tally) -> None:
     """A command that finds no store makes none."""
     with folder_of({}) as folder:
@@ -103,7 +117,7 @@ def nothing_made(program: Program, story: Story, tally: Tally) -> None:
             tally.check("a command that finds no store makes none", (ran.returncode, ran.stderr) == MISSING and not os.listdir(folder), words)
 
 
-PARTS = (beside_a_run, killed, beside_locks, made_meanwhile, nothing_made)
+PARTS = (beside_a_run, killed, beside_locks, made_meanwhile, made_between_looks, nothing_made)
 
 
 def check(program: Program, part) -> Tally:

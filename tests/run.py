@@ -40,6 +40,7 @@ import crate_list
 import generated
 import locks
 import stops
+import store_bytes
 import words
 from harness import TESTS, Program, Tally
 
@@ -88,7 +89,7 @@ def built(name: str, words: List[str]) -> str:
 
 def jobs_of(program: Program) -> List[Job]:
     """What is to be tried of a program, longest first."""
-    modules = (beside, stops, locks, adopting, words)
+    modules = (beside, stops, store_bytes, locks, adopting, words)
     parts = [(module.check, (program, part)) for module in modules for part in module.PARTS]
     parts += [(bridge_made.check_program, (program, part)) for part in bridge_made.PARTS]
     return parts + [(cases.check, (program, name)) for name in cases.names()]

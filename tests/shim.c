@@ -17,6 +17,7 @@
  *                  its offset
  *   OTHER_MAKER=1  another process makes the directory `ledger-store`, and a file in it, just before the program would
  *                  make it
+ *   OTHER_LOOK=N   another process makes them just before the program's N-th look at a path of the store
  *   REFUSED=N      the N-th call for memory is refused; with WORKERS_ALONE=1 calls of the first thread don't count
  *   COUNTED=PATH   the number of calls for memory is written to this file as the program ends
  */
@@ -34,6 +35,7 @@
 #include <sys/stat.h>
 #include <sys/syscall.h>
 #include <time.h>
+#include <sys/uio.h>
 #include <unistd.h>
 
 enum { DESCRIPTORS = 1024, FILES = 4, OTHER = FILES + 1 };
@@ -85,19 +87,18 @@ static int fails(void) {
 
 static void note(char kind, int file, uint64_t offset, const void *bytes, uint64_t count) {
     static int notes = -1;
-    static ssize_t (*real_write)(int, const void *, size_t);
     if (notes == -1) {
         const char *path = getenv("NOTES");
         int (*real_open)(const char *, int, ...) = dlsym(RTLD_NEXT, "open");
-        real_write = dlsym(RTLD_NEXT, "write");
         notes = path ? real_open(path, O_WRONLY | O_CREAT | O_APPEND, 0600) : -2;
     }
     if (notes < 0) return;
     char head[18] = {kind, (char)file};
     memcpy(head + 2, &offset, 8);
     memcpy(head + 10, &count, 8);
-    if (real_write(notes, head, 18) != 18) abort();
-    if (bytes && count && real_write(notes, bytes, count) != (ssize_t)count) abort();
+    /* in one call, since several threads write notes */
+    struct iovec parts[2] = {{head, 18}, {(void *)bytes, bytes ? count : 0}};
+    if (writev(notes, parts, 2) != (ssize_t)(18 + parts[1].iov_len)) abort();
 }
 
 int open(const char *path, int flags, ...) {
@@ -113,10 +114,21 @@ int open(const char *path, int flags, ...) {
     return descriptor;
 }
 
+/* What another process does that makes a store: the directory, and a file with one byte. */
+static void make_another(void) {
+    int (*real_mkdir)(const char *, mode_t) = dlsym(RTLD_NEXT, "mkdir");
+    int (*real_open)(const char *, int, ...) = dlsym(RTLD_NEXT, "open");
+    real_mkdir("ledger-store", 0700);
+    int descriptor = real_open("ledger-store/image0", O_WRONLY | O_CREAT, 0600);
+    if (descriptor < 0 || ftruncate(descriptor, 1)) abort();
+}
+
 int statx(int at, const char *restrict path, int flags, unsigned mask, struct statx *restrict found) {
     static int (*real)(int, const char *, int, unsigned, struct statx *);
+    static long looks;
     if (!real) real = dlsym(RTLD_NEXT, "statx");
     if (file_of(path) && fails()) return -1;
+    if (file_of(path) && ++looks == setting("OTHER_LOOK")) make_another();
     return real(at, path, flags, mask, found);
 }
 
@@ -240,17 +252,9 @@ int flock(int descriptor, int how) {
 
 int mkdir(const char *path, mode_t mode) {
     static int (*real)(const char *, mode_t);
-    static int (*real_open)(const char *, int, ...);
-    if (!real) {
-        real = dlsym(RTLD_NEXT, "mkdir");
-        real_open = dlsym(RTLD_NEXT, "open");
-    }
+    if (!real) real = dlsym(RTLD_NEXT, "mkdir");
     if (file_of(path) && fails()) return -1;
-    if (file_of(path) && setting("OTHER_MAKER") > 0) {
-        real(path, mode);
-        int descriptor = real_open("ledger-store/image0", O_WRONLY | O_CREAT, 0600);
-        if (descriptor < 0 || ftruncate(descriptor, 1)) abort();
-    }
+    if (file_of(path) && setting("OTHER_MAKER") > 0) make_another();
     return real(path, mode);
 }
 

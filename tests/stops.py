@@ -5,6 +5,8 @@ ledger 63. It is stopped at each of its calls on the files of the store, and eac
 worked out from what was written, cut and synced: each byte that is pending is 0, 1, which opens a gate, or 7. After it the records
 that follow are run, up to ledger 66, and must give the text of a run that was never stopped.
 
+A run over a store of format 1, which it brings over first, is stopped likewise.
+
 Then each read of an input and each write of an output fails, for `init`, `run` and `catchup`. The records, and what is printed for
 them, are in `stories/stopped`; `models/stopped_story.py` writes them.
 """
@@ -49,9 +51,10 @@ class Story:
         """What a run prints that closes these ledgers."""
         return b"".join(self.lines[first:last]) + self.ends[last]
 
-    def printed(self, out: bytes) -> Optional[int]:
-        """How many complete closes a text has, with its end or without; None where it is none of the run's."""
-        return next((count for count in range(ALL + 1) if out in (b"".join(self.lines[:count]), self.text(0, count))), None)
+    def printed(self, out: bytes, kept: int = 0) -> Optional[int]:
+        """Up to which close a text goes that begins after some, with its end or without; None where it is none of the run's."""
+        counts = range(kept, ALL + 1)
+        return next((count for count in counts if out in (b"".join(self.lines[kept:count]), self.text(kept, count))), None)
 
     def opens_at(self, store: Store) -> Optional[int]:
         """After how many closes a store opens, or None where it doesn't."""
@@ -81,6 +84,12 @@ def image_file(gate: int, epoch: int, image: bytes) -> bytes:
     return bytes([gate]) + epoch.to_bytes(8, "big") + bytes(32) + len(image).to_bytes(8, "big") + image
 
 
+def in_format_1(store: Store) -> Store:
+    """A store whose image is in format 1, as an older program left it: without its hash, and without the top bit of its epoch's word."""
+    file = store["image0"]
+    return {**store, "image0": file[:1] + bytes([file[1] & 0x7F]) + file[2:49] + file[81:]}
+
+
 def check_runs(story: Story, tally: Tally) -> None:
     """Stops the run at each call on its store, and fails each call alone."""
     for fault, what in (("FAIL_FROM", "a run that is stopped"), ("FAIL_AT", "a run of which a call fails")):
@@ -94,11 +103,33 @@ def check_runs_over(story: Story, tally: Tally) -> None:
         check_stops(story, tally, begun, "FAIL_FROM", "a run over other files that is stopped")
 
 
-def check_stops(story: Story, tally: Tally, begun: Store, fault: str, what: str) -> None:
-    """Stops a run at each of its calls on the store."""
+def check_migrations(story: Story, tally: Tally) -> None:
+    """The same of a run that first brings a store of format 1 over, without records and with one; a file of long ago stands where the next
+    epoch's goes."""
+    old = in_format_1(story.store)
+    record = story.records[0][4:]
+    kept = {**old, "journal0": b"\1" + len(record).to_bytes(4, "big") + record + b"\0"}
+    for fault, what in (("FAIL_FROM", "a run that migrates and is stopped"), ("FAIL_AT", "a run that migrates and of which a call fails")):
+        check_stops(story, tally, old, fault, what)
+        check_stops(story, tally, {**old, "image1": image_file(7, 1, story.image * 3), "journal1": b"\1\0\0\0\2ab" * 40}, fault, what)
+        check_stops(story, tally, kept, fault, what, 1)
+
+
+def check_old_shows(story: Story, tally: Tally) -> None:
+    """`show` leaves a store of format 1 as it is, and so does a run that finds it broken."""
+    old = in_format_1(story.store)
+    ran = story.program.run(["show"], b"", old)
+    tally.check("a store of format 1 that is shown stays as it was", ended(ran) == DONE and ran.store == old, ended(ran))
+    broken = {**old, "journal0": b"\1"}
+    ran = story.program.run(RUN, story.given(0, CLOSES), broken)
+    tally.check("a broken store of format 1 stays as it was", ran.status == 7 and ran.store == broken, ended(ran))
+
+
+def check_stops(story: Story, tally: Tally, begun: Store, fault: str, what: str, kept: int = 0) -> None:
+    """Stops a run at each of its calls on the store, which begins with so many records kept."""
     for call in range(1, ENOUGH):
-        ran = story.program.run(RUN, story.given(0, CLOSES), begun, **{fault: call})
-        count, done = story.printed(ran.out), ended(ran) == DONE
+        ran = story.program.run(RUN, story.given(kept, CLOSES), begun, **{fault: call})
+        count, done = story.printed(ran.out, kept), ended(ran) == DONE
         tally.check(f"{what} ends with a disk fault, or is done", done or ended(ran) == DISK_FAULT, ended(ran))
         tally.check(f"{what} prints complete closes", count is not None, ran.out)
         for fill in FILLS:
@@ -207,7 +238,7 @@ def check_ends(story: Story, tally: Tally) -> None:
         tally.check("an end that standard error doesn't take is a write fault", holds, (words, ran.status, ran.err))
 
 
-PARTS = (check_runs, check_runs_over, check_makings, check_openings, check_reads, check_writes, check_ends)
+PARTS = (check_runs, check_runs_over, check_migrations, check_old_shows, check_makings, check_openings, check_reads, check_writes, check_ends)
 
 
 def check(program: Program, part) -> Tally:

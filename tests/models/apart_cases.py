@@ -1,5 +1,6 @@
 #!/usr/bin/env python3
-"""Makes cases of runs that come from elsewhere: from a program that shares nothing with this one.
+"""Makes cases of runs that come from elsewhere: from a program that shares nothing with this one. Cases of `init` and `run` that came
+before stores had format 2 have their images written in it: their bytes stay, with their hash.
 
     apart_cases.py FOLDER NAME      writes cases/apart-NAME.case, and names it as the last of those that came from elsewhere
 

@@ -38,11 +38,12 @@ def sponsored(value, name):
     return model.with_sponsor(value, key(name))
 
 
-def with_counts(value, sponsored=0, sponsoring=0, sponsors=None):
-    """An account's entry with these counts, and sponsors of its signers."""
+def with_counts(value, sponsored=0, sponsoring=0, sponsors=None, third=None):
+    """An account's entry with these counts, sponsors of its signers, and, as `third`, a ledger and a time of its sequence number."""
     account = value["body"][1]
     rows = [None] * len(account["signers"]) if sponsors is None else [name and (0, key(name)) for name in sponsors]
-    said = {"sponsored": sponsored, "sponsoring": sponsoring, "sponsors": rows, "ext": (0, None)}
+    ext = (0, None) if third is None else (3, {"ext": (0, None), "ledger": third[0], "time": third[1]})
+    said = {"sponsored": sponsored, "sponsoring": sponsoring, "sponsors": rows, "ext": ext}
     return {**value, "body": (0, model.with_second(account, said))}
 
 

@@ -626,12 +626,32 @@ def is_in_range(entry, ids):
     if kind == 3:
         return bool(body["name"]) and is_text(body["name"])
     keys, flags, owed, said = [signer["key"] for signer in body["signers"]], body["flags"], liabilities(body), second(body)
+    ranks = [rank_of_signer(signer) for signer in body["signers"]]
     return (
         min(body["balance"], body["seq"], owed["buying"], owed["selling"]) >= 0 and flags <= 15 and not (flags & 8 and not flags & 2)
-        and all(a < b for a, b in zip(keys, keys[1:])) and all(1 <= signer["weight"] <= 255 for signer in body["signers"])
+        and all(a < b for a, b in zip(ranks, ranks[1:])) and all(1 <= signer["weight"] <= 255 for signer in body["signers"])
         and (0, body["id"][1]) not in keys and is_text(body["domain"]) and body["balance"] + owed["buying"] <= GREATEST
         and len(said["sponsors"]) == len(keys) and body["id"] not in said["sponsors"]
     )
+
+
+def rank_of_signer(signer):
+    """What signers are ordered by: the kind of their key, its bytes, and a payload's."""
+    arm, held = signer["key"]
+    return (arm, held["key"], held["payload"]) if arm == 3 else (arm, held)
+
+
+def is_dated(entry, header):
+    """Whether an account has what protocol 19 brought under that version alone, no payload is empty, and what it records of its sequence
+    number isn't later than the header."""
+    kind, body = entry["body"]
+    if kind != 0:
+        return True
+    payloads = [signer["key"][1]["payload"] for signer in body["signers"] if signer["key"][0] == 3]
+    arm, third = second(body)["ext"]
+    if header["version"] < 19:
+        return not arm and not payloads
+    return all(payloads) and (not arm or third["ledger"] <= header["seq"] and third["time"] <= header["value"]["time"])
 
 
 class Counts:
@@ -715,7 +735,8 @@ def judge_entries(header, entries):
     bodies = {kind: [entry["body"][1] for entry in entries.values() if entry["body"][0] == kind] for kind in range(6)}
     accounts = {account["id"][1]: account for account in bodies[0]}
     lines = [entries[rank]["body"][1] for offer in bodies[2] for rank in offers.holders(offer) if rank in entries and rank[0] == 1]
-    if not all(is_in_range(entry, header["ids"]) for entry in entries.values()) or not all(line["flags"] & 3 for line in lines):
+    fits = all(is_in_range(entry, header["ids"]) and is_dated(entry, header) for entry in entries.values())
+    if not fits or not all(line["flags"] & 3 for line in lines):
         raise BadImage("rule 7")
     counts = Counts(accounts)
     for entry in entries.values():

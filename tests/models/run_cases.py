@@ -128,6 +128,7 @@ def entry_rules():
     rising = sorted([sets.hash_x(b"one"), sets.hash_x(b"two")], key=lambda signer: signer[1])
     signers = [{"key": (arm, digest), "weight": weight} for arm, digest, weight in rising]
     own = {"key": (0, key("a")), "weight": 1}
+    payloads = [[{"key": (3, {"key": key("b"), "payload": payload}), "weight": 1}] for payload in (b"x", b"y" * 64, b"")]
     for name, value in [
         ("a balance below 0", entry(Account("a", -1))), ("a sequence number below 0", entry(Account("a", 0, seq=-1))),
         ("flag 16", entry(Account("a", 0, flags=16))), ("clawback alone", entry(Account("a", 0, flags=8))),
@@ -142,6 +143,12 @@ def entry_rules():
         ("more bought than fits", with_liabilities(entry(Account("a", GREATEST)), buying=1)),
         ("too few sponsors of signers", with_counts(A, sponsors=[])), ("an account that pays for itself", sponsored(A, "a")),
         ("a signer that its account pays for", with_counts(A, sponsors="a")),
+        # before protocol 19 no signer is a signed payload, and no account says when its sequence number was set
+        ("a signed payload as a signer", entry(Account("a", 0), signers=payloads[0], subs=1)),
+        ("a payload of 64 bytes", entry(Account("a", 0), signers=payloads[1], subs=1)),
+        ("an empty payload", entry(Account("a", 0), signers=payloads[2], subs=1)),
+        ("the ledger and the time of its sequence number", with_counts(A, third=(5, 1))),
+        ("no ledger and no time of its sequence number", with_counts(A, third=(0, 0))),
     ]:
         case(f"an account: {name}", image([value]), "10 bad image rule 7")
     case("data without a name", image([A_WITH_D, entry(Data("a", b"", b""))]), "10 bad image rule 7")

@@ -1,16 +1,34 @@
 """The cases of stores, which `run_cases.py` writes: what `init` makes of an image, what `run` opens, and what it leaves. Each says by hand
-how it ends, and to which epoch and how many records the files open after it.
+how it ends, and to which epoch and how many records the files open after it. The parts in FORMAT_1 are of stores of format 1 too.
 """
 
 from ledger_model import Text, catchup, cut_image, marked, sha, take_mark, u32, u64
 import set_cases as sets
 from case_tools import A, CASES, LUMEN, NETWORK, A_WITH_D, B, C, D, Story, image, sent, test_end
-from store_model import FILES, MOST, Store, image_file, init, journal_file, records_of, run, show
+from store_model import FILES, HEADS, LAST_EPOCH, MOST, TOP, Store, init, journal_file, records_of, run, show
+from store_model import image_file as file_of_image
 
 ON_TEST = sha(NETWORK.encode())
 MAKE = ["init", "--network", NETWORK]
 
+# the format of the stores that cases are of
+form = 2
+
 # ---- files, and cases over them
+
+
+def head():
+    """How many bytes come before an image."""
+    return HEADS[form]
+
+
+def image_file(epoch, network, data, gate=1):
+    return file_of_image(epoch, network, data, gate, form)
+
+
+def with_hash(file):
+    """A file of format 2 with the hash of its image."""
+    return file[:49] + sha(file[81:]) + file[81:]
 
 
 def files(**given):
@@ -68,6 +86,11 @@ def runs(name, data, before, end, left=None, closes=None):
     """A case of `run`, with its end by hand."""
     yielded, after = run(data, before)
     test_end(name, yielded, end, closes)
+    if form == 1:
+        # where it opens, it goes on to the next epoch, which is of format 2, before it reads its input
+        name = f"format 1: {name}"
+        if left is None and yielded[2] not in (7, 11):
+            left = (opened(before)[0] + 1, closes)
     return over(f"run: {name}", ["run"], data, before, (yielded, after), left)
 
 
@@ -76,6 +99,7 @@ def shows(name, before, end):
     yielded = show(before)
     lines = [line.split(" ", 1)[1] for line in yielded[0].splitlines()[1:]]
     assert end == (f"{yielded[2]} {yielded[1].strip()}" if yielded[1] else lines), (name, yielded)
+    name = name if form == 2 else f"format 1: {name}"
     over(f"show: {name}", ["show"], b"not read", before, (yielded, before), None)
 
 
@@ -125,7 +149,7 @@ def quiet(first, last):
 def making():
     """What `init` makes, and of what it makes nothing."""
     made = makes("an image", LEGAL, files(), "", (0, 0))
-    assert made == files(image0=b"\1" + bytes(8) + ON_TEST + u64(len(LEGAL)) + LEGAL, journal0=b"\0")
+    assert made == files(image0=b"\1\x80" + bytes(7) + ON_TEST + u64(len(LEGAL)) + sha(LEGAL) + LEGAL, journal0=b"\0")
     makes("twice", LEGAL, made, "12 already there")
     makes("another image, where a store is", OLD, made, "12 already there")
     makes("an empty ledger", image(), files(), "", (0, 0))
@@ -164,6 +188,8 @@ def making_over():
     makes("where the other image is open", LEGAL, files(image1=image_file(1, ON_TEST, OLD)), "12 already there")
     makes("where a head is open", LEGAL, files(image0=head), "12 already there")
     makes("where the head of the other file is open", LEGAL, files(image1=head), "12 already there")
+    makes("where a head of format 2 is open", LEGAL, files(image0=made[:49]), "12 already there")
+    makes("where an image of format 1 is open", LEGAL, files(image0=file_of_image(0, ON_TEST, OLD, form=1)), "12 already there")
     makes("where an image of another length is open", LEGAL, files(image0=made[:-1]), "12 already there")
     makes("with a passphrase that begins with a hyphen", LEGAL, files(), "", (0, 0), "-a", joined=True)
     makes("with a passphrase of an option's form", LEGAL, files(), "", (0, 0), "--network=a", joined=True)
@@ -308,7 +334,7 @@ def rolls_over():
     """What is in the files of the epoch to which a store goes on."""
     story = quiet(62, 64)
     old = dict(journal1=b"\1junk")
-    shut = [("a shut image", 0, 9), ("an image after a gate of 7", 7, 2**63 + 1), ("an image after a gate of 255", 255, 1)]
+    shut = [("a shut image", 0, 9), ("an image after a gate of 7", 7, LAST_EPOCH), ("an image after a gate of 255", 255, 1)]
     for name, gate, epoch in shut:
         before = files(**kept(story, epoch=10), image1=image_file(epoch, ON_TEST, OLD, gate), **old)
         runs(f"over {name}", input_of(story), before, "end 64", (11, 1), 2)
@@ -317,15 +343,15 @@ def rolls_over():
     longer = image_file(9, ON_TEST, LEGAL)
     for name, file in [("one byte of 1", b"\1"), ("48 bytes of 1", b"\1" * 48), ("an open image that is longer", longer)]:
         after = runs(f"over {name}", input_of(story), files(**kept(story, epoch=10), image1=file), "end 64", (11, 1), 2)
-        assert after[1][:9] == b"\1" + u64(11)
+        assert after[1][:9] == b"\1" + u64(TOP + 11)
     after = runs("from the other file", input_of(story), files(**kept(story, epoch=7)), "end 64", (8, 1), 2)
-    assert after[0][:9] == b"\1" + u64(8)
+    assert after[0][:9] == b"\1" + u64(TOP + 8)
 
 
 def last_epochs():
-    """The last epochs: a store stays in epoch 2^63 - 1, and in any above it."""
+    """The last epochs: a store stays in epoch 2^63 - 1."""
     story = quiet(62, 64)
-    for epoch, left in [(2**63 - 2, (2**63 - 1, 1)), (2**63 - 1, (2**63 - 1, 2)), (2**63, (2**63, 2)), (2**64 - 1, (2**64 - 1, 2))]:
+    for epoch, left in [(2**63 - 3, (2**63 - 2, 1)), (2**63 - 2, (2**63 - 1, 1)), (2**63 - 1, (2**63 - 1, 2))]:
         runs(f"at ledger 63 of epoch {epoch}", input_of(story), files(**kept(story, epoch=epoch)), "end 64", left, 2)
 
 
@@ -338,7 +364,7 @@ def openings():
     both = lambda even, odd: files(**kept(even[1], 1, even[0]), **kept(odd[1], 1, odd[0]))  # noqa: E731
     runs("the image with the greater epoch, in the first file", b"", both((4, new), (3, old)), "end 9", closes=0)
     runs("the image with the greater epoch, in the second file", b"", both((4, old), (5, new)), "end 9", closes=0)
-    runs("epochs that are far apart", b"", both((2**63, new), (2**63 - 1, old)), "end 9", closes=0)
+    runs("epochs that are far apart", b"", both((2**63 - 2, new), (1, old)), "end 9", closes=0)
     runs("an open image beside one byte of 1", b"", files(**kept(new), image1=b"\1"), "end 8", closes=0)
     runs("an open image beside 48 bytes of 1", b"", files(**kept(new), image1=b"\1" * 48), "end 8", closes=0)
     for gate in (0, 2, 7, 255):
@@ -346,7 +372,7 @@ def openings():
         name = f"an open image beside one of a greater epoch and a gate of {gate}"
         runs(name, b"", files(**kept(new, 1, 4), image1=shut), "end 9", closes=0)
     runs("a journal of the other epoch that is none", b"", files(**kept(new, 1, 4), journal1=b"\1"), "end 9", closes=0)
-    # an image that doesn't count is judged by its epoch and its length alone
+    # an image that doesn't count is judged by its head alone
     others = [("of another kind", b"none"), ("of no byte", b""), ("of a ledger that can't be", BROKEN), ("and a byte", OLD + b"\0")]
     for name, other in others:
         runs(f"beside an older image {name}", b"", files(**kept(new, 1, 4), image1=image_file(3, ON_TEST, other)), "end 9", closes=0)
@@ -368,20 +394,20 @@ def bad_heads():
     story = quiet(5, 6)
     good, journal = kept(story), b"\0"
     start, other = start_of(story), image_file(3, ON_TEST, start_of(story))
-    head = b"\1" * 49
+    ones = b"\1" * 49
 
     def bad(name, at, **given):
         runs(f"bad store: {name}", input_of(story), files(**{**good, **given}), f"7 bad store at {at}")
 
     bad("an odd epoch in the first file", "0 1", image0=image_file(1, ON_TEST, start))
     bad("an even epoch in the second file", "1 1", image0=b"", image1=image_file(2, ON_TEST, start), journal1=journal)
-    bad("the greatest epoch in the first file", "0 1", image0=image_file(2**64 - 1, ON_TEST, start))
+    bad("the greatest epoch in the first file", "0 1", image0=image_file(LAST_EPOCH, ON_TEST, start))
     bad("a length that is one too small", "0 41", image0=good["image0"] + b"\0")
     bad("a length that is one too great", "0 41", image0=good["image0"][:-1])
-    bad("a length of 2^64 - 1", "0 41", image0=b"\1" + bytes(8) + ON_TEST + b"\xff" * 8 + start)
+    bad("a length of 2^64 - 1", "0 41", image0=good["image0"][:41] + b"\xff" * 8 + good["image0"][49:])
     bad("another length in the second file", "1 41", image0=b"", image1=other + b"\0", journal1=journal)
-    bad("49 bytes of 1", "0 1", image0=head)
-    bad("49 bytes of 1 in the second file", "1 41", image1=head)
+    bad("49 bytes of 1", "0 1", image0=ones)
+    bad("49 bytes of 1 in the second file", "1 41", image1=ones)
     bad("an odd epoch and another length", "0 1", image0=image_file(1, ON_TEST, start) + b"\0")
     # the other image too, and file by file
     bad("an even epoch in the other file", "1 1", image1=image_file(0, ON_TEST, OLD))
@@ -393,7 +419,7 @@ def bad_heads():
 
 def bad_images():
     """Images that are none, or that of no legal ledger."""
-    def bad(name, data, end="7 bad store at 0 49", journal=b"\0", epoch=0):
+    def bad(name, data, end=f"7 bad store at 0 {head()}", journal=b"\0", epoch=0):
         made = {f"image{epoch % 2}": image_file(epoch, ON_TEST, data), f"journal{epoch % 2}": journal}
         runs(f"bad store: {name}", b"", files(**made), end)
 
@@ -404,7 +430,7 @@ def bad_images():
     bad("a record after the image", Story(LEGAL).close().data)
     bad("an image without its last byte, and no journal", LEGAL[:-1], journal=b"")
     bad("a lumen too many", BROKEN)
-    bad("a lumen too many in the second file", BROKEN, "7 bad store at 1 49", epoch=1)
+    bad("a lumen too many in the second file", BROKEN, f"7 bad store at 1 {head()}", epoch=1)
     bad("another version", image([A], version=17))
     bad("a header of no byte", b"SLI1" + u32(0x80000000) + bytes(8 * 22))
     bad("levels of another hash", image([A], levels=bytes(32)))
@@ -462,37 +488,114 @@ def two_images():
 
 
 def precedence():
-    """Which fault of two comes first: file by file, and in each the epoch before the length; all of that before the image. Files that are
-    shut, images that don't count, and their journals aren't judged."""
+    """Which fault of two comes first: file by file, and in each the epoch before the length, and that before the hash in format 2; all of
+    that before the image. Files that are shut, images that don't count, and their journals aren't judged."""
     volume = two_images()
     first, second = "end 10", "end 6"
     size = [len(file) for file in volume]
+    by_format = [
+        ("the first image and the second epoch", [(0, 49, b"\0"), (1, 8, b"\0")], "1 1", "0 49"),
+        ("the first image and the second length", [(0, 49, b"\0"), (1, 41, b"\1")], "1 41", "0 49"),
+        ("the second image twice", [(1, 49, b"\0"), (1, 50, b"\0")], first, "1 49"),
+    ]
     for name, changes, end in [
         ("nothing", [], first), ("the first epoch 3", [(0, 8, b"\3")], "0 1"), ("the first epoch 1", [(0, 8, b"\1")], "0 1"),
         ("the second epoch 0", [(1, 8, b"\0")], "1 1"), ("the second epoch 4", [(1, 8, b"\4")], "1 1"),
         ("the first epoch 4", [(0, 8, b"\4")], first), ("the second epoch 3", [(1, 8, b"\3")], second),
-        ("a greater length", [(0, 48, bytes([size[0] - 49 + 1 & 255]))], "0 41"), ("a smaller length", [(0, 48, bytes([size[0] - 49 - 1 & 255]))], "0 41"),
+        ("a greater length", [(0, 48, bytes([size[0] - head() + 1 & 255]))], "0 41"),
+        ("a smaller length", [(0, 48, bytes([size[0] - head() - 1 & 255]))], "0 41"),
         ("the highest byte of a length", [(0, 41, b"\1")], "0 41"), ("the greatest length", [(0, 41, b"\xff" * 8)], "0 41"),
         ("a byte more", [(0, size[0], b"\0")], "0 41"), ("a byte more in the second", [(1, size[1], b"\0")], "1 41"),
-        ("a greater length of the second", [(1, 48, bytes([size[1] - 49 + 1 & 255]))], "1 41"),
+        ("a greater length of the second", [(1, 48, bytes([size[1] - head() + 1 & 255]))], "1 41"),
         ("the first epoch and length", [(0, 8, b"\3"), (0, 41, b"\1")], "0 1"),
         ("the second epoch and length", [(1, 8, b"\0"), (1, 41, b"\1")], "1 1"),
         ("both epochs", [(0, 8, b"\3"), (1, 8, b"\0")], "0 1"),
         ("the first length and the second epoch", [(0, 41, b"\1"), (1, 8, b"\0")], "0 41"),
         ("both lengths", [(0, 41, b"\1"), (1, 41, b"\1")], "0 41"),
-        ("the first image and the second epoch", [(0, 49, b"\0"), (1, 8, b"\0")], "1 1"),
-        ("the first image and the second length", [(0, 49, b"\0"), (1, 41, b"\1")], "1 41"),
         ("both images", [(0, 49, b"\0"), (1, 49, b"\0")], "0 49"),
         ("the first shut and its epoch", [(0, 0, b"\0"), (0, 8, b"\3")], second),
         ("the first shut and its length", [(0, 0, b"\7"), (0, 41, b"\1")], second),
         ("the first shut and the second epoch", [(0, 0, b"\0"), (1, 8, b"\0")], "1 1"),
         ("the second shut and its length", [(1, 0, b"\0"), (1, 41, b"\1")], first),
-        ("the second image twice", [(1, 49, b"\0"), (1, 50, b"\0")], first),
         ("the second journal", [(3, 0, b"\1"), (3, 4, b"\xff")], first),
         ("the first shut and the second image", [(0, 0, b"\0"), (1, 49, b"\0")], "1 49"),
         ("the first shut and the second journal", [(0, 0, b"\0"), (3, 1, b"\xff")], "3 0"),
+        *((name, changes, ends[form - 1]) for name, changes, *ends in by_format),
     ]:
-        runs(f"two images with another byte: {name}", b"", changed(volume, *changes), end if end.startswith("end") else f"7 bad store at {end}", closes=0)
+        two_images_with(name, changed(volume, *changes), end)
+
+
+def two_images_with(name, volume, end):
+    """Two images with other bytes, and how they open."""
+    runs(f"two images with another byte: {name}", b"", volume, end if end.startswith("end") else f"7 bad store at {end}", closes=0)
+
+
+def hashes():
+    """Hashes of images in format 2: each open image is judged by its own, file by file; what has its hash is judged as an image."""
+    volume = two_images()
+    again = lambda *changes: [with_hash(file) if index < 2 else file for index, file in enumerate(changed(volume, *changes))]  # noqa: E731
+    magic = [(0, 81, b"T"), (1, 81, b"T")]
+    size = [len(file) for file in volume]
+    for index, name in enumerate(("first", "second")):
+        for what, offset in [("hash's first byte", 49), ("hash's last byte", 80), ("image's first byte", 81), ("image's last byte", size[index] - 1)]:
+            other = bytes([volume[index][offset] ^ 1])
+            two_images_with(f"the {name} {what}", changed(volume, (index, offset, other)), f"{index} 49")
+    two_images_with("the first image and its hash", again(magic[0]), "0 81")
+    two_images_with("the second image and its hash", again(magic[1]), "end 10")
+    two_images_with("both images and their hashes", again(*magic), "0 81")
+    two_images_with("the first image and its hash, and the second image", changed(again(magic[0]), (1, 81, b"T")), "1 49")
+    two_images_with("the first image and its hash, and the second epoch", again(magic[0], (1, 8, b"\0")), "1 1")
+    two_images_with("the first shut, and the second image and its hash", again((0, 0, b"\0"), magic[1]), "1 81")
+
+
+def heads_alone():
+    """Files of format 2 up to the image, and to none of it."""
+    alone = b"\1" + u64(TOP) + ON_TEST + u64(0) + sha(b"")
+    for length, end in [(48, "11 missing"), (49, "7 bad store at 0 41"), (80, "7 bad store at 0 41"), (81, "7 bad store at 0 81")]:
+        runs(f"{length} bytes of a head of format 2", b"", files(image0=alone[:length], journal0=b"\0"), end)
+    runs("a head of format 2 with another hash", b"", files(image0=alone[:-1] + b"\0", journal0=b"\0"), "7 bad store at 0 49")
+    runs("a byte after a head of format 2", b"", files(image0=alone + b"\0", journal0=b"\0"), "7 bad store at 0 41")
+
+
+def both_formats():
+    """An image of each format: the one with the greater epoch counts, and a run brings its store over where it is of format 1."""
+    old, new = start_of(paid(5, 1)), start_of(paid(8, 2))
+    records = [journal_file(records_in(input_of(story))) for story in (paid(8, 2), paid(5, 1))]
+
+    def two(first, second):
+        made = [file_of_image(epoch, ON_TEST, data, form=of) for epoch, data, of in ((4, new, first), (3, old, second))]
+        return files(image0=made[0], image1=made[1], journal0=records[0], journal1=records[1])
+
+    runs("an image of format 2 over one of format 1", b"", two(2, 1), "end 10", closes=0)
+    after = runs("an image of format 1 over one of format 2", b"", two(1, 2), "end 10", (5, 0), 0)
+    assert after[0] == two(1, 2)[0] and after[1][:9] == b"\1" + u64(TOP + 5)
+    runs("an image of format 1 over one of format 2 with another hash", b"", changed(two(1, 2), (1, 49, b"\0")), "7 bad store at 1 49")
+    runs("an image of format 2 over one of format 1 that is none", b"", changed(two(2, 1), (1, 49, b"\0")), "end 10", closes=0)
+    runs("an image of format 2 over one of format 1 of another length", b"", two(2, 1)[:1] + [two(2, 1)[1] + b"\0"] + two(2, 1)[2:],
+         "7 bad store at 1 41")
+
+
+def migrating():
+    """A store of format 1 goes on to the next epoch before its input is read, and from there as any other."""
+    story = paid(5, 3)
+    start, data = files(**kept(story)), input_of(story)
+    first = runs("no records", b"", start, "end 5", (1, 0), 0)
+    assert first[0] == start[0] and first[1][:9] == b"\1" + u64(TOP + 1) and first[2:] == [b"\0", b"\0"]
+    runs("three records", data, start, "end 8", (1, 3), 3)
+    after = runs("two records after one that is kept", data[len(marked(records_in(data)[0])):], files(**kept(story, 1)), "end 8", (1, 2), 2)
+    assert after[2] == kept(story, 1)["journal0"]
+    runs("from the second file", data, files(**kept(story, epoch=7)), "end 8", (8, 3), 3)
+    runs("a refused record", marked(records_in(data)[1]), start, "refused 6 WrongSeq 6 7", (1, 0), 0)
+    runs("a mark that is cut", b"\x80\0", start, "9 bad input at 2", (1, 0), 0)
+    runs("a record that is cut, after a close", data[:-1], start, f"9 bad input at {len(data) - 1}", (1, 2), 2)
+    due = quiet(62, 64)
+    runs("a ledger after which an epoch is due", input_of(due), files(**kept(due)), "end 64", (2, 1), 2)
+    for epoch, left in [(2**63 - 3, (2**63 - 1, 1)), (2**63 - 2, (2**63 - 1, 2))]:
+        runs(f"at ledger 63 of epoch {epoch}", input_of(due), files(**kept(due, epoch=epoch)), "end 64", left, 2)
+    runs("the epoch 2^63 - 1", b"", files(**kept(due, epoch=LAST_EPOCH)), "7 bad store at 1 1")
+    old = dict(image1=image_file(3, ON_TEST, OLD), journal1=b"\1junk")
+    after = runs("over the open image of the epoch before", data, files(**kept(story, epoch=4), **old), "end 8", (5, 3), 3)
+    assert after[1][:9] == b"\1" + u64(TOP + 5)
 
 
 def image_bytes():
@@ -500,23 +603,25 @@ def image_bytes():
     story = quiet(5, 5)
     start = start_of(story)
     header = len(take(start[4:]))
-    lengths = 49 + 8 + header
+    lengths = 8 + header
     last = lengths + sum(8 + len(file) for file in cut_image(Text(start))[1][:21])
     for name, offset, data in [
-        ("its magic", 49, b"T"), ("the last byte of its magic", 52, b"2"), ("a clear mark", 53, b"\0"), ("a mark that is too long", 53, b"\x81\0\0\1"),
-        ("a longer header", 56, bytes([start[7] + 1])), ("a longer first file", lengths + 7, bytes([start[lengths - 49 + 7] + 1])),
+        ("its magic", 0, b"T"), ("the last byte of its magic", 3, b"2"), ("a clear mark", 4, b"\0"), ("a mark that is too long", 4, b"\x81\0\0\1"),
+        ("a longer header", 7, bytes([start[7] + 1])), ("a longer first file", lengths + 7, bytes([start[lengths + 7] + 1])),
         ("a far longer first file", lengths, b"\1"), ("a longer last file", last + 7, b"\1"),
     ]:
         for epoch in (0, 1):
-            volume = changed(files(**kept(story, epoch=epoch)), (epoch, offset, data))
-            runs(f"an image with another byte in epoch {epoch}: {name}", b"", volume, f"7 bad store at {epoch} 49", closes=0)
+            volume = changed(files(**kept(story, epoch=epoch)), (epoch, head() + offset, data))
+            if form == 2:
+                volume[epoch] = with_hash(volume[epoch])
+            runs(f"an image with another byte in epoch {epoch}: {name}", b"", volume, f"7 bad store at {epoch} {head()}", closes=0)
 
 
 def before_a_journal():
     """An image is judged before its journal, which has no bytes here."""
     volume = files(**{**kept(quiet(5, 5)), "journal0": b""})
     for name, offset, byte, end in [
-        ("an open gate", 0, b"\1", "7 bad store at 2 0"), ("another magic", 49, b"\0", "7 bad store at 0 49"),
+        ("an open gate", 0, b"\1", "7 bad store at 2 0"), ("another magic or hash", 49, b"\0", "7 bad store at 0 49"),
         ("another length", 41, b"\1", "7 bad store at 0 41"), ("another epoch", 8, b"\1", "7 bad store at 0 1"),
         ("a shut gate", 0, b"\0", "11 missing"),
     ]:
@@ -529,7 +634,8 @@ def take(data):
 
 
 def showing():
-    """What `show` reports of stores, and of volumes that have none; it never goes on to another epoch."""
+    """What `show` reports of stores, and of volumes that have none; it never goes on to another epoch, of a store of format 1
+    neither."""
     story, two = paid(5, 3), 200 * LUMEN
     good = kept(story)
     shows("no files", files(), "11 missing")
@@ -538,6 +644,15 @@ def showing():
     shows("a store with three records", files(**kept(story, 3)), ["0 records 3", f"{two} 300", "2"])
     shows("a store of an odd epoch", files(**kept(story, 1, epoch=7)), ["7 records 1", f"{two} 100", "2"])
     shows("a closed gate ahead of a record", files(**{**good, "journal0": b"\0" + journal_file(records_in(input_of(story)))}), ["0 records 0", f"{two} 0", "2"])
+    shows("bad store: an odd epoch in the first file", files(**{**good, "image0": image_file(1, ON_TEST, start_of(story))}), "7 bad store at 0 1")
+    shows("bad store: an image that breaks a rule", files(image0=image_file(0, ON_TEST, BROKEN), journal0=b"\0"), f"7 bad store at 0 {head()}")
+    shows("bad store: a journal of no bytes", files(**{**good, "journal0": b""}), "7 bad store at 2 0")
+    if form == 2:
+        showing_epochs()
+
+
+def showing_epochs():
+    """Stores around the ledger after which an epoch is due."""
     long = mixed(1, 63)
     before = run(b"".join(map(marked, records_in(input_of(long))[:61])), files(**kept(long)))[1]
     after = run(input_of(long), files(**kept(long)))[1]
@@ -547,9 +662,6 @@ def showing():
     # a ledger after which an epoch was due, where a run stopped ahead of it
     due = kept(long, 62)
     shows("where an epoch is due", files(**due), ["0 records 62", *show_of(after)])
-    shows("bad store: an odd epoch in the first file", files(**{**good, "image0": image_file(1, ON_TEST, start_of(story))}), "7 bad store at 0 1")
-    shows("bad store: an image that breaks a rule", files(image0=image_file(0, ON_TEST, BROKEN), journal0=b"\0"), "7 bad store at 0 49")
-    shows("bad store: a journal of no bytes", files(**{**good, "journal0": b""}), "7 bad store at 2 0")
 
 
 def show_of(volume):
@@ -558,7 +670,19 @@ def show_of(volume):
     return f"{ledger.header['coins']} {ledger.header['pool']}", f"{len(ledger.entries)}"
 
 
+def in_format_1(part):
+    """A part of the cases with stores of format 1."""
+    def cases():
+        global form
+        form = 1
+        part()
+        form = 2
+    return cases
+
+
+FORMAT_1 = [openings, bad_heads, bad_images, bad_journals, precedence, image_bytes, before_a_journal, showing, migrating]
 PARTS = [
     making, making_over, words, showing, going_on, endings, gates, rolls, rolls_that_are_not_due, rolls_over, last_epochs, openings, missing,
-    bad_heads, bad_images, bad_journals, precedence, image_bytes, before_a_journal,
+    bad_heads, bad_images, bad_journals, precedence, image_bytes, before_a_journal, hashes, heads_alone, both_formats,
+    *map(in_format_1, FORMAT_1),
 ]

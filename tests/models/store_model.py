@@ -6,7 +6,10 @@ It shares nothing with the program: docs/FORMATS.md has the layout of the files,
 from ledger_model import HEADER, BadImage, BadRecord, Text, Wrong, cut_image, ledger_of, marked, sha, take_mark, u32, u64
 
 FILES = ("image0", "image1", "journal0", "journal1")
-HEAD = 49
+# how many bytes come before the image, by the format of its file; a file of either is open from the first one's on
+HEADS = {1: 49, 2: 81}
+# the bit of the epoch's word that says format 2
+TOP = 2**63
 MOST = 16777216
 LAST_EPOCH = 2**63 - 1
 # how many ledgers are closed between two images
@@ -24,8 +27,15 @@ class Missing(Exception):
 # ---- what is in the files
 
 
-def image_file(epoch, network, image, gate=1):
-    return bytes([gate]) + u64(epoch) + network + u64(len(image)) + image
+def image_file(epoch, network, image, gate=1, form=2):
+    """The file of an image: of format 2 with the image's hash, or of format 1, which is read and never written any more."""
+    word, digest = (epoch, b"") if form == 1 else (epoch + TOP, sha(image))
+    return bytes([gate]) + u64(word) + network + u64(len(image)) + digest + image
+
+
+def in_format_1(file):
+    """The image of a file of format 2, in one of format 1."""
+    return image_file(epoch_of(file), file[9:41], file[HEADS[2]:], file[0], 1)
 
 
 def journal_file(records, rest=b"\0"):
@@ -34,11 +44,31 @@ def journal_file(records, rest=b"\0"):
 
 
 def is_open(file):
-    return len(file) >= HEAD and file[0] == 1
+    return len(file) >= HEADS[1] and file[0] == 1
 
 
 def number(data):
     return int.from_bytes(data, "big")
+
+
+def form_of(file):
+    return 2 if number(file[1:9]) >= TOP else 1
+
+
+def epoch_of(file):
+    return number(file[1:9]) % TOP
+
+
+def fault_of(index, file):
+    """The offset at which an open image's head doesn't fit its file, or None. An image's hash is judged whether it counts or not."""
+    form, epoch = form_of(file), epoch_of(file)
+    if epoch % 2 != index or (form == 1 and epoch == LAST_EPOCH):
+        return 1
+    if number(file[41:49]) != len(file) - HEADS[form]:
+        return 41
+    if form == 2 and file[49:81] != sha(file[81:]):
+        return 49
+    return None
 
 
 def records_of(index, file):
@@ -68,29 +98,29 @@ def complete_image(data):
 
 
 class Store:
-    """What a volume opens to: an epoch, and the ledger after its image and its records."""
+    """What a volume opens to: a format, an epoch, and the ledger after its image and its records."""
 
     def __init__(self, files):
         self.files, epochs = list(files), {}
         for index, file in enumerate(self.files[:2]):
             if is_open(file):
-                epochs[index] = number(file[1:9])
-                if epochs[index] % 2 != index:
-                    raise BadStore(index, 1)
-                if number(file[41:49]) != len(file) - HEAD:
-                    raise BadStore(index, 41)
+                epochs[index] = epoch_of(file)
+                fault = fault_of(index, file)
+                if fault is not None:
+                    raise BadStore(index, fault)
         if not epochs:
             raise Missing
         index = max(epochs, key=epochs.get)
-        self.epoch, self.network = epochs[index], self.files[index][9:41]
-        cut = complete_image(self.files[index][HEAD:])
+        self.epoch, self.form, self.network = epochs[index], form_of(self.files[index]), self.files[index][9:41]
+        head = HEADS[self.form]
+        cut = complete_image(self.files[index][head:])
         if cut is None:
-            raise BadStore(index, HEAD)
+            raise BadStore(index, head)
         records, self.gate = records_of(2 + index, self.files[2 + index])
         try:
             self.ledger = ledger_of(self.network, *cut)
         except BadImage:
-            raise BadStore(index, HEAD) from None
+            raise BadStore(index, head) from None
         for at, record in records:
             try:
                 self.ledger.close(record)
@@ -110,8 +140,8 @@ class Store:
         return lines
 
     def go_on(self):
-        """Goes on to the next epoch."""
-        self.epoch, self.gate = self.epoch + 1, 0
+        """Goes on to the next epoch, which is of format 2."""
+        self.epoch, self.form, self.gate = self.epoch + 1, 2, 0
         index = self.epoch % 2
         self.files[index] = image_file(self.epoch, self.network, image_of(self.ledger))
         self.files[2 + index] = journal_file([])
@@ -150,6 +180,8 @@ def run(data, files):
         return ("", "missing\n", 11), files
     except BadStore as wrong:
         return ("", f"bad store at {wrong.args[0]} {wrong.args[1]}\n", 7), files
+    if store.form == 1:
+        store.go_on()
     text, out = Text(data), []
     try:
         while text.at < len(data):

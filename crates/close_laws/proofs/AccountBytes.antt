@@ -1,11 +1,13 @@
 -- Numbers, counts, liabilities and signers that change leave the bytes of accounts.
-use Rattle.close_laws.proofs.Bytes.{AreAccountBytes, IsIdIf, IsKey, IsStamp, KeepsAccounts, no_id, no_stamp, sponsors_in}
+use Rattle.close_laws.proofs.Bytes.{AreAccountBytes, IsIdIf, IsKey, IsThird, KeepsAccounts, no_id, no_third}
+use Rattle.close_laws.proofs.Bytes.{sponsors_in}
+use Rattle.close_laws.proofs.ThirdExtensions.{liable_third, sponsors_third, sponsorship_third}
 use Rattle.close_rules.proofs.ledger_types_proofs.Booleans.{if_either}
 use Rattle.close_rules.proofs.ledger_types_proofs.Lists.{all_insert, all_remove}
 use Rattle.close_rules.specs.State.{IsEncoded}
 use Rattle.close_rules.specs.entry_slots.AccountExtensions.{is_nothing, liabilities_in, second_in, sponsorship_in}
 use Rattle.close_rules.specs.entry_slots.AccountExtensions.{with_account_liabilities, with_liabilities_in}
-use Rattle.close_rules.specs.entry_slots.AccountExtensions.{sponsorship_of, third_in, with_sponsorship}
+use Rattle.close_rules.specs.entry_slots.AccountExtensions.{sponsorship_of, with_sponsorship}
 use Rattle.close_rules.specs.ledger_types.declared.account.AccountEntry.{AccountEntry}
 use Rattle.close_rules.specs.ledger_types.declared.account.AccountEntryExtensionV1.{AccountEntryExtensionV1}
 use Rattle.close_rules.specs.ledger_types.declared.account.AccountEntryExtensionV2.{AccountEntryExtensionV2}
@@ -37,7 +39,7 @@ numbers was account bytes = record {
   thresholds = bytes.thresholds;
   signers = bytes.signers;
   sponsors = bytes.sponsors;
-  stamp = bytes.stamp;
+  third = bytes.third;
   selling = bytes.selling;
 }
 
@@ -52,23 +54,18 @@ sponsors_of : (signers : List Signer) (ext : Option AccountEntryExtensionV2) →
 sponsors_of signers None all = none_named signers
 sponsors_of signers (Some ext) all = all
 
-stamp_of : (signers : List Signer) (ext : Option AccountEntryExtensionV2) → IsStamp (third_in ext)
-    → IsStamp (sponsorship_in signers ext).ext
-stamp_of signers None stamp = stamp
-stamp_of signers (Some ext) stamp = stamp
-
 -- an account that says something else of sponsorship, but has the same sponsors of its signers
 sponsorship_bytes : (sponsorship : AccountEntryExtensionV2) (account : AccountEntry) → AreAccountBytes account
-    → All IsIdIf sponsorship.signer_sponsoring_ids → IsStamp sponsorship.ext
+    → All IsIdIf sponsorship.signer_sponsoring_ids → IsThird sponsorship.ext
     → AreAccountBytes (with_sponsorship sponsorship account)
-sponsorship_bytes sponsorship account bytes all stamp = record {
+sponsorship_bytes sponsorship account bytes all third = record {
   id = bytes.id;
   inflation_dest = bytes.inflation_dest;
   home_domain = bytes.home_domain;
   thresholds = bytes.thresholds;
   signers = bytes.signers;
   sponsors = all;
-  stamp = stamp;
+  third = third;
   selling = bytes.selling;
 }
 
@@ -80,17 +77,17 @@ new_count_bytes SubEntries n account bytes = record {
   thresholds = bytes.thresholds;
   signers = bytes.signers;
   sponsors = bytes.sponsors;
-  stamp = bytes.stamp;
+  third = bytes.third;
   selling = bytes.selling;
 }
 new_count_bytes Sponsoring n account bytes =
     sponsorship_bytes (record (sponsorship_of account) { num_sponsoring = n }) account bytes
     (sponsors_of account.signers (second_in account.ext) bytes.sponsors)
-    (stamp_of account.signers (second_in account.ext) bytes.stamp)
+    (sponsorship_third IsThird no_third account.signers (second_in account.ext) bytes.third)
 new_count_bytes Sponsored n account bytes =
     sponsorship_bytes (record (sponsorship_of account) { num_sponsored = n }) account bytes
     (sponsors_of account.signers (second_in account.ext) bytes.sponsors)
-    (stamp_of account.signers (second_in account.ext) bytes.stamp)
+    (sponsorship_third IsThird no_third account.signers (second_in account.ext) bytes.third)
 
 pub count_bytes : (count : Count) (n : ℕ) → KeepsAccounts (with_count count n)
 unfolding with_count
@@ -120,16 +117,6 @@ owed_sponsors : (owed : Liabilities) (ext : Option AccountEntryExtensionV1) → 
 owed_sponsors owed None all = either_sponsors (is_nothing owed) owed
 owed_sponsors owed (Some ext) all = all
 
-either_stamp : (b : Bool) (owed : Liabilities)
-    → IsStamp (third_in (second_in (if b then None else Some (record { liabilities = owed; ext = None }))))
-either_stamp true owed = no_stamp
-either_stamp false owed = no_stamp
-
-owed_stamp : (owed : Liabilities) (ext : Option AccountEntryExtensionV1) → IsStamp (third_in (second_in ext))
-    → IsStamp (third_in (second_in (with_liabilities_in owed ext)))
-owed_stamp owed None stamp = either_stamp (is_nothing owed) owed
-owed_stamp owed (Some ext) stamp = stamp
-
 pub liable_bytes : (owed : Liabilities) (a : AccountEntry) → owed.selling ≤ℤ greatest_i64 → AreAccountBytes a
     → AreAccountBytes (with_account_liabilities owed a)
 liable_bytes owed a le bytes = record {
@@ -139,7 +126,7 @@ liable_bytes owed a le bytes = record {
   thresholds = bytes.thresholds;
   signers = bytes.signers;
   sponsors = owed_sponsors owed a.ext bytes.sponsors;
-  stamp = owed_stamp owed a.ext bytes.stamp;
+  third = liable_third IsThird no_third owed a.ext bytes.third;
   selling = owed_selling owed a.ext le;
 }
 
@@ -166,17 +153,6 @@ same_selling : (change : List (Option AccountId) → List (Option AccountId)) (e
 same_selling change None le = le
 same_selling change (Some ext) le = le
 
-second_stamp : (change : List (Option AccountId) → List (Option AccountId))
-    (second : Option AccountEntryExtensionV2) → IsStamp (third_in second)
-    → IsStamp (third_in (with_sponsors_in change second))
-second_stamp change None stamp = stamp
-second_stamp change (Some ext) stamp = stamp
-
-same_stamp : (change : List (Option AccountId) → List (Option AccountId)) (ext : Option AccountEntryExtensionV1)
-    → IsStamp (third_in (second_in ext)) → IsStamp (third_in (second_in (with_sponsors change ext)))
-same_stamp change None stamp = stamp
-same_stamp change (Some ext) stamp = second_stamp change ext.ext stamp
-
 pub signer_at_bytes : (index : ℕ) (signer : Signer) (sponsor : Option AccountId) → IsEncoded signer_key signer.key
     → IsIdIf sponsor → KeepsAccounts (with_signer_at index signer sponsor)
 signer_at_bytes index signer sponsor encoded named account bytes = record {
@@ -187,7 +163,7 @@ signer_at_bytes index signer sponsor encoded named account bytes = record {
   signers = all_insert IsKey account.signers index signer bytes.signers encoded;
   sponsors = changed_sponsors (λ sponsors. insert sponsors index sponsor) account.ext
       (λ xs all. all_insert IsIdIf xs index sponsor all named) bytes.sponsors;
-  stamp = same_stamp (λ sponsors. insert sponsors index sponsor) account.ext bytes.stamp;
+  third = sponsors_third IsThird no_third (λ sponsors. insert sponsors index sponsor) account.ext bytes.third;
   selling = same_selling (λ sponsors. insert sponsors index sponsor) account.ext bytes.selling;
 }
 
@@ -200,7 +176,7 @@ without_signer_bytes index account bytes = record {
   signers = all_remove IsKey account.signers index bytes.signers;
   sponsors = changed_sponsors (λ sponsors. remove sponsors index) account.ext
       (λ xs all. all_remove IsIdIf xs index all) bytes.sponsors;
-  stamp = same_stamp (λ sponsors. remove sponsors index) account.ext bytes.stamp;
+  third = sponsors_third IsThird no_third (λ sponsors. remove sponsors index) account.ext bytes.third;
   selling = same_selling (λ sponsors. remove sponsors index) account.ext bytes.selling;
 }
 
@@ -214,7 +190,7 @@ signer_sponsor_bytes index sponsor named account bytes = record {
   signers = bytes.signers;
   sponsors = changed_sponsors (λ sponsors. slice_set sponsors index sponsor) account.ext
       (λ xs all. All-set IsIdIf xs index sponsor named all) bytes.sponsors;
-  stamp = same_stamp (λ sponsors. slice_set sponsors index sponsor) account.ext bytes.stamp;
+  third = sponsors_third IsThird no_third (λ sponsors. slice_set sponsors index sponsor) account.ext bytes.third;
   selling = same_selling (λ sponsors. slice_set sponsors index sponsor) account.ext bytes.selling;
 }
 
@@ -227,6 +203,6 @@ set_signer index one encoded account bytes = record {
   thresholds = bytes.thresholds;
   signers = All-set IsKey account.signers index one encoded bytes.signers;
   sponsors = bytes.sponsors;
-  stamp = bytes.stamp;
+  third = bytes.third;
   selling = bytes.selling;
 }

@@ -58,12 +58,12 @@ abbrev pub recorded : AccountEntry → List (Option AccountId)
 recorded account = sponsors_in (second_in account.ext)
 
 -- what an account records of its sequence number
-abbrev pub IsStamp : Option AccountEntryExtensionV3 → Type 0
-IsStamp found = IsEncoded (extension_of (pos 3) account_extension_v3) found
+abbrev pub IsThird : Option AccountEntryExtensionV3 → Type 0
+IsThird found = IsEncoded (extension_of (pos 3) account_extension_v3) found
 
-pub no_stamp : IsStamp None
+pub no_third : IsThird None
 unfolding extension
-no_stamp = record { within = tt; sized = tt }
+no_third = record { within = tt; sized = tt }
 
 abbrev pub IsKey : Signer → Type 0
 IsKey signer = IsEncoded signer_key signer.key
@@ -75,7 +75,7 @@ pub record AreAccountBytes (account : AccountEntry) : Type 0 where
   pub thresholds : IsEncoded (fixed 4) account.thresholds
   pub signers : All IsKey account.signers
   pub sponsors : All IsIdIf (recorded account)
-  pub stamp : IsStamp (third_in (second_in account.ext))
+  pub third : IsThird (third_in (second_in account.ext))
   -- what no balance bounds: an account whose balance falls by a fee may sell more than it has
   pub selling : (account_liabilities account).selling ≤ℤ greatest_i64
 

@@ -9,7 +9,10 @@ pub mod NextHeader
 pub mod NextLegal
 pub mod Digests
 pub mod Bytes
+pub mod ThirdExtensions
 pub mod AccountBytes
+pub mod DatedEntries
+pub mod SetsKeep
 pub mod Written
 pub mod WrittenOffers
 pub mod WrittenPaths
@@ -28,6 +31,7 @@ pub mod NextEntries
 pub mod SetResults
 pub mod HeaderEncoded
 pub mod Taken
+pub mod DatedSets
 pub mod NextClosing
 pub mod OneClose
 pub mod OneImage

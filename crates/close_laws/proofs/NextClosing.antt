@@ -2,6 +2,8 @@
 use Rattle.close_laws.proofs.Prelude.{◌+◌, sym, ap, subst, LedgerHeader, ledger_header, IsLegal, TransactionLaws}
 use Rattle.close_laws.proofs.Prelude.{LegalSettles, SettledLegal, list_hash, SetsConserve, IsEncoded, NextIsClosing}
 use Rattle.bucket_levels.specs.Laws.{StepsRepresent}
+use Rattle.close_rules.specs.legal_rules.Dated.{AreDated}
+use Rattle.close_laws.proofs.DatedSets.{next_dated}
 use Rattle.close_laws.proofs.Digests.{hash_encoded}
 use Rattle.close_laws.proofs.NextLegal.{next_is_legal}
 use Rattle.close_laws.proofs.NextEntries.{entries_stay_encodable}
@@ -16,6 +18,8 @@ next_is_closing laws settles legal conserve exist s closing closed can by few =
     record {
       legal = subst (λ (h : LedgerHeader). IsLegal h entries) (sym by.header)
           (next_is_legal legal conserve s closing entries (list_hash levels) can by.entries);
+      dated = subst (λ (h : LedgerHeader). AreDated h entries) (sym by.header)
+          (next_dated conserve s closing entries (list_hash levels) can by.entries);
       count = by.levels.count;
       marked = exists.0;
       existing = exists.1;

@@ -24,7 +24,7 @@ use Rattle.close_laws.proofs.Encoded.{each_encoded}
 use Rattle.close_laws.proofs.EncodedSets.{set_encoded}
 use Rattle.close_laws.proofs.Unrefused.{seq_below}
 use Rattle.close_laws.proofs.NextLegal.{can_close, next_settled, next_is_legal}
-use Rattle.close_laws.proofs.Bytes.{IsIdIf, no_id, IsStamp, no_stamp, IsKey, sponsors_in, AreAccountBytes}
+use Rattle.close_laws.proofs.Bytes.{IsIdIf, no_id, IsThird, no_third, IsKey, sponsors_in, AreAccountBytes}
 use Rattle.close_laws.proofs.Bytes.{AreDataBytes, AreBodyBytes}
 use Rattle.close_laws.proofs.Bytes.{AreLineBytes, AreBalanceBytes, AreOfferBytes, ArePoolBytes, AreEntryBytes, AreBytes}
 use Rattle.close_laws.proofs.BytesSets.{set_bytes}
@@ -55,15 +55,15 @@ unfolding extension
 second_sponsors None encoded = All-nil IsIdIf
 second_sponsors (Some ext) encoded = v2_sponsors ext (record { within = encoded.within; sized = encoded.sized })
 
-v2_stamp : (ext : AccountEntryExtensionV2) → IsEncoded account_extension_v2 ext → IsStamp ext.ext
+v2_third : (ext : AccountEntryExtensionV2) → IsEncoded account_extension_v2 ext → IsThird ext.ext
 unfolding account_extension_v2
-v2_stamp ext encoded = record { within = encoded.within.1.1.1; sized = encoded.sized.1.1.1 }
+v2_third ext encoded = record { within = encoded.within.1.1.1; sized = encoded.sized.1.1.1 }
 
-second_stamp : (second : Option AccountEntryExtensionV2)
-    → IsEncoded (extension_of (pos 2) account_extension_v2) second → IsStamp (third_in second)
+second_third : (second : Option AccountEntryExtensionV2)
+    → IsEncoded (extension_of (pos 2) account_extension_v2) second → IsThird (third_in second)
 unfolding extension
-second_stamp None encoded = no_stamp
-second_stamp (Some ext) encoded = v2_stamp ext (record { within = encoded.within; sized = encoded.sized })
+second_third None encoded = no_third
+second_third (Some ext) encoded = v2_third ext (record { within = encoded.within; sized = encoded.sized })
 
 v1_second : (ext : AccountEntryExtensionV1) → IsEncoded account_extension_v1 ext
     → IsEncoded (extension_of (pos 2) account_extension_v2) ext.ext
@@ -77,12 +77,12 @@ ext_sponsors None encoded = All-nil IsIdIf
 ext_sponsors (Some ext) encoded =
     second_sponsors ext.ext (v1_second ext (record { within = encoded.within; sized = encoded.sized }))
 
-ext_stamp : (ext : Option AccountEntryExtensionV1) → IsEncoded (extension_of (pos 1) account_extension_v1) ext
-    → IsStamp (third_in (second_in ext))
+ext_third : (ext : Option AccountEntryExtensionV1) → IsEncoded (extension_of (pos 1) account_extension_v1) ext
+    → IsThird (third_in (second_in ext))
 unfolding extension
-ext_stamp None encoded = no_stamp
-ext_stamp (Some ext) encoded =
-    second_stamp ext.ext (v1_second ext (record { within = encoded.within; sized = encoded.sized }))
+ext_third None encoded = no_third
+ext_third (Some ext) encoded =
+    second_third ext.ext (v1_second ext (record { within = encoded.within; sized = encoded.sized }))
 
 signers_encoded : (account : AccountEntry) → IsEncoded account_entry account
     → IsEncoded (list_of 20 signer) account.signers
@@ -121,7 +121,7 @@ account_bytes account encoded = record {
   thresholds = record { within = encoded.within.1.1.0; sized = encoded.sized.1.1.0 };
   signers = all_keys account.signers (signers_encoded account encoded);
   sponsors = ext_sponsors account.ext (record { within = encoded.within.1.1.1.1; sized = encoded.sized.1.1.1.1 });
-  stamp = ext_stamp account.ext (record { within = encoded.within.1.1.1.1; sized = encoded.sized.1.1.1.1 });
+  third = ext_third account.ext (record { within = encoded.within.1.1.1.1; sized = encoded.sized.1.1.1.1 });
   selling = ext_selling account.ext (record { within = encoded.within.1.1.1.1; sized = encoded.sized.1.1.1.1 });
 }
 

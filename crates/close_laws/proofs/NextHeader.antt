@@ -58,12 +58,13 @@ range_upgraded h (upgrade.Flags n) good range = record {
   flags = good;
 }
 
--- what no upgrade changes
+-- what no upgrade changes: numbers, and the value that the ledger closes with
 pub record KeepsCounts (was h : LedgerHeader) : Type 0 where
   pub ledger_seq : h.ledger_seq ≡ was.ledger_seq
   pub total_coins : h.total_coins ≡ was.total_coins
   pub fee_pool : h.fee_pool ≡ was.fee_pool
   pub id_pool : h.id_pool ≡ was.id_pool
+  pub scp_value : h.scp_value ≡ was.scp_value
 
 counts_upgraded : (was h : LedgerHeader) (asked : LedgerUpgrade) → KeepsCounts was h
     → KeepsCounts was (upgraded h asked)
@@ -72,30 +73,35 @@ counts_upgraded was h (upgrade.Version n) kept = record {
   total_coins = kept.total_coins;
   fee_pool = kept.fee_pool;
   id_pool = kept.id_pool;
+  scp_value = kept.scp_value;
 }
 counts_upgraded was h (upgrade.BaseFee n) kept = record {
   ledger_seq = kept.ledger_seq;
   total_coins = kept.total_coins;
   fee_pool = kept.fee_pool;
   id_pool = kept.id_pool;
+  scp_value = kept.scp_value;
 }
 counts_upgraded was h (upgrade.MaxTxSetSize n) kept = record {
   ledger_seq = kept.ledger_seq;
   total_coins = kept.total_coins;
   fee_pool = kept.fee_pool;
   id_pool = kept.id_pool;
+  scp_value = kept.scp_value;
 }
 counts_upgraded was h (upgrade.BaseReserve n) kept = record {
   ledger_seq = kept.ledger_seq;
   total_coins = kept.total_coins;
   fee_pool = kept.fee_pool;
   id_pool = kept.id_pool;
+  scp_value = kept.scp_value;
 }
 counts_upgraded was h (upgrade.Flags n) kept = record {
   ledger_seq = kept.ledger_seq;
   total_coins = kept.total_coins;
   fee_pool = kept.fee_pool;
   id_pool = kept.id_pool;
+  scp_value = kept.scp_value;
 }
 
 -- a header in its ranges, with these counts
@@ -171,6 +177,7 @@ finished_range was h list_hash from = record {
     total_coins = from.counts.total_coins;
     fee_pool = from.counts.fee_pool;
     id_pool = from.counts.id_pool;
+    scp_value = from.counts.scp_value;
   };
 }
 
@@ -188,12 +195,13 @@ pub next_counts : (s : ClosingState) (closing : CloseRecord) (list_hash : Hash)
 next_counts s closing list_hash =
     let kept = all_counts (filled_header s closing) (filled_header s closing)
     (map upgrade_in closing.scp_value.upgrades)
-    (record { ledger_seq = refl; total_coins = refl; fee_pool = refl; id_pool = refl }) in
+    (record { ledger_seq = refl; total_coins = refl; fee_pool = refl; id_pool = refl; scp_value = refl }) in
     record {
       ledger_seq = kept.ledger_seq;
       total_coins = kept.total_coins;
       fee_pool = kept.fee_pool;
       id_pool = kept.id_pool;
+      scp_value = kept.scp_value;
     }
 
 -- the header is in its ranges and counts what the set leaves, whatever hash the levels have
@@ -206,5 +214,5 @@ next_range s closing list_hash range none seq few =
     (upgraded_all (filled_header s closing) (filled_header s closing) (map upgrade_in closing.scp_value.upgrades)
     (upgrades_good s closing none) record {
       range = filled_range s closing range seq few;
-      counts = record { ledger_seq = refl; total_coins = refl; fee_pool = refl; id_pool = refl };
+      counts = record { ledger_seq = refl; total_coins = refl; fee_pool = refl; id_pool = refl; scp_value = refl };
     })

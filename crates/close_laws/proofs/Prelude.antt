@@ -4,7 +4,7 @@ pub use Rattle.std.proofs.Common.{arith, cond, false, get_or, if◌then◌else�
 pub use Rattle.std.proofs.Common.{nat_eq, nat_le, not, refl, replicate, subst, suc, sym, true, zero, ℕ}
 pub use Rattle.std.proofs.Common.{◌&&◌, ◌*◌, ◌++◌, ◌+◌, ◌-◌, ◌<◌, ◌^◌, ◌||◌, ◌∙◌, ◌∷◌, ◌≡◌, ◌≤◌, ◌⊎◌}
 pub use Rattle.std.proofs.Math.Nat.{mul-le-mul_right}
-pub use Rattle.std.proofs.lemmas.Bool.{and_parts, ltb-false}
+pub use Rattle.std.proofs.lemmas.Bool.{and_parts, leb-false, ltb-false}
 pub use Rattle.std.proofs.lemmas.Int.{ints}
 pub use Rattle.std.proofs.lemmas.List.{length-map, length-replicate, same_lists}
 pub use Rattle.std.proofs.lemmas.List.Elements.{All-append, All-cons, All-from_recursion, All-head, All-map}

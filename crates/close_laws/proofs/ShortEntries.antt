@@ -11,7 +11,7 @@ use prelude.{sponsor_in, greatest_i64, IsEntryEncodable, IsEncoded}
 use prelude.{third_in, account_v3_fields, account_extension_v3, u32, u64, extension}
 use Rattle.std.proofs.Common.{ℤ, pos}
 use Rattle.close_rules.specs.ledger_types.declared.entry.LedgerEntryBody.TheVariants as body
-use Rattle.close_laws.proofs.Bytes.{IsIdIf, IsStamp, sponsors_in, AreAccountBytes, AreDataBytes, AreBodyBytes}
+use Rattle.close_laws.proofs.Bytes.{IsIdIf, IsThird, sponsors_in, AreAccountBytes, AreDataBytes, AreBodyBytes}
 use Rattle.close_laws.proofs.Bytes.{AreEntryBytes}
 use Rattle.close_laws.proofs.Short as short
 use Rattle.close_laws.proofs.Short.{IsShort}
@@ -50,44 +50,44 @@ v3_short ext encoded =
     (short.short_both (short.short_u32 ext.seq_ledger (u32_of ext.seq_ledger encoded.sized.1.0))
     (short.short_u64 ext.seq_time (u64_of ext.seq_time encoded.sized.1.1))))
 
-stamp_short : (stamp : Option AccountEntryExtensionV3) → IsStamp stamp
-    → IsShort (extension_of (pos 3) account_extension_v3) 20 stamp
+third_short : (third : Option AccountEntryExtensionV3) → IsThird third
+    → IsShort (extension_of (pos 3) account_extension_v3) 20 third
 unfolding extension
-stamp_short None encoded = short.no_extension (pos 3) account_extension_v3 16
-stamp_short (Some ext) encoded =
+third_short None encoded = short.no_extension (pos 3) account_extension_v3 16
+third_short (Some ext) encoded =
     short.some_extension (pos 3) account_extension_v3 16 ext
     (v3_short ext (record { within = encoded.within; sized = encoded.sized }))
 
 v2_short : (ext : AccountEntryExtensionV2) → ext.num_sponsored < 4294967296 → ext.num_sponsoring < 4294967296
-    → length ext.signer_sponsoring_ids ≤ 20 → All IsIdIf ext.signer_sponsoring_ids → IsStamp ext.ext
+    → length ext.signer_sponsoring_ids ≤ 20 → All IsIdIf ext.signer_sponsoring_ids → IsThird ext.ext
     → IsShort account_extension_v2 892 ext
 unfolding account_extension_v2
-v2_short ext sponsored sponsoring few all stamp =
+v2_short ext sponsored sponsoring few all third =
     short.short_struct account_v2_fields (short.short_both (short.short_u32 ext.num_sponsored sponsored)
     (short.short_both (short.short_u32 ext.num_sponsoring sponsoring)
     (short.short_both (short.short_list 20 (optional account_id) 43 ext.signer_sponsoring_ids few
-    (ids_short ext.signer_sponsoring_ids all)) (stamp_short ext.ext stamp))))
+    (ids_short ext.signer_sponsoring_ids all)) (third_short ext.ext third))))
 
 second_short : (second : Option AccountEntryExtensionV2) → sponsored_in second < 4294967296
     → sponsoring_in second < 4294967296 → length (sponsors_in second) ≤ 20 → All IsIdIf (sponsors_in second)
-    → IsStamp (third_in second) → IsShort (extension_of (pos 2) account_extension_v2) 896 second
-second_short None sponsored sponsoring few all stamp = short.no_extension (pos 2) account_extension_v2 892
-second_short (Some ext) sponsored sponsoring few all stamp =
-    short.some_extension (pos 2) account_extension_v2 892 ext (v2_short ext sponsored sponsoring few all stamp)
+    → IsThird (third_in second) → IsShort (extension_of (pos 2) account_extension_v2) 896 second
+second_short None sponsored sponsoring few all third = short.no_extension (pos 2) account_extension_v2 892
+second_short (Some ext) sponsored sponsoring few all third =
+    short.some_extension (pos 2) account_extension_v2 892 ext (v2_short ext sponsored sponsoring few all third)
 
 v1_short : (ext : AccountEntryExtensionV1) → AreNumbers (Some ext) → All IsIdIf (sponsors_in (second_in (Some ext)))
-    → IsStamp (third_in (second_in (Some ext))) → IsShort account_extension_v1 912 ext
+    → IsThird (third_in (second_in (Some ext))) → IsShort account_extension_v1 912 ext
 unfolding account_extension_v1
-v1_short ext numbers all stamp =
+v1_short ext numbers all third =
     short.short_struct account_v1_fields (short.short_both
     (liabilities_short ext.liabilities numbers.buying_low numbers.buying_high numbers.selling_low numbers.selling_high)
-    (second_short ext.ext numbers.sponsored numbers.sponsoring numbers.few all stamp))
+    (second_short ext.ext numbers.sponsored numbers.sponsoring numbers.few all third))
 
 ext_short : (ext : Option AccountEntryExtensionV1) → AreNumbers ext → All IsIdIf (sponsors_in (second_in ext))
-    → IsStamp (third_in (second_in ext)) → IsShort (extension_of (pos 1) account_extension_v1) 916 ext
-ext_short None numbers all stamp = short.no_extension (pos 1) account_extension_v1 912
-ext_short (Some ext) numbers all stamp =
-    short.some_extension (pos 1) account_extension_v1 912 ext (v1_short ext numbers all stamp)
+    → IsThird (third_in (second_in ext)) → IsShort (extension_of (pos 1) account_extension_v1) 916 ext
+ext_short None numbers all third = short.no_extension (pos 1) account_extension_v1 912
+ext_short (Some ext) numbers all third =
+    short.some_extension (pos 1) account_extension_v1 912 ext (v1_short ext numbers all third)
 
 -- ---- accounts
 
@@ -134,7 +134,7 @@ tail_short account bytes numbers =
     (short.short_both (short.short_fixed 4 account.thresholds bytes.thresholds)
     (short.short_both (short.short_list 20 signer 114 account.signers numbers.signers
     (all_signers account.signers bytes.signers numbers.weights))
-    (ext_short account.ext numbers.ext bytes.sponsors bytes.stamp)))
+    (ext_short account.ext numbers.ext bytes.sponsors bytes.third)))
 
 account_short : (account : AccountEntry) → AreAccountBytes account → AreAccountNumbers account
     → IsShort account_entry 3352 account

@@ -8,6 +8,7 @@ use prelude.{HasHeader, HasEntries, AreFilesOf, IsImageOf, ImagesRepresentStates
 use Rattle.std.proofs.lemmas.List.Sums.{sum_by-cons}
 use Rattle.close_rules.specs.xdr_header.Image.{start_image, file, files}
 use Rattle.close_rules.specs.Images.{read_complete}
+use Rattle.close_rules.specs.legal_rules.Dated.{AreDated}
 use Rattle.close_laws.proofs.Short.{longer}
 use Rattle.close_laws.proofs.ShortHeaders.{header_short}
 
@@ -88,9 +89,9 @@ is_within s image state is = (
   ),
 )
 
-none_broken : (h : LedgerHeader) (m : EntryMap) → IsLegal h m → IsFirstBroken h m entry_rules None
-none_broken h m legal = (
-  record { entries = legal.entries; authorized = legal.authorized },
+none_broken : (h : LedgerHeader) (m : EntryMap) → IsLegal h m → AreDated h m → IsFirstBroken h m entry_rules None
+none_broken h m legal dated = (
+  record { entries = legal.entries; dated = dated; authorized = legal.authorized },
   (
     record { existing = legal.existing; offers = legal.offers },
     (
@@ -129,5 +130,12 @@ has_entries s image state is = record {
 pub images_represent_states : ImagesRepresentStates
 images_represent_states s image state is = (
   is_within s image state is,
-  (s.header, s.levels, s.entries, has_entries s image state is, none_broken s.header s.entries state.legal, refl),
+  (
+    s.header,
+    s.levels,
+    s.entries,
+    has_entries s image state is,
+    none_broken s.header s.entries state.legal state.dated,
+    refl,
+  ),
 )

@@ -4,7 +4,7 @@ use prelude.{◌≡◌, ℕ, zero, suc, ◌+◌, ◌<◌, ◌≤◌, refl, sym, 
 use prelude.{All, Option, Some, None, arith, ◌||◌, nat_le, slice_get, find, range_with_len, option_or, LedgerHeader}
 use prelude.{LedgerUpgrade, CloseRecord, upgrade_in, type_of, is_bad_value, is_bad_after, type_before, is_bad_at}
 use prelude.{is_out_of_profile, first_index, ClosingState, record_fault, term_fault, upgrade_fault, set_fault}
-use prelude.{less_from_unequal, natural_positive_from_unequal, natural_zero_add, ltb-false}
+use prelude.{less_from_unequal, natural_positive_from_unequal, natural_zero_add, leb-false, ltb-false}
 use Rattle.std.proofs.Common.{option_map}
 use Rattle.std.proofs.lemmas.Option.{slice_get-get_or}
 use Rattle.close_rules.specs.ledger_types.declared.header.LedgerUpgrade.TheVariants as upgrade
@@ -46,6 +46,21 @@ unfolding term_fault
 seq_below s closing none le =
     less_from_unequal s.header.ledger_seq 2147483647 le (if_some_none _ _ _ (terms_pass s closing none)).0
 
+-- ---- its close time
+
+-- the ledger closes after the one before
+pub later_time : (s : ClosingState) (closing : CloseRecord) → record_fault s closing ≡ None
+    → s.header.scp_value.close_time ≤ closing.scp_value.close_time
+unfolding term_fault
+later_time s closing none =
+    let after_seq_end = (if_some_none _ _ _ (terms_pass s closing none)).1 in
+    let after_seq = (if_some_none _ _ _ after_seq_end).1 in
+    let after_previous = (if_some_none _ _ _ after_seq).1 in
+    let after_set_hash = (if_some_none _ _ _ after_previous).1 in
+    let later = leb-false closing.scp_value.close_time s.header.scp_value.close_time
+    (if_some_none _ _ _ after_set_hash).0 in
+    omega (arith, later)
+
 -- ---- its upgrades
 
 -- an upgrade that is made, of a value that its field may have
@@ -79,7 +94,7 @@ nowhere p a (suc n) (suc i) e within =
 no_index : {X : Type 0} (p : ℕ → Bool) (xs : List X) (i : ℕ) → first_index p xs ≡ None → i < length xs → p i ≡ false
 no_index p xs i e within = ap p (sym (natural_zero_add i)) ∙ nowhere p 0 (length xs) i e within
 
-either_false : (a b : Bool) → (a || b) ≡ false → b ≡ false
+pub either_false : (a b : Bool) → (a || b) ≡ false → b ≡ false
 either_false true b e = absurd (cc)
 either_false false b e = e
 

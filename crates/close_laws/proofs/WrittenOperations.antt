@@ -2,7 +2,7 @@
 use Rattle.bucket_levels.specs.entry_map.EntryMap.{EntryMap}
 use Rattle.op_laws.proofs.AllSteps.{Asked, FlagAsked, OfferAsked, any_left}
 use Rattle.close_laws.proofs.Bytes.{AreAccountBytes, IsClaimant, IsId, IsIdIf, IsKey, KeepsAccounts}
-use Rattle.close_laws.proofs.Bytes.{no_id, no_stamp, some_id}
+use Rattle.close_laws.proofs.Bytes.{no_id, no_third, some_id}
 use Rattle.close_laws.proofs.BytesPredicates.{claimants_fixed, unconditional_claimant}
 use Rattle.close_laws.proofs.Digests.{hash_encoded}
 use Rattle.close_laws.proofs.Encoded.{each_encoded}
@@ -102,7 +102,7 @@ new_account_bytes ctx op id = record {
   thresholds = four_bytes 1 0 0 0 (omega arith) (omega arith) (omega arith) (omega arith);
   signers = All-nil IsKey;
   sponsors = All-nil IsIdIf;
-  stamp = no_stamp;
+  third = no_third;
   selling = omega (arith, ints);
 }
 
@@ -192,7 +192,7 @@ with_options_bytes op given range account bytes = record {
   thresholds = new_thresholds op account.thresholds range bytes.thresholds;
   signers = bytes.signers;
   sponsors = bytes.sponsors;
-  stamp = bytes.stamp;
+  third = bytes.third;
   selling = bytes.selling;
 }
 
@@ -321,7 +321,7 @@ module _ (ctx : Ctx) (m : EntryMap) (can : CanTrade ctx m) (id : IsId ctx.op_sou
   asked_encoded (body.CreateAccount op) encoded = new_account_bytes ctx op (destination_id op encoded)
   asked_encoded (body.SetOptions op) encoded =
       let given = options_encoded op encoded in
-      (given_key op.signer given.signer, with_options_bytes op given)
+      (λ good. given_key op.signer given.signer, with_options_bytes op given)
     where
       given_key : (o : Option Signer) → IsEncoded (optional signer) o → (one : Signer) → o ≡ Some one
           → IsEncoded signer_key one.key

@@ -1,4 +1,4 @@
--- Preconditions, signed payloads, the stamp of a sequence number and the codes that protocol 19 brought, laid out by
+-- Preconditions, signed payloads, the third extension of accounts and the codes that protocol 19 brought, laid out by
 -- hand from the protocol's XDR (CAP-0021, CAP-0040).
 use Rattle.definition_rows.proofs.Prelude.{◌≡◌, refl, pos, true, ◌&&◌, ◌++◌, List, [], ◌∷◌, replicate, Short, Padding}
 use Rattle.definition_rows.proofs.Prelude.{BadEnum, BadFlag, TooLong, Hash, signer_key, account_extension_v3}
@@ -91,11 +91,11 @@ signed_payloads : (has_value signer_key 40
 unfolding hex has_value has_fault entries_formats
 signed_payloads = refl
 
-stamps : (is_encoding account_extension_v3 (record { seq_ledger = 3; seq_time = 4 })
+third_extensions : (is_encoding account_extension_v3 (record { seq_ledger = 3; seq_time = 4 })
     (hex "00000000000000030000000000000004")
     && has_fault account_extension_v3 BadEnum 0 (hex "00000001000000030000000000000004")) ≡ true
 unfolding hex is_encoding has_fault entries_formats
-stamps = refl
+third_extensions = refl
 
 codes_below_minus_14 : (is_encoding transaction_outcome outcome.BadMinSeqAgeOrGap (hex "fffffff1")
     && is_encoding transaction_outcome outcome.Malformed (hex "fffffff0")

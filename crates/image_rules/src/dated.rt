@@ -11,18 +11,18 @@ use ledger_types::{AccountEntry, AccountEntryExtensionV3, LedgerEntryBody, Signe
 const DATED_FROM: u32 = 19;
 
 /// Whether the ledger and the close time that are recorded aren't later ones.
-fn is_stamp_dated(
+fn is_third_dated(
     version: u32,
     seq: u32,
     close_time: u64,
-    stamp: Option<AccountEntryExtensionV3>,
+    third: Option<AccountEntryExtensionV3>,
 ) -> bool
-    ensures { IsTrue result ↔ spec.IsStampDated version seq close_time stamp }
+    ensures { IsTrue result ↔ spec.IsThirdDated version seq close_time third }
 {
-    match stamp {
+    match third {
         None => true,
-        Some(stamp) => {
-            DATED_FROM <= version && stamp.seq_ledger <= seq && stamp.seq_time <= close_time
+        Some(third) => {
+            DATED_FROM <= version && third.seq_ledger <= seq && third.seq_time <= close_time
         }
     }
 }
@@ -52,7 +52,7 @@ fn are_signers_dated(version: u32, signers: &[Signer]) -> bool
 }
 
 /// When an account's sequence number was set, as far as it is recorded.
-fn stamp_of(account: &AccountEntry) -> Option<AccountEntryExtensionV3>
+fn third_of(account: &AccountEntry) -> Option<AccountEntryExtensionV3>
     ensures { result ≡ third_in (second_in account.now.ext) }
 {
     match &account.ext {
@@ -68,7 +68,7 @@ fn stamp_of(account: &AccountEntry) -> Option<AccountEntryExtensionV3>
 fn is_account_dated(version: u32, seq: u32, close_time: u64, account: &AccountEntry) -> bool
     ensures { IsTrue result ↔ spec.IsAccountDated version seq close_time account.now }
 {
-    is_stamp_dated(version, seq, close_time, stamp_of(account))
+    is_third_dated(version, seq, close_time, third_of(account))
         && are_signers_dated(version, account.signers.as_slice())
 }
 

@@ -19,7 +19,8 @@ pub enum EntryTest {
     InRange {
         id_pool: u64,
     },
-    /// What an account records, and its signers, are those that a ledger of this version, number and close time lets be.
+    /// What an account records, and its signers, are those that a ledger of this version, number and close time lets
+    /// be.
     Dated {
         version: u32,
         seq: u32,

@@ -273,6 +273,7 @@ is_closing : (network : Hash) (image : StartImage) (h : LedgerHeader) (levels : 
     → IsClosingState (state_of network h levels m)
 is_closing network image h levels m has encoded kept = record {
   legal = is_legal image h levels m has kept;
+  dated = kept.0.dated;
   count = has.files.files.files.count;
   marked = has.marks;
   existing = has.existing;

@@ -17,10 +17,10 @@ abbrev pub dated_from : ℕ
 dated_from = 19
 
 -- the ledger and the close time that are recorded aren't later ones
-abbrev pub IsStampDated : (version seq close_time : ℕ) → Option AccountEntryExtensionV3 → Type 0
-IsStampDated version seq close_time None = Unit {0}
-IsStampDated version seq close_time (Some stamp) =
-    (dated_from ≤ version) × ((stamp.seq_ledger ≤ seq) × (stamp.seq_time ≤ close_time))
+abbrev pub IsThirdDated : (version seq close_time : ℕ) → Option AccountEntryExtensionV3 → Type 0
+IsThirdDated version seq close_time None = Unit {0}
+IsThirdDated version seq close_time (Some third) =
+    (dated_from ≤ version) × ((third.seq_ledger ≤ seq) × (third.seq_time ≤ close_time))
 
 -- a signed payload may be there, and isn't empty
 abbrev pub IsKeyDated : (version : ℕ) → SignerKey → Type 0
@@ -28,7 +28,7 @@ IsKeyDated version (SignedPayload key payload) = (dated_from ≤ version) × (1 
 IsKeyDated version other = Unit {0}
 
 pub record IsAccountDated (version seq close_time : ℕ) (account : AccountEntry) : Type 0 where
-  pub stamp : IsStampDated version seq close_time (third_in (second_in account.ext))
+  pub third : IsThirdDated version seq close_time (third_in (second_in account.ext))
   pub signers : All (λ signer. IsKeyDated version signer.key) account.signers
 
 abbrev pub IsBodyDated : (version seq close_time : ℕ) → LedgerEntryBody → Type 0

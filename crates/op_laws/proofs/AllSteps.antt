@@ -83,7 +83,7 @@ abbrev pub Asked : Logic → Ctx → EntryMap → OperationBody → Type 0
 Asked w ctx m (body.CreateAccount op) = w.inv.of.Account (creating.new_account ctx op)
 Asked w ctx m (body.AccountMerge op) = w.inv.Goes (key.Account ctx.op_source)
 Asked w ctx m (body.SetOptions op) =
-    ((one : Signer) → op.signer ≡ Some one → w.inv.of.Key one.key)
+    (tests.is_bad_signer ctx op.signer ≡ false → (one : Signer) → op.signer ≡ Some one → w.inv.of.Key one.key)
     × (tests.is_out_of_range op ≡ false → (a : AccountEntry) → w.inv.of.Account a
     → w.inv.of.Account (options.with_options op a))
 Asked w ctx m (body.ManageData op) =

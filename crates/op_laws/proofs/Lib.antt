@@ -49,6 +49,7 @@ pub mod OffersBeside
 pub mod CrossedBook
 pub mod FollowedBook
 pub mod AllSteps
+pub mod AccountsAsked
 pub use Rattle.op_flags.proofs.legal_rules_proofs
 pub use Rattle.op_offers.proofs.offer_exchange_proofs
 pub use Rattle.op_offers.proofs as op_offers_proofs

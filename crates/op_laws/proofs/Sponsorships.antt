@@ -7,7 +7,8 @@ use Rattle.op_laws.proofs.Prelude.{Sponsorship, is_same_account, open_sponsor, a
 use Rattle.op_laws.proofs.Prelude.{OperationResult, IsLawful, AreLawful, IsUnderway}
 use Rattle.op_laws.proofs.Prelude.{none_more, holds_itself, is_itself_after}
 use Rattle.std.specs.Option.{option_map}
-use Rattle.op_flags.specs.op_types.declared.sponsor_ops.BeginSponsoringFutureReservesOp.{BeginSponsoringFutureReservesOp}
+use Rattle.op_flags.specs.op_types.declared.sponsor_ops as operations
+use operations.BeginSponsoringFutureReservesOp.{BeginSponsoringFutureReservesOp}
 use Rattle.op_flags.specs.op_types.declared.sponsor_results.BeginSponsoringFutureReservesResult.TheVariants as begin
 use Rattle.op_flags.specs.op_types.declared.sponsor_results.EndSponsoringFutureReservesResult.TheVariants as end
 use Rattle.op_sponsor.specs.BeginSponsoringFutureReserves as begins

@@ -96,7 +96,7 @@ options_steps x Q ctx op m done =
     (λ signed is nothing. record { ends = done account signed given there may is })))))
 
 pub options_set : (w : Logic) (ctx : Ctx) (op : SetOptionsOp) (m : EntryMap) → Before w ctx m
-    → ((one : Signer) → op.signer ≡ Some one → w.inv.of.Key one.key)
+    → (tests.is_bad_signer ctx op.signer ≡ false → (one : Signer) → op.signer ≡ Some one → w.inv.of.Key one.key)
     → (tests.is_out_of_range op ≡ false → (a : AccountEntry) → w.inv.of.Account a
     → w.inv.of.Account (options.with_options op a))
     → Leaves w (options.set_options ctx op m)
@@ -108,10 +108,10 @@ options_set w ctx op m before key keep =
     (signer_steps w.answers w.inv.Holds ctx m account op.signer (record {
       same = before.entries;
       removed = λ one is. removing_signer w.inv ctx.op_source one.key m before.entries;
-      added = λ one new is made. made_holds w.inv _ new made (adding_signer w.inv ctx ctx.op_source one m (key one is)
-          (w.sponsor ctx ctx.op_source before.context) before.entries);
+      added = λ one new is made. made_holds w.inv _ new made (adding_signer w.inv ctx ctx.op_source one m
+          (key given.1.1.1.0 one is) (w.sponsor ctx ctx.op_source before.context) before.entries);
       weighed = λ one index is. account_changed w.inv (signers.with_signer_set index one)
-          (λ a fits. w.inv.weighed index one (key one is) a fits) m ctx.op_source before.entries;
+          (λ a fits. w.inv.weighed index one (key given.1.1.1.0 one is) a fits) m ctx.op_source before.entries;
     })) is)))
 
 -- ---- MANAGE_DATA

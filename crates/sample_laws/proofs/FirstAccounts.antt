@@ -5,6 +5,7 @@ use Rattle.sample_laws.proofs.Prelude.{AccountId, signer_key_cmp, IsPlainAccount
 use Rattle.sample_laws.proofs.Prelude.{ledger_entry, signer_of, flags_of}
 use Rattle.sample_ledger.specs.ledger_types.declared.signer.Signer.{Signer}
 use Rattle.sample_ledger.specs.ledger_types.declared.signer.SignerKey.TheVariants as signer
+use Rattle.legal_rules.specs.Dated.{IsAccountDated, IsKeyDated}
 use Rattle.legal_rules.specs.valid_values.Texts.{is_valid_text}
 use Rattle.legal_rules.specs.Ranges.{AreAccountFlags, AreSignersInRange, IsAccountInRange}
 
@@ -49,6 +50,14 @@ account_in_range seed account = record {
   flags = flags_in_range account;
   home_domain = refl;
   signers = signer_in_range seed account;
+}
+
+-- they record nothing of their sequence numbers, and their signers are hash-x
+pub dated_account : (seed account version seq close_time : ℕ)
+    → IsAccountDated version seq close_time (account_entry seed account)
+dated_account seed account version seq close_time = record {
+  third = tt;
+  signers = All-cons (λ (s : Signer). IsKeyDated version s.key) (signer_of seed account) [] tt (All-nil _);
 }
 
 pub plain_account : (seed account : ℕ) → IsPlainAccount (ledger_entry seed account)

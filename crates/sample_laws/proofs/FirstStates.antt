@@ -5,6 +5,7 @@ use Rattle.sample_laws.proofs.Prelude.{IsEncoded, IsClosingState, first_bucket, 
 use Rattle.sample_laws.proofs.Prelude.{first_entries, first_state, FirstStatesClose, entry_short}
 use Rattle.sample_ledger.specs.xdr_header.Header.{ledger_header}
 use Rattle.account_laws.specs.entry_changes.Encodable.{AreEncodable, IsEntryEncodable}
+use Rattle.legal_rules.specs.Dated.{AreDated, IsBodyDated}
 use Rattle.legal_rules.specs.Headers.{IsHeaderInRange}
 use Rattle.legal_rules.specs.Legal.{IsLegal}
 use Rattle.sample_ledger.specs.close_rules.Images.{AreFilesOf}
@@ -12,7 +13,7 @@ use Rattle.account_laws.specs.close_laws.Images.{ImagesRepresentStates}
 use Rattle.sample_ledger.proofs.Bytes.{hash_fits}
 use Rattle.sample_ledger.proofs.Headers.{header_within, header_sized}
 use Rattle.sample_laws.proofs.FirstEntries.{each_first, first_lumens}
-use Rattle.sample_laws.proofs.FirstAccounts.{plain_account}
+use Rattle.sample_laws.proofs.FirstAccounts.{dated_account, plain_account}
 use Rattle.sample_laws.proofs.FirstLevels.{first_marks, first_represent}
 use Rattle.sample_laws.proofs.FirstFiles.{first_has_file, first_files_len}
 use Rattle.sample_ledger.proofs.bucket_core_proofs.Files.{nothing_has_file}
@@ -43,6 +44,12 @@ legal plain_states seed =
     (each_first (λ k e. IsPlainAccount e) seed (λ a below. plain_account seed a))
     (omega (arith, ints, first_lumens seed))
 
+dated : (seed : ℕ) → AreDated (first_header seed) (first_entries seed)
+dated seed =
+    let h = first_header seed in
+    each_first (λ k e. IsBodyDated h.ledger_version h.ledger_seq h.scp_value.close_time e.body) seed
+    (λ a below. dated_account seed a h.ledger_version h.ledger_seq h.scp_value.close_time)
+
 encodable : (seed : ℕ) → AreEncodable (first_entries seed)
 encodable seed =
     each_first (λ k e. IsEntryEncodable e) seed (λ a below.
@@ -52,6 +59,7 @@ encodable seed =
 closing : PlainStatesAreLegal → (seed : ℕ) → IsClosingState (first_state seed)
 closing plain_states seed = record {
   legal = legal plain_states seed;
+  dated = dated seed;
   count = refl;
   marked = first_marks seed;
   existing = first_represent seed;

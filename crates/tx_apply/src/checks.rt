@@ -4,7 +4,7 @@ ghost use Rattle.std.specs.Prelude.{◌≡◌, None, Some, IfOk, OnOk};
 ghost use Rattle.entry_map.specs.Undo.{with_current};
 ghost use Rattle.entry_slots.specs.Accounts.{account_at};
 ghost use Rattle.entry_slots.specs.Tests.{first_fault};
-ghost use Rattle.op_laws.specs.Steps.{AreSignersFew, TransactionLaws};
+ghost use Rattle.op_laws.specs.Steps.{AreSignersFew};
 ghost use Rattle.op_laws.specs.Underway.{IsSettled};
 ghost use Rattle.tx_apply.specs.Signing.{auths_of};
 ghost use Rattle.tx_apply.specs.Checks as spec;
@@ -15,6 +15,7 @@ use entry_slots::{load_facts, set_seq_num};
 use item_list::ItemList;
 use ledger_types::AccountId;
 use op_form::ThresholdLevel;
+use op_laws::steps::transaction_laws;
 use op_types::{Operation, Preconditions, TimeBounds, Transaction, TransactionOutcome};
 use reserve_rules::facts_available;
 use signer_check::Checker;
@@ -235,13 +236,13 @@ fn judge_after_seq_num<B: Base>(
     entries: &mut Entries<'_, B>,
 ) -> Result<Option<TransactionOutcome>, AllocError>
     requires settled { IsSettled ctx.now.id_pool entries.old.current }
-    requires laws { TransactionLaws }
     requires early { spec.early_fault pays base_fee ctx.now tx.now entries.old.current ≡ None }
     ensures outcome { IfOk result (λ outcome. outcome ≡ spec.late_outcome pays ctx.now checker.old.hash
         checker.old.signatures tx.now (spec.map_after_seq_num tx.now entries.old.current)) }
     ensures entries { OnOk result (
         entries.new ≡ with_current entries.old (spec.map_after_seq_num tx.now entries.old.current)) }
 {
+    transaction_laws();
     use_up_seq_num(tx, entries)?;
     late_fault(pays, ctx, checker, tx, entries)
 }
@@ -257,7 +258,6 @@ pub(crate) fn judge<B: Base>(
     entries: &mut Entries<'_, B>,
 ) -> Result<Option<TransactionOutcome>, AllocError>
     requires settled { IsSettled ctx.now.id_pool entries.old.current }
-    requires laws { TransactionLaws }
     ensures outcome { IfOk result (λ outcome. outcome ≡ (spec.judged pays base_fee ctx.now checker.old.hash
         checker.old.signatures tx.now entries.old.current).outcome) }
     ensures entries { OnOk result (entries.new ≡ with_current entries.old (spec.judged pays base_fee ctx.now

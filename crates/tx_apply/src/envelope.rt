@@ -6,7 +6,6 @@ ghost use Rattle.value_hashes.specs.Hashes.{signed_hash_of};
 ghost use Rattle.xdr_tx.specs.Transactions as xdr;
 ghost use Rattle.op_form.specs.Sequences.{last_seq};
 ghost use Rattle.op_laws.specs.Underway.{IsSettled};
-ghost use Rattle.op_laws.specs.Steps.{TransactionLaws};
 ghost use Rattle.tx_apply.specs.Operations.{operations_of};
 ghost use Rattle.tx_apply.specs.Laws.{AreFit, CanDraw};
 ghost use Rattle.tx_apply.specs.Set as spec;
@@ -40,7 +39,6 @@ fn apply_v1_envelope<B: Base>(
     requires settled { IsSettled ctx.old.id_pool entries.old.current }
     requires closed { ctx.old.sponsorships ≡ [] }
     requires seq { ctx.old.seq < last_seq }
-    requires laws { TransactionLaws }
     requires within { xdr.transaction_v1_envelope.within envelope.now }
     requires fit { AreFit envelope.now.tx.operations }
     requires ids { CanDraw 100 ctx.old.id_pool }
@@ -77,7 +75,6 @@ fn apply_fee_bump_envelope<B: Base>(
     requires settled { IsSettled ctx.old.id_pool entries.old.current }
     requires closed { ctx.old.sponsorships ≡ [] }
     requires seq { ctx.old.seq < last_seq }
-    requires laws { TransactionLaws }
     requires within { xdr.fee_bump_envelope.within envelope.now }
     requires fit { AreFit envelope.now.tx.inner_tx.tx.operations }
     requires ids { CanDraw 100 ctx.old.id_pool }
@@ -121,7 +118,6 @@ fn apply_envelope<B: Base>(
     requires settled { IsSettled ctx.old.id_pool entries.old.current }
     requires closed { ctx.old.sponsorships ≡ [] }
     requires seq { ctx.old.seq < last_seq }
-    requires laws { TransactionLaws }
     requires within { xdr.transaction_envelope.within envelope.now }
     requires fit { AreFit (operations_of envelope.now) }
     requires ids { CanDraw 100 ctx.old.id_pool }
@@ -171,7 +167,6 @@ pub(crate) fn apply_one<B: Base>(
 ) -> Result<u64, AllocError>
     requires settled { IsSettled id_pool entries.old.current }
     requires seq { header.now.ledger_seq < last_seq }
-    requires laws { TransactionLaws }
     requires within { xdr.transaction_envelope.within envelope.now }
     requires fit { AreFit (operations_of envelope.now) }
     requires ids { CanDraw 100 id_pool }

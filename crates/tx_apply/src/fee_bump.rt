@@ -6,7 +6,6 @@ ghost use Rattle.entry_slots.specs.Accounts.{account_at};
 ghost use Rattle.entry_slots.specs.Tests.{first_fault};
 ghost use Rattle.op_form.specs.Sequences.{last_seq};
 ghost use Rattle.op_laws.specs.Underway.{IsSettled};
-ghost use Rattle.op_laws.specs.Steps.{TransactionLaws};
 ghost use Rattle.tx_apply.specs.FeeBump as spec;
 ghost use Rattle.tx_apply.specs.Laws.{AreFit, CanDraw};
 
@@ -18,6 +17,7 @@ use entry_map::{Base, Entries};
 use fee_rules::not_below_0;
 use ledger_types::Hash;
 use op_form::{ThresholdLevel, exists};
+use op_laws::steps::transaction_laws;
 use op_types::{FeeBumpTransaction, TransactionOutcome};
 use signer_check::Checker;
 use sponsor_rules::{Ctx, remove_preauth};
@@ -91,7 +91,6 @@ fn apply_after_auth<B: Base>(
     requires settled { IsSettled ctx.old.id_pool entries.old.current }
     requires closed { ctx.old.sponsorships ≡ [] }
     requires seq { ctx.old.seq < last_seq }
-    requires laws { TransactionLaws }
     requires few { length bump.now.inner_tx.tx.operations ≤ 100 }
     requires fit { AreFit bump.now.inner_tx.tx.operations }
     requires ids { CanDraw 100 ctx.old.id_pool }
@@ -138,7 +137,6 @@ pub(crate) fn apply_fee_bump<B: Base>(
     requires settled { IsSettled ctx.old.id_pool entries.old.current }
     requires closed { ctx.old.sponsorships ≡ [] }
     requires seq { ctx.old.seq < last_seq }
-    requires laws { TransactionLaws }
     requires few { length bump.now.inner_tx.tx.operations ≤ 100 }
     requires fit { AreFit bump.now.inner_tx.tx.operations }
     requires ids { CanDraw 100 ctx.old.id_pool }
@@ -154,6 +152,7 @@ pub(crate) fn apply_fee_bump<B: Base>(
         (spec.signed_by hash.now outer.old.signatures inner_hash.now inner.old.signatures) bump.now
         entries.old.current).id_pool) }
 {
+    transaction_laws();
     if let Some(outcome) = payer_fault(base_fee, bump, entries)? {
         return Ok(outcome);
     }

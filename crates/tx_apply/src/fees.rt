@@ -8,7 +8,6 @@ ghost use Rattle.op_laws.specs.entry_sums.Sums.{total};
 ghost use Rattle.reserve_rules.specs.Reserve.{greatest_i64};
 ghost use Rattle.op_laws.specs.legal_rules.Supply.{held};
 ghost use Rattle.op_laws.specs.Underway.{IsSettled};
-ghost use Rattle.op_laws.specs.Steps.{TransactionLaws};
 ghost use Rattle.tx_apply.specs.Indices.{envelopes_at};
 ghost use Rattle.tx_apply.specs.Fees as spec;
 
@@ -17,6 +16,7 @@ use entry_slots::{load_account, store_account};
 use fee_rules::{after_fee, fee_charged, fee_source};
 use item_list::ItemList;
 use ledger_types::LedgerHeader;
+use op_laws::steps::transaction_laws;
 use op_types::TransactionEnvelope;
 use std::alloc::AllocError;
 
@@ -87,7 +87,6 @@ pub(crate) fn take_fees<B: Base>(
     requires settled { IsSettled header.now.id_pool entries.old.current }
     requires lumens { (total (held asset.Native) entries.old.current +ℤ header.now.fee_pool) ≡ header.now.total_coins }
     requires fee_pool { pos 0 ≤ℤ header.now.fee_pool }
-    requires laws { TransactionLaws }
     ensures fees { OnOk result (fees.new ≡ fees.old ++ (spec.fees_taken (unsigned_abs base_fee)
         (envelopes_at envelopes.now order.now) entries.old.current).fees) }
     ensures entries { OnOk result (entries.new ≡ with_current entries.old (spec.fees_taken (unsigned_abs base_fee)
@@ -95,6 +94,7 @@ pub(crate) fn take_fees<B: Base>(
     ensures fee_pool { IfOk result (λ after. after ≡ header.now.fee_pool +ℤ spec.sum_of (spec.fees_taken
         (unsigned_abs base_fee) (envelopes_at envelopes.now order.now) entries.old.current).fees) }
 {
+    transaction_laws();
     // No fee pool is above the total, which is a number of 64 bits.
     let _total_coins = header.total_coins;
     let mut fee_pool = header.fee_pool;

@@ -3,7 +3,6 @@
 ghost use Rattle.std.specs.Prelude.{◌≡◌, ◌<◌, ◌+◌, ◌^◌, ◌++◌, length, IfOk, OnOk};
 ghost use Rattle.entry_map.specs.Undo.{with_current};
 ghost use Rattle.op_form.specs.Done.{Does};
-ghost use Rattle.op_laws.specs.Steps.{TransactionLaws};
 ghost use Rattle.op_laws.specs.Underway.{IsUnderway};
 ghost use Rattle.tx_apply.specs.Laws.{AreFit, CanDraw};
 ghost use Rattle.tx_apply.specs.Running as spec;
@@ -15,6 +14,7 @@ use entry_map::{Base, Entries};
 use item_list::ItemList;
 use ledger_types::AccountId;
 use op_form::exists;
+use op_laws::steps::transaction_laws;
 use op_types::{Operation, OperationResult};
 use sponsor_rules::Ctx;
 use std::alloc::AllocError;
@@ -28,11 +28,11 @@ fn apply_at<B: Base>(
     index: u32,
 ) -> Result<OperationResult, AllocError>
     requires underway { IsUnderway ctx.old entries.old.current }
-    requires laws { TransactionLaws }
     requires ids { CanDraw 1 ctx.old.id_pool }
     ensures { IfOk result (λ answer. Does answer ctx.new entries.old entries.new
         (spec.done_at ctx.old source.now index operation.now entries.old.current)) }
 {
+    transaction_laws();
     let own = source_of(source, operation);
     ctx.op_index = index;
     ctx.op_source = own;
@@ -54,7 +54,6 @@ pub(crate) fn run<B: Base>(
     results: &mut ItemList<OperationResult>,
 ) -> Result<bool, AllocError>
     requires underway { IsUnderway ctx.old entries.old.current }
-    requires laws { TransactionLaws }
     requires indices { index + length operations.now < 2 ^ 32 }
     requires fit { AreFit operations.now }
     requires ids { CanDraw (length operations.now) ctx.old.id_pool }
@@ -67,6 +66,7 @@ pub(crate) fn run<B: Base>(
     ensures ctx { OnOk result (
         ctx.new ≡ (spec.run ctx.old source.now index operations.now entries.old.current).ctx) }
 {
+    transaction_laws();
     match operations {
         [] => Ok(true),
         [first, others @ ..] => {

@@ -10,7 +10,6 @@ ghost use Rattle.xdr_tx.specs.Transactions as xdr;
 ghost use Rattle.op_laws.specs.legal_rules.Legal.{IsLegal};
 ghost use Rattle.op_form.specs.Sequences.{last_seq};
 ghost use Rattle.op_laws.specs.Underway.{IsSettled};
-ghost use Rattle.op_laws.specs.Steps.{TransactionLaws};
 ghost use Rattle.tx_apply.specs.Laws as laws;
 ghost use Rattle.tx_apply.specs.Indices.{envelopes_at};
 ghost use Rattle.tx_apply.specs.Set as spec;
@@ -70,7 +69,6 @@ fn apply_all<B: Base>(
 ) -> Result<u64, AllocError>
     requires settled { IsSettled header.now.id_pool entries.old.current }
     requires seq { header.now.ledger_seq < last_seq }
-    requires laws { TransactionLaws }
     requires within { All (λ envelope. xdr.transaction_envelope.within envelope) envelopes.now }
     requires indices { All (λ index. index < length envelopes.now) order.now }
     requires fit { laws.AreAllFit envelopes.now }
@@ -86,6 +84,7 @@ fn apply_all<B: Base>(
         (spec.setting_of network.now header.now close_time) header.now.id_pool
         (envelopes_at envelopes.now order.now) fees.now entries.old.current).id_pool) }
 {
+    transaction_laws();
     let mut id_pool = header.id_pool;
     let mut i = 0;
     while i < order.len() {
@@ -111,7 +110,6 @@ fn apply_in_order<B: Base>(
     requires lumens { (total (held asset.Native) entries.old.current +ℤ header.now.fee_pool) ≡ header.now.total_coins }
     requires fee_pool { pos 0 ≤ℤ header.now.fee_pool }
     requires seq { header.now.ledger_seq < last_seq }
-    requires laws { TransactionLaws }
     requires within { xdr.transaction_set.within set.now }
     requires fit { laws.AreAllFit set.now.txs }
     requires ids { laws.CanDraw (100 * length order.now) header.now.id_pool }
@@ -120,6 +118,7 @@ fn apply_in_order<B: Base>(
     ensures { IfOk result (λ done. spec.IsApplied (spec.setting_of network.now header.now close_time) set.now
         entries.old entries.new done) }
 {
+    transaction_laws();
     let alloc = set.txs.allocator();
     let envelopes = set.txs.as_slice();
     let base_fee = set_base_fee(header, set);

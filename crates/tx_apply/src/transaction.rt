@@ -4,7 +4,6 @@ ghost use Rattle.std.specs.Prelude.{◌≡◌, ◌≤◌, ◌<◌, [], length, I
 ghost use Rattle.entry_map.specs.Undo.{with_current};
 ghost use Rattle.op_form.specs.Sequences.{last_seq};
 ghost use Rattle.op_laws.specs.Underway.{IsSettled, IsUnderway};
-ghost use Rattle.op_laws.specs.Steps.{TransactionLaws};
 ghost use Rattle.tx_apply.specs.Laws.{AreFit, CanDraw};
 ghost use Rattle.tx_apply.specs.Transaction as spec;
 
@@ -14,6 +13,7 @@ use crate::running::run;
 use entry_map::{Base, Entries};
 use item_list::ItemList;
 use ledger_types::{AccountId, Hash};
+use op_laws::steps::transaction_laws;
 use op_types::{OperationResult, Transaction, TransactionOutcome, TransactionV0};
 use signer_check::Checker;
 use sponsor_rules::Ctx;
@@ -27,7 +27,6 @@ fn apply_operations<B: Base>(
     entries: &mut Entries<'_, B>,
 ) -> Result<TransactionOutcome, AllocError>
     requires underway { IsUnderway ctx.old entries.old.current }
-    requires laws { TransactionLaws }
     requires few { length tx.now.operations ≤ 100 }
     requires fit { AreFit tx.now.operations }
     requires ids { CanDraw 100 ctx.old.id_pool }
@@ -77,7 +76,6 @@ pub(crate) fn apply_transaction<B: Base>(
     requires settled { IsSettled ctx.old.id_pool entries.old.current }
     requires closed { ctx.old.sponsorships ≡ [] }
     requires seq { ctx.old.seq < last_seq }
-    requires laws { TransactionLaws }
     requires few { length tx.now.operations ≤ 100 }
     requires fit { AreFit tx.now.operations }
     requires ids { CanDraw 100 ctx.old.id_pool }
@@ -90,6 +88,7 @@ pub(crate) fn apply_transaction<B: Base>(
     ensures id_pool { OnOk result (ctx.new.id_pool ≡ (spec.transaction_applied pays base_fee ctx.old hash.now
         checker.old.signatures tx.now entries.old.current).id_pool) }
 {
+    transaction_laws();
     let outcome = judge(pays, base_fee, ctx, checker, tx, entries)?;
     let source = tx.source_account.account_id();
     remove_used(entries, ctx, hash, &source, tx.operations.as_slice())?;

@@ -7,7 +7,7 @@ loop-i-preserved g c =
     let there : get_or c.args.order.now c.loop-i.i 0 < length c.args.envelopes.now = search rules in
     let fits : FitsSigned w64 c.in_ok-fee.fee = search rules in
     let sum_fits : FitsSigned w64 c.more-fee_pool.result = search rules in (
-      step_to c.requires.laws _ c.args.header.now c.args.envelopes.now c.args.order.now c.args.fees.now
+      step_to c.transaction_laws.ensures _ c.args.header.now c.args.envelopes.now c.args.order.now c.args.fees.now
           c.loop-i.fees c.args.entries.now c.loop-i.entries _ c.loop-i.i c.index-envelopes-order.result
           c.take_next_fee.new.entries c.take_next_fee.new.fees _ c.loop-i.invariant.0 c.loop-i-test.true there
           c.index-envelopes-order.is c.in_ok-fee.ensures.entries c.in_ok-fee.ensures.fees
@@ -21,7 +21,7 @@ more-fee_pool-requires-clause-fits g c =
     let there : get_or c.args.order.now c.loop-i.i 0 < length c.args.envelopes.now = search rules in
     let fits : FitsSigned w64 c.in_ok-fee.fee = search rules in
     let top : c.args.header.now.total_coins ≤ℤ greatest_i64 = search rules in
-    fits_pool c.requires.laws _ c.args.header.now c.args.envelopes.now c.args.order.now c.args.fees.now
+    fits_pool c.transaction_laws.ensures _ c.args.header.now c.args.envelopes.now c.args.order.now c.args.fees.now
     c.loop-i.fees c.args.entries.now c.loop-i.entries _ c.loop-i.i c.index-envelopes-order.result _
     c.loop-i.invariant.0 c.loop-i-test.true there c.index-envelopes-order.is
     (to_z-of_z w64 c.in_ok-fee.fee fits ∙ c.in_ok-fee.ensures.fee) top

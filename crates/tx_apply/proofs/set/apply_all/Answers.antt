@@ -25,7 +25,7 @@ loop-i-preserved g c =
     let within : transaction_envelope.within c.index-envelopes-order.result =
     subst (λ (entire : TransactionEnvelope). transaction_envelope.within entire) (sym c.index-envelopes-order.is)
     (c.requires.within (get_or c.args.order.now c.loop-i.i 0) c.index-envelopes-order.result there) in
-    let sound = envelope_sound c.requires.laws setting c.loop-i.id_pool c.index-envelopes-order.result
+    let sound = envelope_sound c.transaction_laws.ensures setting c.loop-i.id_pool c.index-envelopes-order.result
     c.loop-i.entries.current c.loop-i.invariant.0.settled c.requires.seq fit in
     let described = c.in_ok-id_pool.ensures.results in (
       step_to setting c.args.header.now.id_pool c.args.envelopes.now c.args.order.now c.args.fees.now

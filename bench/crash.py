@@ -1,7 +1,7 @@
 #!/usr/bin/env python3
 """Kills runs over a store at random moments, and looks at what each leaves.
 
-    bench/crash.py [PROGRAM [WORKERS]]
+    bench/crash.py [PROGRAM [WORKERS [old]]]
 
 PROGRAM is the built program, crates/ledger/out/ledger of this repository where none is given. The runs that are killed have so many WORKERS
 beside their closing threads, none where nothing is said. `init` makes a store at ledger 1 in a folder of
@@ -12,6 +12,9 @@ complete run takes. The others follow from the output: a little after the moment
 What a killed run printed must be a prefix of the complete run's text. Its files must open, by the store in Python in tests/models, to the
 ledger of the last complete `closed` line that came, or to the next one; a run without records must end at that ledger, and a run over the
 records that follow print what the complete run printed from there on.
+
+With `old` the store is of format 1, which a run brings over first, and three quarters of the moments lie in the first twentieth of a run,
+where it does so.
 
 Such a crash is one of the process alone: what it wrote stays in the memory of the system. That power is lost is what the contracts of the
 store speak of, and what `tests/stops.py` tries.
@@ -111,10 +114,12 @@ class Watched:
         return self.out.decode(), self.process.wait() == 0
 
 
-def killed(command, folder, source, moments, length, took):
+def killed(command, folder, source, moments, length, took, is_old):
     """What a run printed until a random moment, and whether it had ended by itself."""
     it = Watched(command, folder, source)
-    if moments.random() < 0.5:
+    if is_old and moments.random() < 0.75:
+        time.sleep(moments.uniform(0, 0.05 * took))
+    elif moments.random() < 0.5:
         time.sleep(moments.uniform(0, 1.1 * took))
     else:
         it.wait_for(moments.randrange(length), 10 * took)
@@ -131,7 +136,7 @@ def content(path):
 
 
 def judged(program, folder, expected, records, out):
-    """How many ledgers a store opens to beyond those that a killed run printed, and in which epoch; or what is wrong."""
+    """How many ledgers a store opens to beyond those that a killed run printed, in which epoch, and in which format; or what is wrong."""
     if not expected.text(0).startswith(out):
         return "what was printed is no prefix of the entire text"
     try:
@@ -145,20 +150,22 @@ def judged(program, folder, expected, records, out):
         return f"after {opened} closes a run ends elsewhere"
     if run(program, ["run"], folder, b"".join(records[opened:])) != expected.text(opened):
         return f"after {opened} closes other lines follow"
-    return opened - closed, store.epoch
+    return opened - closed, store.epoch, store.form
 
 
 def report(seen, whole):
     """Prints what the stores of the killed runs opened to."""
-    ends, epochs = (collections.Counter(column) for column in zip(*seen))
+    ends, epochs, forms = (collections.Counter(column) for column in zip(*seen))
     print(f"{len(seen)} runs over {RECORDS} records, {len(seen) - whole} of them killed before their end:"
           f" {ends[0]} stores open to the last ledger that was printed, {ends[1]} to the next one")
     print("    " + ", ".join(f"{epochs[epoch]} of them in epoch {epoch}" for epoch in sorted(epochs)))
+    print("    " + ", ".join(f"{forms[form]} of them in format {form}" for form in sorted(forms)))
 
 
 def main():
     program = os.path.abspath(sys.argv[1] if len(sys.argv) > 1 else built("ledger"))
     command = [program, "run", *(["--workers", sys.argv[2]] if len(sys.argv) > 2 else [])]
+    is_old = sys.argv[3:] == ["old"]
     data, records, lines = story()
     expected = Expected(model.ledger_of(model.sha(NETWORK.encode()), *model.cut_image(model.Text(data))).hash.hex(), lines)
     moments, seen, whole, wrong = random.Random(SEED), [], 0, 0
@@ -169,6 +176,12 @@ def main():
         os.mkdir(made)
         if run(program, ["init", "--network", NETWORK], made, data):
             stop("init made no store")
+        if is_old:
+            with open(f"{made}/ledger-store/image0", "r+b") as file:
+                kept = stores.in_format_1(file.read())
+                file.seek(0)
+                file.write(kept)
+                file.truncate()
         shutil.copytree(made, fresh)
         begun = time.perf_counter()
         if run(program, ["run"], fresh, b"".join(records)) != expected.text(0):
@@ -177,7 +190,7 @@ def main():
         while len(seen) - whole + wrong < KILLS:
             shutil.rmtree(fresh)
             shutil.copytree(made, fresh)
-            out, ended = killed(command, fresh, source, moments, len(expected.text(0)), took)
+            out, ended = killed(command, fresh, source, moments, len(expected.text(0)), took, is_old)
             found = judged(program, fresh, expected, records, out)
             if isinstance(found, str):
                 print(found)

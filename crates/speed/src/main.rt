@@ -16,8 +16,10 @@
 //!     speed store-append COUNT SIZE appends so many records to it, each of so many bytes
 //!     speed store-roll BYTES 0      goes on to an image of so many bytes
 //!     speed store-open BYTES 0      makes the image and opens the store alone
+//!     speed store-hash BYTES TIMES  makes the encoding of an image of so many bytes, and hashes it so many times
 //!
-//! These print how many stores were made, how many records were appended, or how many there were.
+//! These print how many stores were made, how many records were appended, or how many there were, and the sum of the
+//! hashes' first bytes.
 #![tactic(auto)]
 
 mod order_books;

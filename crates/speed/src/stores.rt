@@ -3,6 +3,7 @@
 ghost use Rattle.std.specs.Prelude.{IfSome};
 ghost use Rattle.xdr_header.specs.Image.{start_image};
 
+use hash_ids::hash;
 use image_store::{AppendBuf, Store};
 use ledger_types::Hash;
 use outside::{Access, DirVolume, LockFiles};
@@ -88,8 +89,19 @@ fn roll<R: LockFiles>(
     Some(mounted.closes.len())
 }
 
-/// Runs a command on the store, where there is such a command, and answers how many records there were, or how many
-/// stores were made.
+/// Hashes the encoding of an image of so many bytes so many times, and answers the sum of the hashes' first bytes.
+fn hash_image(alloc: Global, count: usize, times: usize) -> Option<usize> {
+    let text = image_text(alloc, count).ok()?;
+    let mut sum: usize = 0;
+    for _ in 0..times {
+        let digest = hash(text.as_slice());
+        sum = sum.wrapping_add(digest.0[0] as usize);
+    }
+    Some(sum)
+}
+
+/// Runs a command on the store, where there is such a command, and answers how many records there were, how many
+/// stores were made, or a sum of bytes.
 pub fn pass_store<R: LockFiles + Drop>(
     alloc: Global,
     system: R,
@@ -103,6 +115,7 @@ pub fn pass_store<R: LockFiles + Drop>(
         b"store-append" => append(alloc, &mut vol, count, size),
         b"store-roll" => roll(alloc, &mut vol, count, true),
         b"store-open" => roll(alloc, &mut vol, count, false),
+        b"store-hash" => hash_image(alloc, count, size),
         _ => None,
     }
 }

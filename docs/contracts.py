@@ -101,7 +101,21 @@ def definitions_of(text: str) -> Dict[str, Tuple[str, str]]:
     return found
 
 
-def clauses_after(text: str, quiet: str, at: int, known: Dict[str, Tuple[str, str]]) -> Tuple[List[Clause], int, bool]:
+def files_of(text: str) -> Set[str]:
+    """The names that a file of code gives to entire files of definitions."""
+    return set(re.findall(r"ghost use Rattle\.[\w.]+\.specs\.[\w.]+ as (\w+);", text)) | {"spec"}
+
+
+def cited(clause: str, known: Dict[str, Tuple[str, str]], files: Set[str]) -> List[str]:
+    """The definitions that a clause cites, in its order."""
+    words = [(word, word in known) for word in WORD.findall(re.sub(r"\b(\w+)\.(\w+)", lambda it: (
+        f" {it[1]}\0{it[2]} " if it[1] in files else it[0]), clause))]
+    return list(dict.fromkeys(word.partition("\0")[2] or word for word, is_known in words if is_known or "\0" in word))
+
+
+def clauses_after(
+    text: str, quiet: str, at: int, known: Dict[str, Tuple[str, str]], files: Set[str]
+) -> Tuple[List[Clause], int, bool]:
     """The clauses of a signature that begins at an offset, the offset after them, and whether the function can do nothing, as a law."""
     clauses: List[Clause] = []
     opened = quiet.index("(", at)
@@ -112,11 +126,8 @@ def clauses_after(text: str, quiet: str, at: int, known: Dict[str, Tuple[str, st
         if clause:
             end = closing(quiet, clause.end() - 1)
             inner = text[clause.end():end - 1]
-            cites = list(dict.fromkeys(
-                word for raw in WORD.findall(inner) for word in (raw.removeprefix("spec."),) if word in known))
-            cites += [name for name in re.findall(r"\bspec\.(\w+)", inner) if name not in cites]
             line = text.count("\n", 0, clause.start(1)) + 1
-            clauses.append(Clause(clause[1], clause[2] or "", line, inner, cites))
+            clauses.append(Clause(clause[1], clause[2] or "", line, inner, cited(inner, known, files)))
             at = end
         elif quiet[at] in "{;":
             return clauses, at, is_law
@@ -128,14 +139,14 @@ def clauses_after(text: str, quiet: str, at: int, known: Dict[str, Tuple[str, st
 def functions_in(path: str) -> List[Function]:
     """The functions of a file of code."""
     text = text_of(path)
-    quiet, known = quieted(text), definitions_of(text)
+    quiet, known, files = quieted(text), definitions_of(text), files_of(text)
     owners = owners_in(quiet)
     below = os.path.relpath(path, TOP)
     found = []
     for head in HEAD.finditer(quiet):
         around = [it for it in owners if it[0] <= head.start() < it[1]]
         owner, is_trait = (around[-1][2], around[-1][3]) if around else ("", False)
-        clauses, at, is_law = clauses_after(text, quiet, head.end(), known)
+        clauses, at, is_law = clauses_after(text, quiet, head.end(), known, files)
         end = closing(quiet, at) if quiet[at] == "{" else at + 1
         line = text.count("\n", 0, head.start(2)) + 1
         is_public = head[1] == "pub " or is_trait

@@ -1,5 +1,6 @@
 #!/usr/bin/env python3
-"""Writes docs/INDEX.md: each public function that has a contract, where it is, its clauses, and what runs or attacks it.
+"""Writes docs/INDEX.md: each public function that has a contract, where it is, its clauses, and what runs or attacks it; and each file of
+definitions, with what it says of itself.
 
     docs/index.py            writes it
     docs/index.py --check    ends with 1 where it would write another one
@@ -18,19 +19,21 @@ import sys
 from collections import defaultdict
 from typing import Dict, Iterable, Iterator, List, Set, Tuple
 
+import reached
 from contracts import TOP, Function, below, crates, functions, text_of
 
 PATH = f"{TOP}/docs/INDEX.md"
 # what runs functions: the word in the index, the crate, and whether all of its functions are begun with
 RUNNERS = (("program", "ledger", False), ("probe", "probe", False), ("speed", "speed", False), ("threads", "board_tests", True))
 NAME = re.compile(r"(\.|::)?\b([a-z_]\w*)\b")
-HEADER = """# Index of public functions with contracts
+HEADER = """# Index of contracts and definitions
 
 Written by `docs/index.py`; don't edit it. A clause without a name stands in parentheses, with up to three definitions
 that it cites. "Run by" says which program reaches the function, judged by names alone: `program` is `ledger`, `threads`
 is `board_tests`, and `rows` means that `definition_rows` evaluates a definition which a clause cites. A `law` has nothing
 to run. The last column counts the wrong bodies that change the function: the gate's own (`must-fail`) and those in
-`wrong_bodies/`.
+`wrong_bodies/`. Below each table are the crate's files of definitions, each with its first words, and how many of its
+definitions there are and the theorem (`Ran`) reaches.
 """
 
 
@@ -106,16 +109,39 @@ def clauses_of(function: Function) -> str:
     return ", ".join(found) or "requires alone"
 
 
+def first_words(path: str) -> str:
+    """The first sentence of the comment with which a file of definitions begins, up to a colon or semicolon outside parentheses."""
+    comment = re.match(r"(?:--.*\n)+", text_of(path))
+    text = " ".join(re.sub(r"(?m)^-- ?", "", comment[0]).split()) if comment else ""
+    for mark in re.finditer(r"[.:;](?= |$)", text):
+        before = text[:mark.start()]
+        if before.count("(") == before.count(")"):
+            return before
+    return text
+
+
+def definitions_in(crate: str, read: Dict, seen: Set) -> Iterator[str]:
+    """A line for each file of a crate's definitions."""
+    for file in sorted(file for its, file in read if its == crate and file != "Lib"):
+        named, used = len(read[crate, file][2]), sum(it[:2] == (crate, file) for it in seen)
+        count = f"{used} of {named}" if used else str(named)
+        yield f"- `specs/{file}.antt`: {first_words(f'{TOP}/crates/{crate}/specs/{file}.antt')} ({count})"
+
+
 def lines() -> Iterator[str]:
     everything = list(functions())
     run, rows, changed = runs(everything), evaluated(), attacks()
+    read = reached.read_all()
+    seen = reached.reached(read, ("stored_outcome", "Program", "Ran"))
     texts: Dict[str, str] = {}
     yield HEADER
     for crate in crates():
         public = [it for it in everything if it.crate == crate and it.is_public and it.clauses]
-        if not public:
-            continue
-        yield f"## {crate}\n\n| function | at | ensures | run by | wrong bodies |\n|---|---|---|---|---|"
+        own = list(definitions_in(crate, read, seen))
+        if public or own:
+            yield f"## {crate}\n"
+        if public:
+            yield "| function | at | ensures | run by | wrong bodies |\n|---|---|---|---|---|"
         for it in public:
             words = list(run[id(it)])
             if it.is_law:
@@ -124,7 +150,10 @@ def lines() -> Iterator[str]:
                 words.append("rows")
             place = f"{it.path[len(f'crates/{crate}/'):]}:{it.line}"
             yield f"| `{it.full_name}` | {place} | {clauses_of(it)} | {', '.join(words)} | {count_of(it, changed, texts)} |"
-        yield ""
+        if public:
+            yield ""
+        if own:
+            yield "\n".join(own) + "\n"
 
 
 def text() -> str:

@@ -52,7 +52,7 @@ def table() -> Iterator[str]:
     for path in sorted(glob.glob(f"{TOP}/crates/definition_rows/proofs/*.antt")):
         count, name = rows_of(path), os.path.basename(path)[:-len(".antt")]
         if count and name not in HELPERS:
-            yield f"| rows that the checker evaluates | `definition_rows/proofs/{name}.antt` | {count} |"
+            yield f"| rows | `definition_rows/proofs/{name}.antt` | {count} |"
     lines = text_of(f"{TOP}/crates/probe/stdout").splitlines()
     yield f"| lines that the probe has to answer | `probe/stdout` | {len(lines)} |"
     for command, count in sorted(cases_by_command().items()):

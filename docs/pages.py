@@ -161,7 +161,7 @@ def words(path: str) -> int:
 
 
 def word_counts() -> Dict[str, int]:
-    own = [path for path in claims.pages() if "/docs/" in path]
+    own = [path for path in claims.pages() if os.path.dirname(path) == f"{TOP}/docs"]
     return {"docs": sum(words(path) for path in own), "README.md": words(f"{TOP}/README.md")}
 
 

@@ -83,6 +83,17 @@ def repeated_headings(page: str) -> Iterator[str]:
         seen.add(heading)
 
 
+# ---- quotations
+
+
+def wrong_quotations() -> Iterator[str]:
+    """The lines in blocks of READING.md that are no lines of the code or the definitions."""
+    lines = {line.strip() for path in glob.glob(f"{TOP}/crates/*/s*/*.*t*") for line in text_of(path).splitlines()}
+    for quoted in re.findall(r"(?m)^ {4}(.*)$", text_of(f"{TOP}/docs/READING.md")):
+        if quoted.strip() not in lines:
+            yield f"docs/READING.md: there is no line `{quoted.strip()}`"
+
+
 # ---- counts
 
 
@@ -171,6 +182,7 @@ def faults() -> Iterator[str]:
         yield from (f"{name}: there is no {path}" for path in dead_paths(page))
         yield from (f"{name}: the heading \"{heading}\" is there twice" for heading in repeated_headings(page))
         yield from (f"{name}: {count}" for count in stale_counts(page))
+    yield from wrong_quotations()
     yield from table_faults()
     yield from edit_faults()
     yield from unknown_definitions()

@@ -4,9 +4,10 @@
     docs/pages.py             prints what is wrong; ends with 1 where anything is
     docs/pages.py --counts    prints the counts that the pages have to state
 
-A path that a page names exists; no two headings of a page are the same; a count that a page states is that of the sources; a definition
-that DEFINITIONS.md names is in the files of its section; ARCHITECTURE.md has each crate once, in at most 40 words; GATE.md names the crates that
-have must-fail edits; the pages of docs/ have at most 22,000 words together and README.md at most 900. Python 3.9 or later and its standard library.
+A path that a page names exists; no two headings of a page are the same; a count that a page states is that of the sources; READING.md
+quotes lines that are there; a definition that DEFINITIONS.md names is in the files of its section; ARCHITECTURE.md has each crate once, in at
+most 40 words; GATE.md names the crates that have must-fail edits; the pages of docs/ have at most 22,000 words together and README.md at
+most 900. Python 3.9 or later and its standard library.
 """
 
 from __future__ import annotations

@@ -32,8 +32,8 @@ Written by `docs/index.py`; don't edit it. A clause without a name stands in par
 that it cites. "Run by" says which program reaches the function, judged by names alone: `program` is `ledger`, `threads`
 is `board_tests`, and `rows` means that `definition_rows` evaluates a definition which a clause cites. A `law` has nothing
 to run. The last column counts the wrong bodies that change the function: the gate's own (`must-fail`) and those in
-`wrong_bodies/`. Below each table are the crate's files of definitions, each with its first words, and how many of its
-definitions there are and the theorem (`Ran`) reaches.
+`wrong_bodies/`. Below each table are the crate's files of definitions, each with its first words and its number of
+definitions; "3 of 5" says that the theorem (`Ran`) reaches three of them.
 """
 
 

@@ -25,7 +25,7 @@ from contracts import TOP, text_of
 
 MOST_WORDS, MOST_WORDS_OF_README = 22000, 900
 # paths of a store, an archive or a user's own files, which aren't in the repository
-ELSEWHERE = re.compile(r"^(ledger-store|crates/\w+/out|history|bucket|ledger|transactions|results|archive|out|/dev|path/to)\b")
+ELSEWHERE = re.compile(r"^(ledger-store|crates/\w+/out|history|bucket|ledger/(?!src|specs|proofs)|transactions|results|archive|out|/dev|path/to)(?!\w)")
 KINDS = r"(?:rt|antt|py|md|edit|tsv|txt|sh|c|json|image|records)"
 DEFINITION = re.compile(rf"^\w+/[A-Z]\w*(?:\.(?!{KINDS}$)\w+)?$")
 PATH = re.compile(rf"^(?:[\w.-]+/)+(?:[\w.-]+)?$|^[\w-]+\.{KINDS}$")

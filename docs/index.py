@@ -32,7 +32,7 @@ Written by `docs/index.py`; don't edit it. A clause without a name stands in par
 that it cites. "Run by" says which program reaches the function, judged by names alone: `program` is `ledger`, `threads`
 is `board_tests`, and `rows` means that `definition_rows` evaluates a definition which a clause cites. A `law` has nothing
 to run. The last column counts the wrong bodies that change the function: the gate's own (`must-fail`) and those in
-`wrong_bodies/`. Below each table are the crate's files of definitions, each with its first words and its number of
+`wrong_bodies/`. Above each table is what the crate's root file says of it. Below each table are the crate's files of definitions, each with its first words and its number of
 definitions; "3 of 5" says that the theorem (`Ran`) reaches three of them.
 """
 
@@ -120,6 +120,16 @@ def first_words(path: str) -> str:
     return text
 
 
+def purpose_of(crate: str) -> str:
+    """What a crate says of itself: the first paragraph at the head of its root file."""
+    for name in ("lib", "main"):
+        path = f"{TOP}/crates/{crate}/src/{name}.rt"
+        if os.path.isfile(path):
+            head = re.match(r"(?://!.*\n)+", text_of(path))
+            return " ".join(re.sub(r"(?m)^//! ?", "", head[0]).split("\n\n")[0].split()) if head else ""
+    return ""
+
+
 def definitions_in(crate: str, read: Dict, seen: Set) -> Iterator[str]:
     """A line for each file of a crate's definitions."""
     for file in sorted(file for its, file in read if its == crate and file != "Lib"):
@@ -138,8 +148,7 @@ def lines() -> Iterator[str]:
     for crate in crates():
         public = [it for it in everything if it.crate == crate and it.is_public and it.clauses]
         own = list(definitions_in(crate, read, seen))
-        if public or own:
-            yield f"## {crate}\n"
+        yield f"## {crate}\n\n{purpose_of(crate)}\n"
         if public:
             yield "| function | at | ensures | run by | wrong bodies |\n|---|---|---|---|---|"
         for it in public:

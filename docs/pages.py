@@ -20,6 +20,7 @@ import sys
 from typing import Callable, Dict, Iterator, List, Set, Tuple
 
 import claims
+import index
 import reached
 from contracts import TOP, text_of
 
@@ -135,6 +136,8 @@ def table_faults() -> Iterator[str]:
     there = {os.path.basename(path) for path in glob.glob(f"{TOP}/crates/*")}
     named = [name for name, _ in rows if name in there]
     for crate in sorted(there):
+        if not index.purpose_of(crate):
+            yield f"crates/{crate}/src: the root file doesn't say what the crate is for"
         if named.count(crate) != 1:
             yield f"docs/ARCHITECTURE.md: `{crate}` is in its tables {named.count(crate)} times"
     for name, what in rows:

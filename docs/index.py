@@ -16,6 +16,7 @@ import glob
 import os
 import re
 import sys
+import textwrap
 from collections import defaultdict
 from typing import Dict, Iterable, Iterator, List, Set, Tuple
 
@@ -28,12 +29,14 @@ RUNNERS = (("program", "ledger", False), ("probe", "probe", False), ("speed", "s
 NAME = re.compile(r"(\.|::)?\b([a-z_]\w*)\b")
 HEADER = """# Index of contracts and definitions
 
-Written by `docs/index.py`; don't edit it. A clause without a name stands in parentheses, with up to three definitions
-that it cites. "Run by" says which program reaches the function, judged by names alone: `program` is `ledger`, `threads`
-is `board_tests`, and `rows` means that `definition_rows` evaluates a definition which a clause cites. A `law` has nothing
-to run. The last column counts the wrong bodies that change the function: the gate's own (`must-fail`) and those in
-`wrong_bodies/`. Above each table is what the crate's root file says of it. Below each table are the crate's files of definitions, each with its first words and its number of
-definitions; "3 of 5" says that the theorem (`Ran`) reaches three of them.
+Written by `docs/index.py`; don't edit it. For each crate: what its root file says of it; its public functions that have
+clauses; and its files of definitions, each with its first words and the number of its definitions, where "3 of 5" says
+that the theorem (`Ran`) reaches three of them.
+
+A clause without a name stands in parentheses, with up to three definitions that it cites. "Run by" says which program
+reaches the function, judged by names alone: `program` is `ledger`, `threads` is `board_tests`, and `rows` means that
+`definition_rows` evaluates a definition which a clause cites. A `law` has nothing to run. The last column counts the
+wrong bodies that change the function: the gate's own (`must-fail`) and those in `wrong_bodies/`.
 """
 
 
@@ -148,7 +151,7 @@ def lines() -> Iterator[str]:
     for crate in crates():
         public = [it for it in everything if it.crate == crate and it.is_public and it.clauses]
         own = list(definitions_in(crate, read, seen))
-        yield f"## {crate}\n\n{purpose_of(crate)}\n"
+        yield f"## {crate}\n\n{textwrap.fill(purpose_of(crate), 120, break_long_words=False, break_on_hyphens=False)}\n"
         if public:
             yield "| function | at | ensures | run by | wrong bodies |\n|---|---|---|---|---|"
         for it in public:

@@ -3,6 +3,7 @@
 
     docs/pages.py             prints what is wrong; ends with 1 where anything is
     docs/pages.py --counts    prints the counts that the pages have to state
+    docs/pages.py --write     puts these into the pages
 
 A path that a page names exists; no two headings of a page are the same; a count that a page states is that of the sources; READING.md
 quotes lines that are there; a definition that DEFINITIONS.md names is in the files of its section; ARCHITECTURE.md has each crate once, in at
@@ -120,6 +121,17 @@ COUNTS: Tuple[Tuple[str, Callable[[], int]], ...] = (
 )
 
 
+def write_counts() -> None:
+    """Puts the right counts into the pages."""
+    for page in pages():
+        text = new = text_of(page)
+        for pattern, count in COUNTS:
+            new = re.sub(pattern.replace(" ", r"\s+"), lambda it: it[0].replace(it[1], f"{count():,}" if "," in it[1] else str(count())), new)
+        if new != text:
+            with open(page, "w", encoding="utf-8") as file:
+                file.write(new)
+
+
 def stale_counts(page: str) -> Iterator[str]:
     text = " ".join(text_of(page).split())
     for pattern, count in COUNTS:
@@ -203,6 +215,8 @@ if __name__ == "__main__":
             print(f"{count():6} {pattern}")
         print(word_counts())
         sys.exit(0)
+    if "--write" in sys.argv[1:]:
+        write_counts()
     found = list(faults())
     print("\n".join(found), end="\n" if found else "")
     sys.exit(1 if found else 0)

@@ -1,5 +1,5 @@
 #!/usr/bin/env python3
-"""Counts what is tested, from the data: prints the table of docs/TESTING.md.
+"""Counts what is tested, from the data: prints the table of docs/TESTING.md, or with --write puts it there.
 
 Python 3.9 or later and its standard library.
 """
@@ -10,6 +10,7 @@ import collections
 import glob
 import os
 import re
+import sys
 from typing import Iterator
 
 from cases import names, read_case
@@ -67,5 +68,17 @@ def table() -> Iterator[str]:
     yield f"| wrong bodies beside it | `wrong_bodies/` | {len(glob.glob(f'{TOP}/wrong_bodies/*/*.edit'))} |"
 
 
+def write() -> None:
+    """Puts the table into docs/TESTING.md."""
+    path = f"{TOP}/docs/TESTING.md"
+    before, head, after = text_of(path).partition("| what | where | count |")
+    rest = after[after.index("\n\n"):]
+    with open(path, "w", encoding="utf-8") as file:
+        file.write(before + "\n".join(table()) + rest)
+
+
 if __name__ == "__main__":
-    print("\n".join(table()))
+    if "--write" in sys.argv[1:]:
+        write()
+    else:
+        print("\n".join(table()))

@@ -6,9 +6,9 @@
     docs/pages.py --write     puts these into the pages
 
 A path that a page names exists; no two headings of a page are the same; a count that a page states is that of the sources; READING.md
-quotes lines that are there; a definition that DEFINITIONS.md names is in the files of its section; ARCHITECTURE.md has each crate once, in at
-most 40 words; GATE.md names the crates that have must-fail edits; the pages of docs/ have at most 22,000 words together and README.md at
-most 900. Python 3.9 or later and its standard library.
+quotes lines that are there; a definition that DEFINITIONS.md names is in the files of its section; ARCHITECTURE.md has each crate once, in
+at most 40 words; GATE.md names the crates that have must-fail edits; the pages of docs/ have at most 22,000 words together and README.md
+at most 900. Python 3.9 or later and its standard library.
 """
 
 from __future__ import annotations
@@ -27,7 +27,8 @@ from contracts import TOP, text_of
 
 MOST_WORDS, MOST_WORDS_OF_README = 22000, 900
 # paths of a store, an archive or a user's own files, which aren't in the repository
-ELSEWHERE = re.compile(r"^(ledger-store|crates/\w+/out|history|bucket|ledger/(?!src|specs|proofs)|transactions|results|archive|out|/dev|path/to)(?!\w)")
+ELSEWHERE = re.compile(
+    r"^(ledger-store|crates/\w+/out|history|bucket|ledger/(?!src|specs|proofs)|transactions|results|archive|out|/dev|path/to)(?!\w)")
 KINDS = r"(?:rt|antt|py|md|edit|tsv|txt|sh|c|json|image|records)"
 DEFINITION = re.compile(rf"^\w+/[A-Z]\w*(?:\.(?!{KINDS}$)\w+)?$")
 PATH = re.compile(rf"^(?:[\w.-]+/)+(?:[\w.-]+)?$|^[\w-]+\.{KINDS}$")
@@ -121,15 +122,22 @@ COUNTS: Tuple[Tuple[str, Callable[[], int]], ...] = (
 )
 
 
+def with_counts(text: str) -> str:
+    """A page with the right counts."""
+    for pattern, count in COUNTS:
+        for found in re.findall(pattern.replace(" ", r"\s+"), text):
+            right = f"{count():,}" if "," in found else str(count())
+            text = re.sub(pattern.replace(" ", r"\s+"), lambda it: it[0].replace(it[1], right), text)
+    return text
+
+
 def write_counts() -> None:
     """Puts the right counts into the pages."""
     for page in pages():
-        text = new = text_of(page)
-        for pattern, count in COUNTS:
-            new = re.sub(pattern.replace(" ", r"\s+"), lambda it: it[0].replace(it[1], f"{count():,}" if "," in it[1] else str(count())), new)
-        if new != text:
+        text = text_of(page)
+        if with_counts(text) != text:
             with open(page, "w", encoding="utf-8") as file:
-                file.write(new)
+                file.write(with_counts(text))
 
 
 def stale_counts(page: str) -> Iterator[str]:

@@ -125,11 +125,11 @@ def say(name, counts):
     *numbers, edits, seconds, size = counts
     seconds = "" if seconds is None else f"{seconds:.0f}"
     size = "" if size is None else f"{size / 1e6:.0f}"
-    print(f"| {name} | {' | '.join(map(str, numbers))} | {edits or ''} | {seconds} | {size} |")
+    print(f"    {name:<16}{''.join(f'{number:>13}' for number in numbers)}{edits:>7}{seconds:>9}{size:>6}")
 
 
 def report(notes):
-    print("| crate | code | definitions | proofs | edits | seconds | MB |\n|---|---|---|---|---|---|---|")
+    print(f"    {'crate':<16}{'code':>13}{'definitions':>13}{'proofs':>13}{'edits':>7}{'seconds':>9}{'MB':>6}")
     rows = [(name, row(name, notes)) for name in crates()]
     for name, counts in rows:
         say(name, counts)

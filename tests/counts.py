@@ -1,5 +1,5 @@
 #!/usr/bin/env python3
-"""Counts what is tested, from the data: prints the table of docs/TESTING.md.
+"""Counts what is tested, from the data: prints the table of docs/TESTING.md, or with --write puts it there.
 
 Python 3.9 or later and its standard library.
 """
@@ -10,6 +10,7 @@ import collections
 import glob
 import os
 import re
+import sys
 from typing import Iterator
 
 from cases import names, read_case
@@ -52,7 +53,7 @@ def table() -> Iterator[str]:
     for path in sorted(glob.glob(f"{TOP}/crates/definition_rows/proofs/*.antt")):
         count, name = rows_of(path), os.path.basename(path)[:-len(".antt")]
         if count and name not in HELPERS:
-            yield f"| rows that the checker evaluates | `definition_rows/proofs/{name}.antt` | {count} |"
+            yield f"| rows | `definition_rows/proofs/{name}.antt` | {count} |"
     lines = text_of(f"{TOP}/crates/probe/stdout").splitlines()
     yield f"| lines that the probe has to answer | `probe/stdout` | {len(lines)} |"
     for command, count in sorted(cases_by_command().items()):
@@ -67,5 +68,17 @@ def table() -> Iterator[str]:
     yield f"| wrong bodies beside it | `wrong_bodies/` | {len(glob.glob(f'{TOP}/wrong_bodies/*/*.edit'))} |"
 
 
+def write() -> None:
+    """Puts the table into docs/TESTING.md."""
+    path = f"{TOP}/docs/TESTING.md"
+    before, head, after = text_of(path).partition("| what | where | count |")
+    rest = after[after.index("\n\n"):]
+    with open(path, "w", encoding="utf-8") as file:
+        file.write(before + "\n".join(table()) + rest)
+
+
 if __name__ == "__main__":
-    print("\n".join(table()))
+    if "--write" in sys.argv[1:]:
+        write()
+    else:
+        print("\n".join(table()))

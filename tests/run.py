@@ -7,8 +7,8 @@ leaves in its store with what it has to be.
 Where no program is named, these are crates/ledger/out/ledger, built by LLVM, and crates/ledger/out/ledger.by-rattle, built by
 Rattle's own compiler; one that is missing is proved and built by `rt run`. A C compiler (cc) makes the shim that has calls of the C
 library fail. Before the runs it looks whether each wrong body of `wrong_bodies/` and each must-fail edit still applies, whether
-crates.txt lists just what each crate names, whether what scripts write is up to date, and whether the tool in `tools/` reads and
-copies files as they are. The last line is `N passed, M failed`, and the exit status is 1 where anything failed, 2 where the tests
+crates.txt lists just what each crate names, whether what scripts write is up to date, whether the pages of docs/ agree with the
+sources, and whether the tool in `tools/` reads and copies files as they are. The last line is `N passed, M failed`, and the exit status is 1 where anything failed, 2 where the tests
 can't be run.
 
 Python 3.9 or later and its standard library; Linux.
@@ -37,6 +37,7 @@ import bridge_vouch
 import bridge_whole
 import cases
 import crate_list
+import documents
 import generated
 import locks
 import stops
@@ -122,7 +123,7 @@ def main() -> None:
     total = Tally()
     if not asked.only:
         tools = (bridge, bridge_forms, bridge_archive, bridge_vouch, bridge_compare, bridge_whole, bridge_made)
-        for module in (applies, crate_list, generated, *tools):
+        for module in (applies, crate_list, generated, documents, *tools):
             total.add(module.check(TOP))
     with tempfile.TemporaryDirectory(prefix="ledger-shim-") as folder:
         shim = compiled_shim(folder)

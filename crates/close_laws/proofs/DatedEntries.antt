@@ -50,21 +50,21 @@ module _ (version seq close_time : ℕ) where
     signers = dated.signers;
   }
 
-  count_dated : (count : Count) (n : ℕ) (account : AccountEntry) → IsDated account
+  pub count_dated : (count : Count) (n : ℕ) (account : AccountEntry) → IsDated account
       → IsDated (with_count count n account)
   unfolding with_count
   count_dated count n account dated =
       if_either IsDated (nat_eq n (count_in count account)) account (with_new_count count n account) dated
       (new_count_dated count n account dated)
 
-  liable_dated : (owed : Liabilities) (account : AccountEntry) → IsDated account
+  pub liable_dated : (owed : Liabilities) (account : AccountEntry) → IsDated account
       → IsDated (with_account_liabilities owed account)
   liable_dated owed account dated = record {
     third = liable_third (IsThirdDated version seq close_time) tt owed account.ext dated.third;
     signers = dated.signers;
   }
 
-  signer_dated : (index : ℕ) (signer : Signer) (sponsor : Option AccountId) → IsSigner signer
+  pub signer_dated : (index : ℕ) (signer : Signer) (sponsor : Option AccountId) → IsSigner signer
       → (account : AccountEntry) → IsDated account → IsDated (with_signer_at index signer sponsor account)
   signer_dated index signer sponsor key account dated = record {
     third = sponsors_third (IsThirdDated version seq close_time) tt (λ sponsors. insert sponsors index sponsor)
@@ -72,7 +72,7 @@ module _ (version seq close_time : ℕ) where
     signers = all_insert IsSigner account.signers index signer dated.signers key;
   }
 
-  without_signer_dated : (index : ℕ) (account : AccountEntry) → IsDated account
+  pub without_signer_dated : (index : ℕ) (account : AccountEntry) → IsDated account
       → IsDated (without_signer index account)
   without_signer_dated index account dated = record {
     third = sponsors_third (IsThirdDated version seq close_time) tt (λ sponsors. remove sponsors index) account.ext
@@ -80,7 +80,7 @@ module _ (version seq close_time : ℕ) where
     signers = all_remove IsSigner account.signers index dated.signers;
   }
 
-  signer_sponsor_dated : (index : ℕ) (sponsor : Option AccountId) (account : AccountEntry) → IsDated account
+  pub signer_sponsor_dated : (index : ℕ) (sponsor : Option AccountId) (account : AccountEntry) → IsDated account
       → IsDated (with_signer_sponsor index sponsor account)
   signer_sponsor_dated index sponsor account dated = record {
     third = sponsors_third (IsThirdDated version seq close_time) tt (λ sponsors. slice_set sponsors index sponsor)

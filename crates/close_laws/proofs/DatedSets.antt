@@ -46,8 +46,9 @@ payload_dated version other good = tt
 
 key_dated : (ctx : Ctx) (one : Signer) → tests.is_bad_signer ctx (Some one) ≡ false → IsKeyDated ctx.version one.key
 key_dated ctx one good =
-    payload_dated ctx.version one.key (either_false (nat_lt 255 one.weight) (tests.is_bad_payload ctx.version one.key)
-    (either_false (tests.is_own_key ctx.op_source one.key) _ good))
+    payload_dated ctx.version one.key
+    (either_false (tests.is_own_key ctx.op_source one.key || nat_lt 255 one.weight)
+    (tests.is_bad_payload ctx.version one.key) good)
 
 -- ---- operations
 

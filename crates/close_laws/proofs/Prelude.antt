@@ -197,7 +197,8 @@ unfoldable pub use Rattle.close_rules.specs.xdr_tx.Operations.{bump_sequence_op,
 unfoldable pub use Rattle.close_rules.specs.xdr_tx.Operations.{create_claimable_balance_op}
 unfoldable pub use Rattle.close_rules.specs.xdr_tx.Operations.{operation}
 unfoldable pub use Rattle.close_rules.specs.xdr_tx.Operations.{operation_body}
-unfoldable pub use Rattle.close_rules.specs.xdr_tx.Transactions.{after_source, fee_bump_envelope, fee_bump_transaction}
+unfoldable pub use Rattle.close_rules.specs.xdr_tx.Transactions.{fee_bump_envelope, fee_bump_transaction}
+unfoldable pub use Rattle.close_rules.specs.xdr_tx.Transactions.{transaction_tail}
 unfoldable pub use Rattle.close_rules.specs.xdr_tx.Transactions.{transaction, transaction_envelope, transaction_set}
 unfoldable pub use Rattle.close_rules.specs.xdr_tx.Transactions.{transaction_v0, transaction_v0_envelope}
 unfoldable pub use Rattle.close_rules.specs.xdr_tx.Transactions.{transaction_v1_envelope}

@@ -1,12 +1,16 @@
 -- What holds of a record that isn't refused for what it is.
 use Rattle.close_laws.proofs.Prelude as prelude
-use prelude.{◌≡◌, ℕ, zero, suc, ◌+◌, ◌<◌, ◌≤◌, refl, sym, ap, ◌∙◌, Bool, true, false, cond, List, length, map, get_or}
+use prelude.{◌≡◌, ℕ, zero, suc, ◌+◌, ◌<◌, ◌≤◌, refl, sym, ap, ◌∙◌, Bool, true, false, cond, List, [], ◌∷◌, length}
+use prelude.{map, get_or}
 use prelude.{All, Option, Some, None, arith, ◌||◌, nat_le, slice_get, find, range_with_len, option_or, LedgerHeader}
 use prelude.{LedgerUpgrade, CloseRecord, upgrade_in, type_of, is_bad_value, is_bad_after, type_before, is_bad_at}
 use prelude.{is_out_of_profile, first_index, ClosingState, record_fault, term_fault, upgrade_fault, set_fault}
 use prelude.{less_from_unequal, natural_positive_from_unequal, natural_zero_add, leb-false, ltb-false}
 use Rattle.std.proofs.Common.{option_map}
 use Rattle.std.proofs.lemmas.Option.{slice_get-get_or}
+use Rattle.close_rules.specs.Refusals.{term_tests}
+use Rattle.close_rules.specs.entry_slots.Tests.{Tests, first_fault}
+use Rattle.op_form.proofs.Steps.{AllPass}
 use Rattle.close_rules.specs.ledger_types.declared.header.LedgerUpgrade.TheVariants as upgrade
 use Rattle.close_rules.proofs.ledger_types_proofs.Booleans.{if_some_none}
 
@@ -48,17 +52,18 @@ seq_below s closing none le =
 
 -- ---- its close time
 
+all_pass : {F : Type 0} (tests : Tests F) → first_fault tests ≡ None → AllPass tests
+all_pass [] none = tt
+all_pass (test ∷ others) none =
+    let both = if_some_none test.0 test.1 (first_fault others) none in (both.0, all_pass others both.1)
+
 -- the ledger closes after the one before
 pub later_time : (s : ClosingState) (closing : CloseRecord) → record_fault s closing ≡ None
     → s.header.scp_value.close_time ≤ closing.scp_value.close_time
 unfolding term_fault
 later_time s closing none =
-    let after_seq_end = (if_some_none _ _ _ (terms_pass s closing none)).1 in
-    let after_seq = (if_some_none _ _ _ after_seq_end).1 in
-    let after_previous = (if_some_none _ _ _ after_seq).1 in
-    let after_set_hash = (if_some_none _ _ _ after_previous).1 in
     let later = leb-false closing.scp_value.close_time s.header.scp_value.close_time
-    (if_some_none _ _ _ after_set_hash).0 in
+    (all_pass (term_tests s closing) (terms_pass s closing none)).1.1.1.1.0 in
     omega (arith, later)
 
 -- ---- its upgrades

@@ -13,7 +13,7 @@ use prelude.{index_within_signers, KeepsAggregates, view, nothing_owed, IsAccoun
 use prelude.{account_legal, account_changed, sponsors_ready, nothing_settled, account_after, account_elsewhere}
 use prelude.{signer_added, signer_removed, legal_as, SetOptionsOp, OperationResult}
 use prelude.{after_charge, with_signer_set, count_tests, map_after_weighing, map_after_signer, has_unknown}
-use prelude.{is_own_key, is_bad_signer, is_bad_domain, new_flags, source_tests}
+use prelude.{◌||◌, is_own_key, is_bad_signer, is_bad_domain, new_flags, source_tests}
 use prelude.{with_options, set_options, IsLawful, AreLawful, IsUnderway, charged_kept}
 use prelude.{charging_left, releasing_kept, released_at, pays_more, subentry_charged, next_edited, IsKeyed, none_more}
 use prelude.{IsNext, Leaves, leaves_itself, keeps_both, account_kept, first_passed, went_on}

@@ -5,8 +5,10 @@ use Rattle.image_rules.proofs.dated.are_signers_dated.Goals as goal
 
 pub loop-signer-preserved : goal.loop-signer-preserved
 loop-signer-preserved c =
-    All-more (λ (s : Signer). IsKeyDated c.args.version s.key) c.args.signers.now c.loop-signer.signer-index _
-    (omega arith) c.loop-signer.invariant (c.is_key_dated.ensures.0 c.if-not-is_key_dated.false)
+    All-more (λ (s : Signer). IsKeyDated c.args.version s.key) c.args.signers.now c.loop-signer.signer-index
+    c.signer-item.result (omega arith) c.loop-signer.invariant
+    (subst (λ (s : Signer). IsKeyDated c.args.version s.key) c.signer-item.is
+    (c.is_key_dated.ensures.0 c.if-not-is_key_dated.false))
 
 pub returns : goal.returns
 returns c = (

@@ -15,8 +15,10 @@ use Rattle.close_laws.specs.ledger_types.declared.ids.AccountId.{AccountId}
 use Rattle.close_laws.specs.ledger_types.declared.asset.TrustLineAsset.{TrustLineAsset}
 use Rattle.close_laws.specs.ledger_types.declared.asset.TrustLineAsset.TheVariants as line
 use Rattle.close_laws.specs.ledger_types.declared.signer.Signer.{Signer}
+use Rattle.close_laws.specs.ledger_types.declared.signer.SignerKey.{SignerKey}
 use Rattle.close_laws.specs.ledger_types.declared.signer.SignerKey.TheVariants as signer
 use Rattle.close_laws.specs.ledger_types.declared.account.AccountEntry.{AccountEntry}
+use Rattle.close_laws.specs.ledger_types.declared.account.AccountEntryExtensionV3.{AccountEntryExtensionV3}
 use Rattle.close_laws.specs.ledger_types.declared.offer.OfferEntry.{OfferEntry}
 use Rattle.close_laws.specs.ledger_types.declared.data_entry.DataEntry.{DataEntry}
 use Rattle.close_laws.specs.ledger_types.declared.claimable_balance.Claimant.{Claimant}
@@ -30,7 +32,9 @@ use Rattle.close_laws.specs.entry_slots.LineExtensions.{line_liabilities, use_co
 use Rattle.close_laws.specs.entry_slots.EntrySponsor.{sponsor_of}
 use Rattle.replay.specs.reserve_rules.Reserve.{greatest_i64, IsInRange, IsLineInRange}
 use Rattle.close_laws.specs.sponsor_rules.Charge.{owner_of}
+use Rattle.close_laws.specs.entry_slots.AccountExtensions.{second_in, third_in}
 use Rattle.close_laws.specs.legal_rules.OfferLiabilities.{bound_of}
+use Rattle.close_laws.specs.legal_rules.Dated.{dated_from, IsThirdDated, IsKeyDated, IsAccountDated, IsBodyDated}
 use Rattle.existence_laws.proofs.Decided.{Decided, decided_as, both, implied, opposite, below, same_number, is_true}
 use Rattle.existence_laws.proofs.Decided.{below_int, same_int, same_value, each, each_pair}
 
@@ -100,6 +104,28 @@ account_in_range a =
     (λ r. (r.range, (r.seq_num, (r.greatest_seq_num, (r.flags, (r.home_domain, r.signers))))))
     (both (balance_in_range a) (both (below_int (pos 0) a.seq_num) (both (below_int a.seq_num greatest_i64)
     (both (account_flags a.flags) (both (is_true (is_valid_text a.home_domain)) (signers_in_range a))))))
+
+-- ---- what accounts have from a version on
+
+third_dated : (version seq close_time : ℕ) (third : Option AccountEntryExtensionV3)
+    → Decided (IsThirdDated version seq close_time third)
+third_dated version seq close_time None = inl tt
+third_dated version seq close_time (Some third) =
+    both (below dated_from version) (both (below third.seq_ledger seq) (below third.seq_time close_time))
+
+key_dated : (version : ℕ) (key : SignerKey) → Decided (IsKeyDated version key)
+key_dated version (signer.SignedPayload key payload) = both (below dated_from version) (below 1 (length payload))
+key_dated version other = inl tt
+
+account_dated : (version seq close_time : ℕ) (a : AccountEntry) → Decided (IsAccountDated version seq close_time a)
+account_dated version seq close_time a =
+    decided_as (λ h. record { third = h.0; signers = h.1 }) (λ r. (r.third, r.signers))
+    (both (third_dated version seq close_time (third_in (second_in a.ext)))
+    (each (λ (s : Signer). IsKeyDated version s.key) a.signers (λ s. key_dated version s.key)))
+
+pub body_dated : (version seq close_time : ℕ) (b : LedgerEntryBody) → Decided (IsBodyDated version seq close_time b)
+body_dated version seq close_time (body.Account account) = account_dated version seq close_time account
+body_dated version seq close_time other = inl tt
 
 -- ---- trust lines, offers and data
 

@@ -11,6 +11,7 @@ use Rattle.close_laws.specs.entry_slots.Lines.{line_of}
 use Rattle.replay.proofs.entry_sums_proofs.Summing.{total_none}
 use Rattle.close_laws.specs.legal_rules.Aggregates.{counted, stated, stated_at}
 use Rattle.close_laws.specs.legal_rules.Bounds.{AreSubentriesFew, DoReservesFit, IsFilledOrEmpty}
+use Rattle.close_laws.specs.legal_rules.Dated.{IsBodyDated}
 use Rattle.close_laws.specs.legal_rules.Legal.{view, pools_in, IsAggregated, IsAuthorized, AreLinesAuthorized}
 use Rattle.close_laws.specs.legal_rules.Needs.{keys_in, needed_keys}
 use Rattle.close_laws.specs.legal_rules.OfferIds.{offer_with_in, offer_with, AreOffersApart}
@@ -24,7 +25,7 @@ use Rattle.replay.proofs.image_rules_proofs.Aggregated.{IsRight, keyed_each, agg
 use Rattle.existence_laws.proofs.Decided.{Decided, decided_as, both, either, opposite, below, below_int, same_number}
 use Rattle.existence_laws.proofs.Decided.{all_three, same_int, above_none, each}
 use Rattle.existence_laws.proofs.Entries.{each_entry, exists}
-use Rattle.existence_laws.proofs.Ranges.{in_range}
+use Rattle.existence_laws.proofs.Ranges.{in_range, body_dated}
 use Rattle.close_laws.proofs.ledger_types_proofs.Arithmetic.{int_cmp_equal, zero_at_most_one}
 
 -- ---- entries by themselves
@@ -97,9 +98,12 @@ offers_apart m =
 module _ (h : LedgerHeader) (m : EntryMap) (keyed : IsKeyed m) where
   entries_in_range : Decided (AreInRange h m)
   entries_in_range =
-      decided_as (λ both. record { entries = both.0; authorized = both.1 }) (λ r. (r.entries, r.authorized))
+      decided_as (λ h. record { entries = h.0; dated = h.1.0; authorized = h.1.1 })
+      (λ r. (r.entries, (r.dated, r.authorized)))
       (both (each_entry (λ k e. IsEntryInRange h.id_pool e) m (λ k e there. in_range h.id_pool e))
-      (each_entry (λ k e. AreLinesAuthorized m e.body) m (λ k e there. authorized m e.body)))
+      (both (each_entry (λ k e. IsBodyDated h.ledger_version h.ledger_seq h.scp_value.close_time e.body) m
+      (λ k e there. body_dated h.ledger_version h.ledger_seq h.scp_value.close_time e.body))
+      (each_entry (λ k e. AreLinesAuthorized m e.body) m (λ k e there. authorized m e.body))))
 
   owned : Decided (AreOwned m)
   owned =

@@ -508,12 +508,61 @@ kept_off s at ahead mid input out d piece.NoMemory end safe opens h e =
     still s at ahead input out d end h.0 [] safe opens h.1 e.1
     (memory_answers s (record { at = at; rest = ahead ++ h.0 }) end e.0) (λ un. refl) (inr refl)
 
--- memory was refused before anything was read
-pub nothing_kept : (s : ClosingState) (at : ℕ) (ahead : List ℕ) (input out : Seen) (d : Disk) → IsSafe d
-    → OpensTo d.reads s → Gave input [] → Received out [] → KeptOn s at ahead input out d d status.NoMemory
-nothing_kept s at ahead input out d safe opens gave received =
-    still s at ahead input out d status.NoMemory [] [] safe opens gave received
-    (memory_answers s (record { at = at; rest = ahead ++ [] }) status.NoMemory refl) (λ un. refl) (inr refl)
+-- ---- a roll before the first record
+
+-- what is kept opens as before, with no record more
+rolled_onward : (s : ClosingState) (text : List ℕ) (d e : Image) → OpensEither s s d e → OpensOnward s text d e
+rolled_onward s text d e either o = (0, opens_none s text e (one_of s e (either o)))
+
+rolled_runs : (s : ClosingState) (text : List ℕ) (old mid new : Disk) → IsSafe mid → OpensTo mid.reads s
+    → Runs (OpensEither s s) old mid → Runs (OpensOnward s text) mid new → Runs (OpensOnward s text) old new
+rolled_runs s text old mid new safe opens first second =
+    onward {first = OpensEither s s} {second = OpensOnward s text} {both = OpensOnward s text} old mid new
+    (λ d e c may_d may_e one two o. two (safe_opens mid s safe opens e may_e)) (rolled_onward s text) first second
+
+-- what the records leave after it, they leave from before it on
+pub kept_rolled : (s : ClosingState) (at : ℕ) (ahead : List ℕ) (input out : Seen) (old mid new : Disk) (end : Status)
+    → IsSafe mid → OpensTo mid.reads s → Runs (OpensEither s s) old mid → KeptOn s at ahead input out mid new end
+    → KeptOn s at ahead input out old new end
+kept_rolled s at ahead input out old mid new end safe opens runs k = record {
+  given = k.given;
+  gave = k.gave;
+  prefix = k.prefix;
+  received = k.received;
+  answers = k.answers;
+  keeps = record {
+    runs = rolled_runs s (ahead ++ k.given) old mid new safe opens runs k.keeps.runs;
+    count = k.keeps.count;
+    acknowledged = k.keeps.acknowledged;
+    unbroken = k.keeps.unbroken;
+    crash = k.keeps.crash;
+  };
+}
+
+-- memory was refused, or the volume failed, before anything was read
+pub nothing_kept : (s : ClosingState) (at : ℕ) (ahead : List ℕ) (input out : Seen) (old new : Disk) (end : Status)
+    → IsFailedEnd end → IsSafe old → OpensTo old.reads s → Runs (OpensEither s s) old new → Gave input []
+    → Received out [] → KeptOn s at ahead input out old new end
+nothing_kept s at ahead input out old new end failed safe opens runs gave received =
+    let cut = failed_cut end failed in
+    let text : List ℕ = ahead ++ [] in
+    record {
+      given = [];
+      gave = gave;
+      prefix = [];
+      received = received;
+      answers = record {
+        answer = inr (cut.0, empty_prefix s (record { at = at; rest = text }));
+        entire = λ r. absurd (cut.1 r);
+      };
+      keeps = record {
+        runs = widened {step = OpensEither s s} {wider = OpensOnward s text} old new (rolled_onward s text) runs;
+        count = 0;
+        acknowledged = ack_empty s text [] refl;
+        unbroken = λ un. refl;
+        crash = λ c may. inl (opens_none s text c (one_of s c (either_left s s old new safe opens runs c may)));
+      };
+    }
 
 -- ---- a record, and then the rest of the run
 

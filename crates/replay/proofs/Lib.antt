@@ -10,7 +10,6 @@ pub mod Turning
 pub mod After
 pub mod Keeping
 pub mod Yields
-pub mod Faults
 pub mod Surviving
 pub mod ClosingAgain
 pub mod Opening

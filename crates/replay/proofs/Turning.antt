@@ -170,6 +170,30 @@ nothing_followed s at ahead input out F h = record {
   is_end = tt;
 }
 
+-- the volume failed before anything was read
+pub volume_failed : (s : ClosingState) (at : ℕ) (ahead : List ℕ) (input out : Seen) (F : Type 0) → Received out [] → F
+    → Followed s at ahead input out F status.DiskFault
+volume_failed s at ahead input out F h failed = record {
+  answered = unfollowed s at ahead input.before out status.DiskFault h tt;
+  ended = λ e. absurd cc;
+  read_fault = λ e. absurd cc;
+  write_fault = λ e. absurd cc;
+  disk_fault = λ e. failed;
+  is_end = tt;
+}
+
+-- the volume may have failed earlier
+pub followed_later : (s : ClosingState) (at : ℕ) (ahead : List ℕ) (input out : Seen) (later F : Type 0) (end : Status)
+    → (later → F) → Followed s at ahead input out later end → Followed s at ahead input out F end
+followed_later s at ahead input out later F end up f = record {
+  answered = f.answered;
+  ended = f.ended;
+  read_fault = f.read_fault;
+  write_fault = f.write_fault;
+  disk_fault = λ e. up (f.disk_fault e);
+  is_end = f.is_end;
+}
+
 pub stopped : (s : ClosingState) (at : ℕ) (ahead : List ℕ) (input out : Seen) (F : Type 0) (end : Status) (last :
     Outcome)
     → IfSome input.before (λ bytes. IsEnd s at (ahead ++ bytes) last) → Wrote out last.text last.status end

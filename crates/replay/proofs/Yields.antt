@@ -1,8 +1,12 @@
--- What is kept yields a state: one record more, and a new image.
-use Rattle.replay.proofs.Prelude.{◌≡◌, ℕ, List, [], ◌∷◌, ◌++◌, Ok, refl, sym, ap, subst, ◌∙◌, ◌⊎◌, inl, inr, Hash}
+-- What is kept yields a state: one record more, and a new image; and its format.
+use Rattle.replay.proofs.Prelude.{◌≡◌, ◌≢◌, ◌^◌, ℕ, List, [], ◌∷◌, ◌++◌, Ok, refl, sym, ap, subst, ◌∙◌, ◌⊎◌, inl, inr}
+use Rattle.replay.proofs.Prelude.{Hash}
 use Rattle.replay.proofs.Prelude.{StartImage, ClosingState, PreparedClose, IsClose, IsJudged, AreClosed, lines_of}
 use Rattle.replay.proofs.Prelude.{Image, Disk, Runs, StoreState, Kept, grown, rolled, Holds, IsSettled, HoldsEither}
 use Rattle.replay.proofs.Prelude.{Yields, OpensTo, Ready, OpensEither, IsStored}
+use Rattle.std.proofs.lemmas.Bool.{cases_lt}
+use Rattle.image_store.specs.ImageFiles.{word_in}
+use Rattle.image_store.proofs.Words.{format_low, format_high}
 use Rattle.image_store.proofs.gate_journal_proofs.Moments.{widened_from}
 
 -- one record more at the end
@@ -54,9 +58,9 @@ yields_rolled k s image yields judged = record {
 
 -- ---- contents
 
-pub ready_of : (store : StoreState) (disk : Disk) (s : ClosingState) → (i : IsStored store disk s)
-    → Ready (IsStored store disk s) disk s
-ready_of store disk s i = record {
+pub ready_of : (format : ℕ) (store : StoreState) (disk : Disk) (s : ClosingState) → (i : IsStored format store disk s)
+    → Ready (IsStored format store disk s) disk s
+ready_of format store disk s i = record {
   kept = i;
   safe = i.settled.safe;
   opens = (i.kept, i.settled.holds, i.yields);
@@ -67,47 +71,70 @@ held_either : (k next : Kept) (s t : ClosingState) (c : Image) → Yields k s �
 held_either k next s t c yields goes (inl h) = inl (k, h, yields)
 held_either k next s t c yields goes (inr h) = inr (next, h, goes)
 
-pub stored_runs : (store : StoreState) (old new : Disk) (next : Kept) (s t : ClosingState) → (i : IsStored store old s)
-    → Yields next t → Runs (HoldsEither i.kept next) old new → Runs (OpensEither s t) old new
-stored_runs store old new next s t i goes runs =
+pub stored_runs : (format : ℕ) (store : StoreState) (old new : Disk) (next : Kept) (s t : ClosingState)
+    → (i : IsStored format store old s) → Yields next t → Runs (HoldsEither i.kept next) old new
+    → Runs (OpensEither s t) old new
+stored_runs format store old new next s t i goes runs =
     widened_from {step = HoldsEither i.kept next} {wider = OpensEither s t} old new
     (λ d e may step o. held_either i.kept next s t e i.yields goes
     (step (subst (λ (x : Image). Holds x i.kept) (sym (i.settled.safe d may)) i.settled.holds)))
     runs
 
-pub stored_more : (store after : StoreState) (old new : Disk) (s : ClosingState) (bytes : List ℕ) (c : PreparedClose)
-    → (i : IsStored store old s) → IsClose s bytes (Ok c) → IsSettled after new (grown i.kept bytes)
-    → Ready (IsStored after new c.state) new c.state
-stored_more store after old new s bytes c i closes settled =
-    ready_of after new c.state (record {
+-- ---- one record more
+
+pub stored_more : (format : ℕ) (store after : StoreState) (old new : Disk) (s : ClosingState) (bytes : List ℕ)
+    (c : PreparedClose) → (i : IsStored format store old s) → IsClose s bytes (Ok c)
+    → IsSettled after new (grown i.kept bytes) → Ready (IsStored format after new c.state) new c.state
+stored_more format store after old new s bytes c i closes settled =
+    ready_of format after new c.state (record {
       kept = grown i.kept bytes;
       settled = settled;
       yields = yields_more i.kept s bytes c i.yields closes;
+      is_format = i.is_format;
     })
 
-pub stored_more_runs : (store : StoreState) (old new : Disk) (s : ClosingState) (bytes : List ℕ) (c : PreparedClose)
-    → (i : IsStored store old s) → IsClose s bytes (Ok c) → Runs (HoldsEither i.kept (grown i.kept bytes)) old new
-    → Runs (OpensEither s c.state) old new
-stored_more_runs store old new s bytes c i closes runs =
-    stored_runs store old new (grown i.kept bytes) s c.state i (yields_more i.kept s bytes c i.yields closes) runs
+pub stored_more_runs : (format : ℕ) (store : StoreState) (old new : Disk) (s : ClosingState) (bytes : List ℕ)
+    (c : PreparedClose) → (i : IsStored format store old s) → IsClose s bytes (Ok c)
+    → Runs (HoldsEither i.kept (grown i.kept bytes)) old new → Runs (OpensEither s c.state) old new
+stored_more_runs format store old new s bytes c i closes runs =
+    stored_runs format store old new (grown i.kept bytes) s c.state i (yields_more i.kept s bytes c i.yields closes)
+    runs
 
-pub stored_rolled : (store after : StoreState) (old new : Disk) (s : ClosingState) (image : StartImage)
-    → (i : IsStored store old s) → IsJudged s.network image (Ok s) → IsSettled after new (rolled i.kept image)
-    → Ready (IsStored after new s) new s
-stored_rolled store after old new s image i judged settled =
-    ready_of after new s (record {
+-- ---- a new image
+
+-- it is of format 2, whatever the one before it was
+pub stored_rolled : (format : ℕ) (store after : StoreState) (old new : Disk) (s : ClosingState) (image : StartImage)
+    → (i : IsStored format store old s) → IsJudged s.network image (Ok s) → IsSettled after new (rolled i.kept image)
+    → Ready (IsStored 2 after new s) new s
+stored_rolled format store after old new s image i judged settled =
+    ready_of 2 after new s (record {
       kept = rolled i.kept image;
       settled = settled;
       yields = yields_rolled i.kept s image i.yields judged;
+      is_format = refl;
     })
 
-pub stored_rolled_runs : (store : StoreState) (old new : Disk) (s : ClosingState) (image : StartImage)
-    → (i : IsStored store old s) → IsJudged s.network image (Ok s)
+pub stored_rolled_runs : (format : ℕ) (store : StoreState) (old new : Disk) (s : ClosingState) (image : StartImage)
+    → (i : IsStored format store old s) → IsJudged s.network image (Ok s)
     → Runs (HoldsEither i.kept (rolled i.kept image)) old new → Runs (OpensEither s s) old new
-stored_rolled_runs store old new s image i judged runs =
-    stored_runs store old new (rolled i.kept image) s s i (yields_rolled i.kept s image i.yields judged) runs
+stored_rolled_runs format store old new s image i judged runs =
+    stored_runs format store old new (rolled i.kept image) s s i (yields_rolled i.kept s image i.yields judged) runs
 
-pub stored_still : (store after : StoreState) (old new : Disk) (s : ClosingState) → (i : IsStored store old s)
-    → IsSettled after new i.kept → Ready (IsStored after new s) new s
-stored_still store after old new s i settled =
-    ready_of after new s (record { kept = i.kept; settled = settled; yields = i.yields })
+-- ---- the format
+
+-- an image that isn't of format 1 is of format 2
+second_format : (c : Image) (k : Kept) → Holds c k → k.format ≢ 1 → k.format ≡ 2
+second_format c k h other = elim (cases_lt (word_in (c h.number)) (2 ^ 63)) [
+  | inl low ↦ absurd (other (h.format ∙ format_low (word_in (c h.number)) low))
+  | inr high ↦ h.format ∙ format_high (word_in (c h.number)) high
+]
+
+pub stored_second : (format : ℕ) (store : StoreState) (disk : Disk) (s : ClosingState) → format ≢ 1
+    → (i : IsStored format store disk s) → Ready (IsStored 2 store disk s) disk s
+stored_second format store disk s other i =
+    ready_of 2 store disk s (record {
+      kept = i.kept;
+      settled = i.settled;
+      yields = i.yields;
+      is_format = second_format disk.reads i.kept i.settled.holds (λ first. other (sym i.is_format ∙ first));
+    })

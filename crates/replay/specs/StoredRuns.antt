@@ -13,7 +13,7 @@ use Rattle.stored_outcome.specs.run_outcome.declared.status.Status.TheVariants a
 use Rattle.outside.specs.Disk.{Image, Disk}
 use Rattle.image_store.specs.State.{StoreState}
 use Rattle.replay.specs.Keeping.{Ready}
-use Rattle.replay.specs.Stored.{IsRestored}
+use Rattle.replay.specs.Stored.{IsStored}
 use Rattle.stored_outcome.specs.run_streams.SeenVolume.{SeenVolume, VolumeFailed}
 use Rattle.image_store.specs.gate_journal.Records.{max_record}
 use Rattle.image_store.specs.ImageFiles.{image_offset}
@@ -64,9 +64,9 @@ abbrev pub OpensSo : {O : Type 0} → (O → Type 0) → (old new : Image) → R
 OpensSo ready old new (Ok o) = ready o × (new ≡ old)
 OpensSo ready old new (Err end) = OpensNot old new end
 
--- what is open: a state, the store that keeps it, and how many records it has
-pub record IsOpened (records : ℕ) (s : ClosingState) (store : StoreState) (disk : Disk) : Type 0 where
-  pub ready : Ready (IsRestored store disk s) disk s
+-- what is open: a state, the store that keeps it, the format of its image, and how many records it has
+pub record IsOpened (format records : ℕ) (s : ClosingState) (store : StoreState) (disk : Disk) : Type 0 where
+  pub ready : Ready (IsStored format store disk s) disk s
   pub count : records ≡ length ready.kept.kept.records
 
 -- the ends of a run that doesn't begin

@@ -5,7 +5,7 @@ ghost use denote.Param.Send.{IsSync};
 ghost use Rattle.stored_outcome.specs.run_streams.Seen.{seen};
 ghost use Rattle.stored_outcome.specs.run_streams.SeenVolume.{seen_volume};
 ghost use Rattle.worker_merges.specs.WorkerSlots.{IsManned, HasEnded, IsSideOf, IsSideEndOf};
-ghost use Rattle.replay.specs.Stored.{IsRestored};
+ghost use Rattle.replay.specs.Stored.{IsStored};
 ghost use Rattle.replay.specs.Keeping.{Ready, DidFollow};
 ghost use Rattle.replay.specs.StoredRuns.{RanStored};
 ghost use Rattle.replay.specs.Beside as spec;
@@ -68,8 +68,8 @@ fn serve<R: Wait, V: Volume, I: Source, O: Sink, L: Count>(
     requires side { spec.HasSide room.now workers side.old }
     requires works { opened.old.keeper.store.failed ≡ false }
     requires low { opened.old.format ≡ 1 → opened.old.keeper.store.epoch < 2 ^ 63 - 1 }
-    requires ready { V.reports → Ready (IsRestored opened.old.keeper.store (V.disk vol.old) opened.old.ledger.state)
-        (V.disk vol.old) opened.old.ledger.state }
+    requires ready { V.reports → Ready (IsStored opened.old.format opened.old.keeper.store (V.disk vol.old)
+        opened.old.ledger.state) (V.disk vol.old) opened.old.ledger.state }
     ensures side { IsSideEndOf room.now workers result.side }
     ensures followed { DidFollow (Unit {0}) opened.old.ledger.state 0 [] (seen I.left I.faults input.old input.new)
         (seen O.taken O.faults out.old out.new) (seen_volume V.reports V.disk V.faults vol.old vol.new) result.end }
@@ -105,8 +105,8 @@ fn serve_beside<R: Threads + Wait + Sync, G: Gate, V: Volume, I: Source, O: Sink
     requires side { spec.HasSide room.now workers side.old }
     requires works { opened.old.keeper.store.failed ≡ false }
     requires low { opened.old.format ≡ 1 → opened.old.keeper.store.epoch < 2 ^ 63 - 1 }
-    requires ready { V.reports → Ready (IsRestored opened.old.keeper.store (V.disk vol.old) opened.old.ledger.state)
-        (V.disk vol.old) opened.old.ledger.state }
+    requires ready { V.reports → Ready (IsStored opened.old.format opened.old.keeper.store (V.disk vol.old)
+        opened.old.ledger.state) (V.disk vol.old) opened.old.ledger.state }
     ensures count { length slots.new ≡ length slots.old }
     ensures ended { All (HasEnded room.now) slots.new }
     ensures side { IsSideEndOf room.now workers result.side }
@@ -125,7 +125,7 @@ fn serve_beside<R: Threads + Wait + Sync, G: Gate, V: Volume, I: Source, O: Sink
             requires works { opened.now.keeper.store.failed ≡ false }
             requires low { opened.now.format ≡ 1 → opened.now.keeper.store.epoch < 2 ^ 63 - 1 }
             requires ready { V.reports
-                → Ready (IsRestored opened.now.keeper.store (V.disk vol.now) opened.now.ledger.state)
+                → Ready (IsStored opened.now.format opened.now.keeper.store (V.disk vol.now) opened.now.ledger.state)
                 (V.disk vol.now) opened.now.ledger.state }
             ensures side { IsSideEndOf room.entry.now workers result.side }
             ensures followed { DidFollow (Unit {0}) opened.entry.now.ledger.state 0 []
@@ -158,8 +158,8 @@ fn close_beside<R: Threads + Wait + Sync, G: Gate, V: Volume, I: Source, O: Sink
     requires few { workers ≤ 8 }
     requires works { opened.old.keeper.store.failed ≡ false }
     requires low { opened.old.format ≡ 1 → opened.old.keeper.store.epoch < 2 ^ 63 - 1 }
-    requires ready { V.reports → Ready (IsRestored opened.old.keeper.store (V.disk vol.old) opened.old.ledger.state)
-        (V.disk vol.old) opened.old.ledger.state }
+    requires ready { V.reports → Ready (IsStored opened.old.format opened.old.keeper.store (V.disk vol.old)
+        opened.old.ledger.state) (V.disk vol.old) opened.old.ledger.state }
     ensures { DidFollow (Unit {0}) opened.old.ledger.state 0 [] (seen I.left I.faults input.old input.new)
         (seen O.taken O.faults out.old out.new) (seen_volume V.reports V.disk V.faults vol.old vol.new) result }
 {

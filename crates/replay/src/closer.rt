@@ -1,11 +1,10 @@
 //! An opened store, and closing records after it with or without workers.
 
-ghost use Rattle.std.specs.Prelude.{◌≡◌, ◌≤◌, ◌<◌, ◌-◌, ◌^◌, [], false, Err, OnOk};
+ghost use Rattle.std.specs.Prelude.{◌≡◌, ◌≤◌, ◌<◌, ◌-◌, ◌^◌, [], false, OnOk};
 ghost use Rattle.outside.specs.Disk.{Runs};
 ghost use Rattle.stored_outcome.specs.run_streams.Seen.{seen};
 ghost use Rattle.stored_outcome.specs.run_streams.SeenVolume.{seen_volume};
-ghost use Rattle.replay.specs.Stored.{IsRestored, IsStored};
-ghost use Rattle.replay.specs.declared.keeper.KeepFault.TheVariants as keep;
+ghost use Rattle.replay.specs.Stored.{IsStored};
 ghost use Rattle.replay.specs.Keeping.{Ready, DidFollow, OpensEither, IsCaused};
 
 use crate::closes::follow;
@@ -32,15 +31,14 @@ pub(crate) struct Opened {
 fn migrate<V: Volume>(alloc: Global, opened: &mut Opened, vol: &mut V) -> Result<(), KeepFault>
     requires works { opened.old.keeper.store.failed ≡ false }
     requires low { opened.old.format ≡ 1 → opened.old.keeper.store.epoch < 2 ^ 63 - 1 }
-    requires ready { V.reports → Ready (IsRestored opened.old.keeper.store (V.disk vol.old) opened.old.ledger.state)
-        (V.disk vol.old) opened.old.ledger.state }
-    ensures migrated { V.reports → OnOk result (Ready (IsStored opened.new.keeper.store (V.disk vol.new)
-        opened.old.ledger.state) (V.disk vol.new) opened.old.ledger.state) }
-    ensures no_memory { result ≡ Err keep.NoMemory → (opened.new ≡ opened.old) × (vol.new ≡ vol.old) }
+    requires ready { V.reports → Ready (IsStored opened.old.format opened.old.keeper.store (V.disk vol.old)
+        opened.old.ledger.state) (V.disk vol.old) opened.old.ledger.state }
+    ensures migrated { V.reports → OnOk result (Ready (IsStored 2 opened.new.keeper.store (V.disk vol.new)
+        opened.new.ledger.state) (V.disk vol.new) opened.new.ledger.state) }
     ensures runs { V.reports
         → Runs (OpensEither opened.old.ledger.state opened.old.ledger.state) (V.disk vol.old) (V.disk vol.new) }
     ensures works { OnOk result (opened.new.keeper.store.failed ≡ false) }
-    ensures ledger { opened.new.ledger ≡ opened.old.ledger }
+    ensures state { opened.new.ledger.state ≡ opened.old.ledger.state }
     ensures later { V.faults vol.old ≤ V.faults vol.new }
     ensures cause { IsCaused (Unit {0}) (V.faults vol.old) (V.faults vol.new) result }
 {
@@ -65,8 +63,8 @@ pub(crate) fn follow_with<C: Crew, V: Volume, I: Source, O: Sink, L: Count>(
     requires crew { C.has crew.now side.old }
     requires works { opened.old.keeper.store.failed ≡ false }
     requires low { opened.old.format ≡ 1 → opened.old.keeper.store.epoch < 2 ^ 63 - 1 }
-    requires ready { V.reports → Ready (IsRestored opened.old.keeper.store (V.disk vol.old) opened.old.ledger.state)
-        (V.disk vol.old) opened.old.ledger.state }
+    requires ready { V.reports → Ready (IsStored opened.old.format opened.old.keeper.store (V.disk vol.old)
+        opened.old.ledger.state) (V.disk vol.old) opened.old.ledger.state }
     ensures crew { C.has crew.now side.new }
     ensures followed { DidFollow (Unit {0}) opened.old.ledger.state 0 [] (seen I.left I.faults input.old input.new)
         (seen O.taken O.faults out.old out.new) (seen_volume V.reports V.disk V.faults vol.old vol.new) result }

@@ -40,7 +40,8 @@ fn keep_fault(fault: StoreFault) -> KeepFault
 }
 
 impl Stored {
-    /// Goes on to the next epoch, with the image of this ledger, which the store keeps. What is kept stays.
+    /// Goes on to the next epoch, in format 2, with the image of this ledger, which the store keeps in either format.
+    /// What is kept stays.
     pub(crate) fn renew<V: Volume>(
         &mut self,
         alloc: Global,
@@ -49,11 +50,12 @@ impl Stored {
     ) -> Result<(), KeepFault>
         requires works { self.old.store.failed ≡ false }
         requires epoch { self.old.store.epoch < 2 ^ 63 - 1 }
-        requires ready { V.reports → spec.Ready (stored.IsRestored self.old.store (V.disk vol.old) ledger.now.state)
-            (V.disk vol.old) ledger.now.state }
-        ensures kept { V.reports → OnOk result (spec.Ready (stored.IsStored self.new.store (V.disk vol.new)
+        requires ready { V.reports → (format : ℕ)
+            × spec.Ready (stored.IsStored format self.old.store (V.disk vol.old) ledger.now.state) (V.disk vol.old)
+            ledger.now.state }
+        ensures kept { V.reports → OnOk result (spec.Ready (stored.IsStored 2 self.new.store (V.disk vol.new)
             ledger.now.state) (V.disk vol.new) ledger.now.state) }
-        ensures no_memory { result ≡ Err keep.NoMemory → (self.new ≡ self.old) × (vol.new ≡ vol.old) }
+        ensures no_memory { result ≡ Err keep.NoMemory → (self.new.store ≡ self.old.store) × (vol.new ≡ vol.old) }
         ensures runs { V.reports
             → Runs (spec.OpensEither ledger.now.state ledger.now.state) (V.disk vol.old) (V.disk vol.new) }
         ensures works { OnOk result (self.new.store.failed ≡ false) }
@@ -79,7 +81,7 @@ impl Keeper for Stored {
 
     ghost works = { λ k. k.store.failed ≡ false };
 
-    ghost keeps = { λ k d s. stored.IsStored k.store d s };
+    ghost keeps = { λ k d s. stored.IsStored 2 k.store d s };
 
     fn hold(&self, alloc: Global, bytes: &[u8]) -> Result<AppendBuf, AllocError> {
         AppendBuf::new(alloc, bytes)

@@ -90,7 +90,7 @@ pub(crate) fn open<V: Volume, L: Count>(
     ensures works { IfOk result (λ o. o.keeper.store.failed ≡ false) }
     ensures low { IfOk result (λ o. o.format ≡ 1 → o.keeper.store.epoch < 2 ^ 63 - 1) }
     ensures opens { V.reports
-        → spec.OpensSo (λ o. spec.IsOpened o.records o.ledger.state o.keeper.store (V.disk vol.new))
+        → spec.OpensSo (λ o. spec.IsOpened o.format o.records o.ledger.state o.keeper.store (V.disk vol.new))
         (V.disk vol.old).reads (V.disk vol.new).reads result }
     ensures runs { Runs Same (V.disk vol.old) (V.disk vol.new) }
     ensures later { V.faults vol.old ≤ V.faults vol.new }

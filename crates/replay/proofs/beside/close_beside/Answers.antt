@@ -1,9 +1,10 @@
 use Rattle.replay.proofs.Prelude.{◌≡◌, ◌∙◌, subst, List, [], ◌++◌, ℕ, length, arith, rules, take-append_seam, All-same}
-use Rattle.replay.proofs.Prelude.{HasEnded, Appends-nil, Consumes-nil, Seen, seen, ClosingState, DiskFailed}
+use Rattle.replay.proofs.Prelude.{HasEnded, Appends-nil, Consumes-nil, Seen, seen, ClosingState, DiskFailed, Disk}
 use Rattle.std.proofs.Math.ListN.{take}
 use Rattle.std.specs.List.{All}
+use Rattle.stored_outcome.specs.run_outcome.declared.status.Status.TheVariants as status
 use Rattle.replay.proofs.Turning.{nothing_followed}
-use Rattle.replay.proofs.Keeping.{nothing_kept}
+use Rattle.replay.proofs.Keeping.{nothing_kept, stays_either}
 use Rattle.replay.proofs.beside.close_beside.Goals as goal
 
 pub returns-in_default : goal.returns-in_default
@@ -18,7 +19,8 @@ returns-in_default g c =
       vol_later = omega arith;
       kept = λ st te.
           let r = c.requires.ready te in
-          nothing_kept s 0 [] input out (g.V.Volume.disk c.args.vol.now) r.safe r.opens
+          let disk : Disk = g.V.Volume.disk c.args.vol.now in
+          nothing_kept s 0 [] input out disk disk status.NoMemory tt r.safe r.opens (stays_either s s disk)
           (Consumes-nil (g.I.Source.left c.args.input.now)) received;
     }
 

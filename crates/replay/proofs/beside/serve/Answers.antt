@@ -5,7 +5,7 @@ use Rattle.replay.proofs.beside.serve.Goals as goal
 pub follow_with-end-requires-clause-ready : goal.follow_with-end-requires-clause-ready
 follow_with-end-requires-clause-ready g c te =
     let disk : Disk = g.V.Volume.disk c.args.vol.now in
-    subst (λ (s : ClosingState). Ready (IsStored c.args.opened.now.keeper.store disk s) disk s)
+    subst (λ (s : ClosingState). Ready (IsStored c.args.opened.now.format c.args.opened.now.keeper.store disk s) disk s)
     (sym c.post_due.ensures.state) (c.requires.ready te)
 
 pub returns-clause-followed : goal.returns-clause-followed

@@ -9,7 +9,8 @@ returns-in-Ok g c =
     stored_on c.in-Ok.opened.ledger.state (seen g.I.Source.left g.I.Source.faults c.args.input.now it.new.input)
     (seen g.O.Sink.taken g.O.Sink.faults c.args.out.now it.new.out)
     (seen_volume g.V.Volume.reports g.V.Volume.disk g.V.Volume.faults c.args.vol.now it.new.vol) mid
-    (g.V.Volume.faults c.open.new.vol) (IsStored c.in-Ok.opened.keeper.store mid c.in-Ok.opened.ledger.state) it.result
+    (g.V.Volume.faults c.open.new.vol)
+    (IsStored c.in-Ok.opened.format c.in-Ok.opened.keeper.store mid c.in-Ok.opened.ledger.state) it.result
     (λ x left. g.met.V.Volume.only_now c.args.vol.now x left) (λ te. g.met.V.Volume.reads_now it.new.vol te)
     c.open.ensures.runs (λ te. let opens = c.in-Ok.ensures.opens te in (opens.0.ready, opens.1)) c.open.ensures.later
     it.ensures.followed.followed (λ te. it.ensures.followed.kept tt te)

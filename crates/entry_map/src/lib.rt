@@ -1,4 +1,4 @@
-//! The entries of a ledger as a map with undo over a base that stays as it is.
+//! The entries of a ledger as a map with undo over a base that stays as it is, and the order books of its offers.
 #![tactic(auto)]
 
 mod base;

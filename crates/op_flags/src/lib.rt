@@ -1,4 +1,5 @@
-//! ALLOW_TRUST and SET_TRUST_LINE_FLAGS: what issuers let others do with what they issue.
+//! ALLOW_TRUST and SET_TRUST_LINE_FLAGS: what issuers let others do with what they issue, and what becomes of the
+//! offers and pool shares of a line that is no longer authorised.
 #![tactic(auto)]
 
 mod allow_trust;

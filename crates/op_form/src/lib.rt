@@ -1,4 +1,4 @@
-//! What all operations share.
+//! What all operations share: results and steps, amounts of any asset given and taken, flags and thresholds.
 #![tactic(auto)]
 
 mod amounts;

@@ -80,8 +80,8 @@ impl<R: LockFiles> Directory<R> {
         Ok(found)
     }
 
-    // Takes the lock of a directory that is there. Where a call found none before, any byte that is there now is another
-    // process's, and what was answered of it is out of date.
+    // Takes the lock of a directory that is there. Where a call found none before, any byte that is there now is
+    // another process's, and what was answered of it is out of date.
     fn take_lock(&mut self) -> io::Result<()> {
         let lock = self.locked()?;
         if self.was_absent {

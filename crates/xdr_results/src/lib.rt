@@ -1,4 +1,4 @@
-//! The encodings of what operations and transactions answer, read and written (protocol 18, over RFC 4506). A code that
+//! The encodings of what operations and transactions answer, read and written (protocol 19, over RFC 4506). A code that
 //! the protocol doesn't list doesn't read.
 //!
 //! A reader answers the value that a prefix of the text encodes, and the cursor is after it; else it answers the first

@@ -1,7 +1,7 @@
 #!/usr/bin/env python3
 """Counts the instructions of `catchup` over inputs that ask for much: of opening an image, and of closing a record.
 
-    bench/heavy.py [--small] [--keep FOLDER] [--only NAME]... [--make] [--SIZE NUMBER]... [PROGRAM [OTHER]]
+    bench/heavy.py [--small] [--keep FOLDER] [--only NAME]... [--make] [--times] [--SIZE NUMBER]... [PROGRAM [OTHER]]
 
 PROGRAM is the built program, crates/ledger/out/ledger of this repository where none is given. OTHER is another build,
 of an earlier state say, which is run over the same inputs. These are the inputs, with their sizes where no `--SIZE`,
@@ -25,6 +25,10 @@ how many offers a path payment crosses. `--keep` has the inputs and what they pr
 there as long as the sizes, this script, and the scripts and models that it uses are the same. `--only` is for some
 inputs, `--make` for making them and no more.
 
+`--times` prints processor time and peak memory instead, for sizes over which counting takes too long: the least time and
+the greatest memory of three runs of one build. The ledger in Python, which takes hours there, then works out nothing: what
+is printed has to say that each transaction succeeds.
+
 The script prints how long making took. Then it prints a row for each input: its transactions, the instructions of
 opening and of closing in millions, by valgrind's callgrind, those of OTHER, and what PROGRAM takes of them. Closing is
 the run with the record less the run of the image alone.
@@ -45,14 +49,14 @@ import tempfile
 import time
 from typing import Any, Callable, NamedTuple, Optional
 
-from measuring import TOP, built, stop
+from measuring import TOP, built, run, stop
 
 sys.path.insert(0, f"{TOP}/tests/models")
 import ledger_model as model  # noqa: E402
 import pool_tools as pools  # noqa: E402
 import set_cases as sets  # noqa: E402
 from case_tools import entry, line, lumens_of, offer  # noqa: E402
-from closes import CATCHUP, NETWORK, image  # noqa: E402
+from closes import CATCHUP, NETWORK, SEQ, image  # noqa: E402
 from everything import POOLS, along  # noqa: E402
 from trading import ASSETS, BUY, ISSUER, LIMIT, LUMENS, market, offered  # noqa: E402
 
@@ -67,7 +71,7 @@ MOST_OFFERS, EACH = 990, 200
 REVOCABLE, RECEIVE, SEND = 2, 2, 13
 USD, EUR = (sets.asset(code, ISSUER) for code in ("USD", "EUR"))
 SIGNERS = 20
-SMALL = 20
+SMALL, RUNS = 20, 3
 
 
 class Sizes(NamedTuple):
@@ -270,12 +274,12 @@ class Made(NamedTuple):
     transactions: int
 
 
-def record_of(ledger: Any, listed: list[Any]) -> bytes:
-    """The next record."""
+def record_of(previous: bytes, listed: list[Any]) -> bytes:
+    """The record after an image, of whose header this is the hash."""
     envelopes = [envelope.xdr() for envelope in listed]
-    digest = model.sha(ledger.hash + b"".join(sorted(envelopes, key=model.sha)))
-    value = digest + model.u64(ledger.header["value"]["time"] + 5) + model.u32(0) + model.u32(0)
-    data: bytes = model.u32(ledger.header["seq"] + 1) + ledger.hash + model.many(envelopes) + value
+    digest = model.sha(previous + b"".join(sorted(envelopes, key=model.sha)))
+    value = digest + model.u64(1005) + model.u32(0) + model.u32(0)
+    data: bytes = model.u32(SEQ + 1) + previous + model.many(envelopes) + value
     return data
 
 
@@ -290,7 +294,7 @@ def worked_out(name: str, recipe: Recipe) -> tuple[bytes, bytes, str, str]:
     ledger = model.ledger_of(model.sha(NETWORK.encode()), *model.cut_image(model.Text(data)))
     opening = end_of(ledger)
     if recipe.listed:
-        record = record_of(ledger, recipe.listed)
+        record = record_of(ledger.hash, recipe.listed)
         lines = ledger.close(record)
         record = model.marked(record)
     failed = [outcome.hex(" ", 4) for outcome in ledger.outcomes.values() if outcome[:4] != bytes(4)]
@@ -298,6 +302,15 @@ def worked_out(name: str, recipe: Recipe) -> tuple[bytes, bytes, str, str]:
     if failed or left != recipe.left:
         stop(f"{name}: {len(failed)} transactions fail, {left} offers are left and not {recipe.left}: {failed[:1]}")
     return data, record, opening, lines + end_of(ledger)
+
+
+def put_together(recipe: Recipe) -> tuple[bytes, bytes]:
+    """An image and its record."""
+    coins = sum(map(lumens_of, recipe.entries)) + pools.lumens_in(recipe.entries)
+    data = image(recipe.entries, coins, recipe.ids)
+    size = int.from_bytes(data[4:8], "big") & 0x7FFFFFFF
+    previous = model.sha(data[8:8 + size])
+    return data, model.marked(record_of(previous, recipe.listed)) if recipe.listed else b""
 
 
 def key_of(name: str, sizes: Sizes) -> str:
@@ -391,6 +404,26 @@ def table(builds: list[Build], inputs: dict[str, Made]) -> None:
         row(name, str(it.transactions), cells([build.measured(it) for build in builds]))
 
 
+def times(program: str, sizes: Sizes, names: list[str], folder: str) -> None:
+    """Processor time and peak memory of a build, of each image alone and with its record."""
+    row("input", "transactions", ["image", "opening", "memory", "record", "closing", "memory"])
+    source = f"{folder}/source"
+    for name in names:
+        recipe = INPUTS[name](sizes)
+        data, record = put_together(recipe)
+        write(source, data)
+        opening, peak, _ = run([program, *CATCHUP], RUNS, folder, source)
+        listed = [f"{len(data) / 1e6:.1f} MB", f"{opening:.2f} s", f"{peak / 1e3:.0f} MB"]
+        count = len(recipe.listed)
+        if count:
+            write(source, data + record)
+            seconds, peak, output = run([program, *CATCHUP], RUNS, folder, source)
+            if output.splitlines()[-2].split()[-2:] != [b"%d" % count] * 2:
+                stop(f"{name}: {output.splitlines()[-2]!r}")
+            listed += [f"{len(record) / 1e6:.3f} MB", f"{seconds - opening:.2f} s", f"{peak / 1e3:.0f} MB"]
+        row(name, str(count), listed)
+
+
 # ---- the words
 
 
@@ -401,11 +434,14 @@ def words() -> argparse.Namespace:
     parser.add_argument("--keep", metavar="FOLDER", help="where inputs are kept")
     parser.add_argument("--only", action="append", choices=list(INPUTS), help="an input; all where none is named")
     parser.add_argument("--make", action="store_true", help="makes the inputs, and runs nothing")
+    parser.add_argument("--times", action="store_true", help="processor time and peak memory, of one build")
     for name, number in Sizes()._asdict().items():
         parser.add_argument(f"--{name}", type=int, metavar="NUMBER", help=f"{number:,} where nothing is said")
     given = parser.parse_args()
     if len(given.programs) > 2:
         parser.error("there are at most two builds")
+    if given.times and len(given.programs) > 1:
+        parser.error("--times is of one build")
     base = Sizes().small() if given.small else Sizes()
     said = {name: number for name, number in vars(given).items() if name in Sizes._fields and number is not None}
     given.sizes = base._replace(**said)
@@ -418,12 +454,16 @@ def words() -> argparse.Namespace:
 def main() -> None:
     given = words()
     builds = [Build(os.path.abspath(program)) for program in given.programs or [built("ledger")]]
-    for word in [] if given.make else ["valgrind", *(build.program for build in builds)]:
+    needed = ([] if given.times else ["valgrind"]) + [build.program for build in builds]
+    for word in [] if given.make else needed:
         if not shutil.which(word):
             stop(f"there is no program {word}")
     with tempfile.TemporaryDirectory() as passing:
         folder = given.keep or passing
         os.makedirs(folder, exist_ok=True)
+        if given.times:
+            times(builds[0].program, given.sizes, given.only or list(INPUTS), passing)
+            return
         begun = time.perf_counter()
         inputs = {name: made(name, given.sizes, folder) for name in INPUTS if not given.only or name in given.only}
         print(f"inputs after {time.perf_counter() - begun:.1f} s", flush=True)

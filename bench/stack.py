@@ -1,0 +1,140 @@
+#!/usr/bin/env python3
+"""Finds the least stack with which the program still closes deep and long inputs.
+
+    bench/stack.py [--offers NUMBER] [--megabytes NUMBER] [PROGRAM]
+
+PROGRAM is the built program, crates/ledger/out/ledger of this repository where none is given. `catchup` is run over each input with the
+limit of the stack that a system sets, 8 MB, and then with smaller ones, as `ulimit -s` sets them, until the least one is found with which
+it prints the same text with status 0 three times, in steps of 4 kB. The environment is empty, since it lies on the stack too. What the
+system puts there moves by up to 8 kB from run to run. The inputs:
+
+    payment      one payment after a small image
+    operations   a transaction of 100 payments, the most that it may have
+    four levels  a claimable balance for ten claimants with predicates of four levels, the deepest that may be created
+    32 levels    the same with predicates of 32 levels, the deepest that is read; the operation fails
+    both         50 transactions of 100 operations with ten predicates of 32 levels each
+    payments     the longest record: as many payments as fit into 16 MB
+    deep levels  ten records of payments that commit merges of the levels, of 20 MB (--megabytes)
+    beside       the same by `run --workers 2`
+    offers       an image of 100,000 offers in 20 books (--offers)
+
+Exit status: 0, or 2 where a run with 8 MB fails. Linux, Python 3.9 or later and its standard library.
+"""
+
+import argparse
+import os
+import resource
+import shutil
+import subprocess
+import sys
+import tempfile
+
+from measuring import TOP, built, stop
+
+sys.path.insert(0, f"{TOP}/tests/models")
+import deep_levels as deep  # noqa: E402
+import set_cases as sets  # noqa: E402
+from case_tools import predicate  # noqa: E402
+from closes import CATCHUP, NETWORK, image_of  # noqa: E402
+from large import FIRST, after_small, offers, payments, sent  # noqa: E402
+
+USUAL, STEP, TIMES = 8192, 4, 3
+PARTS = {(3, 0): 0.05, (3, 1): 0.05, (4, 0): 0.15, (4, 1): 0.15, (5, 0): 0.35, (5, 1): 0.25}
+
+
+class Trial:
+    """A command over an input, in a folder that is made anew where there is a store."""
+
+    def __init__(self, program, words, source, store=None):
+        self.program, self.words, self.source, self.store = program, words, source, store
+
+    def run(self, limit):
+        """The status and the text with so many kB of stack."""
+        with tempfile.TemporaryDirectory() as folder, open(self.source, "rb") as given:
+            if self.store:
+                shutil.copytree(self.store, f"{folder}/ledger-store")
+            size = limit * 1024
+            ran = subprocess.run(
+                [self.program, *self.words], stdin=given, capture_output=True, env={}, cwd=folder, check=False,
+                preexec_fn=lambda: resource.setrlimit(resource.RLIMIT_STACK, (size, size)),
+            )
+            return ran.returncode, ran.stdout
+
+    def least(self):
+        """The least stack in kB."""
+        expected = self.run(USUAL)
+        if expected[0]:
+            stop(f"status {expected[0]} after {expected[1][-200:]!r}")
+        low, high = 0, USUAL // STEP
+        while high - low > 1:
+            middle = (low + high) // 2
+            low, high = (low, middle) if self.run(middle * STEP) == expected else (middle, high)
+        while not all(self.run(high * STEP) == expected for _ in range(TIMES)):
+            high += 1
+        return high * STEP
+
+
+# ---- inputs
+
+
+def claims(transactions, each, levels):
+    """So many transactions, in turn by the accounts, with so many operations for ten claimants each."""
+    claimants = [(number, predicate(levels)) for number in range(10)]
+    operations = [sets.create_claimable(1, claimants)] * each
+    return [sent(number, *operations) for number in range(transactions)]
+
+
+def deep_records(program, data, previous):
+    """Ten records after an image, each after the hash that the program prints for the one before."""
+    records = b""
+    for number in range(1, 11):
+        records += deep.record(FIRST, number, previous)
+        ran = subprocess.run([program, *CATCHUP], input=data + records, capture_output=True, check=False)
+        if ran.returncode:
+            stop(f"status {ran.returncode} after {ran.stdout[-200:]!r}")
+        previous = bytes.fromhex(ran.stdout.split()[-1].decode())
+    return records
+
+
+def offered(count):
+    files, coins = offers(count)
+    return image_of([b""] * 8 + files + [b""] * 12, coins, count)[0]
+
+
+# ---- the runs
+
+
+def row(name, trial):
+    print(f"{name:14}{os.path.getsize(trial.source) / 1e6:8.1f} MB{trial.least():8} kB", flush=True)
+
+
+def main():
+    parser = argparse.ArgumentParser(description="Finds the least stack with which inputs are closed.")
+    parser.add_argument("program", nargs="?", default=built("ledger"))
+    parser.add_argument("--offers", type=int, default=100_000)
+    parser.add_argument("--megabytes", type=int, default=20)
+    given = parser.parse_args()
+    program = os.path.abspath(given.program)
+    with tempfile.TemporaryDirectory() as folder:
+
+        def kept(data):
+            with open(f"{folder}/input", "wb") as file:
+                file.write(data)
+            return f"{folder}/input"
+
+        one = sets.payment(1, 1)
+        for name, listed in [
+            ("payment", [sent(0, one)]), ("operations", [sent(0, *[one] * 100)]), ("four levels", claims(1, 1, 4)),
+            ("32 levels", claims(1, 1, 32)), ("both", claims(50, 100, 32)), ("payments", payments()),
+        ]:
+            row(name, Trial(program, CATCHUP, kept(after_small(listed))))
+        data, previous = deep.image_of(FIRST, PARTS, given.megabytes * 1_000_000)
+        records = deep_records(program, data, previous)
+        row("deep levels", Trial(program, CATCHUP, kept(data + records)))
+        subprocess.run([program, "init", "--network", NETWORK], input=data, check=True, cwd=folder)
+        row("beside", Trial(program, ["run", "--workers", "2"], kept(records), f"{folder}/ledger-store"))
+        row("offers", Trial(program, CATCHUP, kept(offered(given.offers))))
+
+
+if __name__ == "__main__":
+    main()

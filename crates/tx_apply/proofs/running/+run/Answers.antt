@@ -10,8 +10,8 @@ run-requires g t c =
     let m = c.args.entries.now.current in
     let first = done_at ctx c.args.source.now c.args.index c.first-item.result m in
     let fits : IsFit c.first-item.result.body = search rules in
-    let lawful = lawful_at c.transaction_laws.ensures.operations ctx c.args.source.now c.args.index c.first-item.result m fits
-    c.requires.underway in
+    let lawful = lawful_at c.transaction_laws.ensures.operations ctx c.args.source.now c.args.index
+    c.first-item.result m fits c.requires.underway in
     let after = lawful.legal in
     let underway : IsUnderway c.apply_at.new.ctx c.apply_at.new.entries.current =
     subst (λ (x : Ctx). IsUnderway x c.apply_at.new.entries.current) (sym c.in_ok-answer-in-len1-up.ensures.ctx_is)

@@ -35,6 +35,7 @@ any = record {
   Pool = λ p. Unit {0};
   Sponsor = λ s. Unit {0};
   Key = λ k. Unit {0};
+  Extension = λ ext. Unit {0};
   Named = λ a. Unit {0};
 }
 
@@ -56,6 +57,7 @@ kept old = record {
   nobody = tt;
   counted = λ count n a fits. tt;
   numbered = λ balance seq_num a fits. tt;
+  sequenced = λ n ext given a fits. tt;
   signed = λ index one sponsor key named a fits. tt;
   unsigned = λ index a fits. tt;
   sponsored = λ index sponsor named a fits. tt;
@@ -77,6 +79,7 @@ existing old = record {
   answers = anything;
   Context = λ ctx. Unit {0};
   sponsor = λ ctx id context. tt;
+  extension = λ ctx context. tt;
   opened = λ ctx one named context. tt;
   closed = λ ctx index context. tt;
   drawn = λ ctx ids context. tt;

@@ -1,16 +1,17 @@
 -- Numbers, counts, liabilities and signers that change leave the bytes of accounts.
-use Rattle.close_laws.proofs.Bytes.{AreAccountBytes, IsIdIf, IsKey, IsThird, KeepsAccounts, no_id, no_third}
-use Rattle.close_laws.proofs.Bytes.{sponsors_in}
+use Rattle.close_laws.proofs.Bytes.{AreAccountBytes, IsIdIf, IsKey, IsStamp, IsThird, KeepsAccounts, no_id, no_stamp}
+use Rattle.close_laws.proofs.Bytes.{no_third, sponsors_in}
 use Rattle.close_laws.proofs.ThirdExtensions.{liable_third, sponsors_third, sponsorship_third}
 use Rattle.close_rules.proofs.ledger_types_proofs.Booleans.{if_either}
 use Rattle.close_rules.proofs.ledger_types_proofs.Lists.{all_insert, all_remove}
 use Rattle.close_rules.specs.State.{IsEncoded}
 use Rattle.close_rules.specs.entry_slots.AccountExtensions.{is_nothing, liabilities_in, second_in, sponsorship_in}
 use Rattle.close_rules.specs.entry_slots.AccountExtensions.{with_account_liabilities, with_liabilities_in}
-use Rattle.close_rules.specs.entry_slots.AccountExtensions.{sponsorship_of, with_sponsorship}
+use Rattle.close_rules.specs.entry_slots.AccountExtensions.{sponsorship_of, third_in, with_seq_num, with_sponsorship}
 use Rattle.close_rules.specs.ledger_types.declared.account.AccountEntry.{AccountEntry}
 use Rattle.close_rules.specs.ledger_types.declared.account.AccountEntryExtensionV1.{AccountEntryExtensionV1}
 use Rattle.close_rules.specs.ledger_types.declared.account.AccountEntryExtensionV2.{AccountEntryExtensionV2}
+use Rattle.close_rules.specs.ledger_types.declared.account.AccountEntryExtensionV3.{AccountEntryExtensionV3}
 use Rattle.close_rules.specs.ledger_types.declared.ids.AccountId.{AccountId}
 use Rattle.close_rules.specs.ledger_types.declared.price.Liabilities.{Liabilities}
 use Rattle.close_rules.specs.ledger_types.declared.signer.Signer.{Signer}
@@ -26,7 +27,7 @@ use Rattle.std.proofs.Common.{arith, insert, slice_set}
 use Rattle.std.proofs.lemmas.Int.{ints}
 use Rattle.std.proofs.lemmas.List.Elements.{All-cons, All-nil, All-set}
 use Rattle.std.specs.List.{remove}
-use Rattle.std.specs.Prelude.{All, Bool, List, None, Option, Some, [], false, if◌then◌else◌, map, nat_eq, true, ℕ}
+use Rattle.std.specs.Prelude.{All, Bool, List, None, Option, Some, [], false, if◌then◌else◌, map, nat_eq, true, ℕ, ℤ}
 use Rattle.std.specs.Prelude.{◌∷◌, ◌≤ℤ◌}
 
 -- a change of numbers alone
@@ -43,7 +44,7 @@ numbers was account bytes = record {
   selling = bytes.selling;
 }
 
--- ---- counts
+-- ---- sponsorship
 
 none_named : (signers : List Signer) → All IsIdIf (map (λ signer. None) signers)
 none_named [] = All-nil IsIdIf
@@ -68,6 +69,18 @@ sponsorship_bytes sponsorship account bytes all third = record {
   third = third;
   selling = bytes.selling;
 }
+
+-- ---- sequence numbers
+
+pub seq_num_bytes : (n : ℤ) (ext : Option AccountEntryExtensionV3) → IsStamp ext → KeepsAccounts (with_seq_num n ext)
+seq_num_bytes n None stamp account bytes = numbers account (record account { seq_num = n }) bytes
+seq_num_bytes n (Some ext) stamp account bytes =
+    let numbered : AccountEntry = record account { seq_num = n } in
+    sponsorship_bytes (record (sponsorship_of numbered) { ext = Some ext }) numbered
+    (numbers account (record account { seq_num = n }) bytes)
+    (sponsors_of account.signers (second_in account.ext) bytes.sponsors) stamp
+
+-- ---- counts
 
 new_count_bytes : (count : Count) (n : ℕ) → KeepsAccounts (with_new_count count n)
 new_count_bytes SubEntries n account bytes = record {

@@ -1,6 +1,6 @@
 -- The bytes of entries: what no test of an operation says of them, and their formats do.
 use Rattle.close_laws.proofs.Prelude as prelude
-use prelude.{ℕ, List, [], ◌∷◌, All, Option, Some, None, Bool, true, false, cond, All-head, All-tail}
+use prelude.{ℕ, ◌+◌, ◌<◌, arith, List, [], ◌∷◌, All, Option, Some, None, Bool, true, false, cond, All-head, All-tail}
 use prelude.{option_map, ◌≤ℤ◌, find, account_of, AccountId, MuxedAccount, Signer, AccountEntry}
 use prelude.{AccountEntryExtensionV2, TrustLineEntry, OfferEntry, DataEntry, Claimant}
 use prelude.{ClaimableBalanceEntry, LiquidityPoolEntry, LedgerEntry, LedgerEntryBody}
@@ -9,7 +9,10 @@ use prelude.{EachEntry}
 use prelude.{account_liabilities, second_in}
 use prelude.{sponsor_of, greatest_i64, Ctx, is_same_account, open_sponsor}
 use prelude.{IsEncoded}
-use prelude.{third_in, AccountEntryExtensionV3, extension_of, account_extension_v3, extension, pos}
+use prelude.{third_in, AccountEntryExtensionV3, extension_of, account_extension_v3, extension, pos, u32, u64}
+use Rattle.std.specs.Prelude.{nat_lt}
+use Rattle.close_rules.proofs.ledger_types_proofs.Booleans.{if_either}
+use Rattle.close_rules.specs.sponsor_rules.SeqNums.{new_extension_v3}
 use Rattle.close_rules.specs.ledger_types.declared.ids.MuxedAccount.TheVariants as muxed
 use Rattle.close_rules.specs.ledger_types.declared.entry.LedgerEntryBody.TheVariants as body
 use Rattle.close_rules.specs.xdr_entries.Basic as basic
@@ -64,6 +67,23 @@ IsThird found = IsEncoded (extension_of (pos 3) account_extension_v3) found
 pub no_third : IsThird None
 unfolding extension
 no_third = record { within = tt; sized = tt }
+
+v3_encoded : (ledger time : ℕ) → ledger < 4294967296 → time < 18446744073709551616
+    → IsEncoded account_extension_v3 (record { seq_ledger = ledger; seq_time = time })
+unfolding account_extension_v3 u32 u64 constant
+v3_encoded ledger time low high = record { within = (tt, (tt, tt)); sized = (tt, (low, high)) }
+
+some_stamp : (ext : AccountEntryExtensionV3) → IsEncoded account_extension_v3 ext → IsStamp (Some ext)
+unfolding extension
+some_stamp ext encoded = record { within = encoded.within; sized = encoded.sized }
+
+-- what an account is given with a sequence number that is set in a close
+pub new_stamp : (ctx : Ctx) → ctx.seq < 2147483647 → ctx.close_time < 18446744073709551616
+    → IsStamp (new_extension_v3 ctx)
+new_stamp ctx seq time =
+    let ext : AccountEntryExtensionV3 = record { seq_ledger = ctx.seq + 1; seq_time = ctx.close_time } in
+    if_either IsStamp (nat_lt ctx.version 19) None (Some ext) no_stamp
+    (some_stamp ext (v3_encoded (ctx.seq + 1) ctx.close_time (omega arith) time))
 
 abbrev pub IsKey : Signer → Type 0
 IsKey signer = IsEncoded signer_key signer.key
@@ -134,14 +154,15 @@ AreBytes m = EachEntry (λ k e. AreEntryBytes e) m
 abbrev pub KeepsAccounts : (AccountEntry → AccountEntry) → Type 0
 KeepsAccounts change = (account : AccountEntry) → AreAccountBytes account → AreAccountBytes (change account)
 
--- ---- sponsors
+-- ---- contexts
 
 abbrev pub IsOpener : Sponsorship → Type 0
 IsOpener opened = IsId opened.sponsor
 
--- whoever opened a sponsorship has an id
-pub record AreSponsors (ctx : Ctx) : Type 0 where
+-- Whoever opened a sponsorship has an id, and what accounts are given with a sequence number can be written.
+pub record IsContextBytes (ctx : Ctx) : Type 0 where
   pub all : All IsOpener ctx.sponsorships
+  pub extension : IsStamp (new_extension_v3 ctx)
 
 opened_by : (test : Sponsorship → Bool) (opened : List Sponsorship) → All IsOpener opened
     → IsIdIf (option_map (λ one. one.sponsor) (find test opened))
@@ -154,7 +175,7 @@ opened_by test (one ∷ others) all =
     either true here rest = some_id one.sponsor here
     either false here rest = rest
 
-pub open_sponsor_id : (ctx : Ctx) (id : AccountId) → AreSponsors ctx → IsIdIf (open_sponsor ctx id)
+pub open_sponsor_id : (ctx : Ctx) (id : AccountId) → IsContextBytes ctx → IsIdIf (open_sponsor ctx id)
 unfolding open_sponsor
 open_sponsor_id ctx id sponsors =
     opened_by (λ opened. is_same_account opened.sponsored id) ctx.sponsorships sponsors.all

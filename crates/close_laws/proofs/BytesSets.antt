@@ -15,6 +15,7 @@ use Rattle.close_rules.specs.ledger_types.declared.signer.SignerKey.TheVariants.
 use Rattle.close_rules.specs.op_types.declared.transaction.FeeBumpTransactionEnvelope.{FeeBumpTransactionEnvelope}
 use Rattle.close_rules.specs.op_types.declared.transaction.TransactionEnvelope.TheVariants as envelope
 use Rattle.close_rules.specs.fee_rules.Fees.{set_base_fee}
+use Rattle.close_rules.specs.sponsor_rules.SeqNums.{new_extension_v3}
 use Rattle.close_rules.specs.tx_apply.Checks as checks
 use Rattle.close_rules.specs.tx_apply.Transaction as spec
 use Rattle.close_rules.proofs.tx_apply_proofs.Judging as judging
@@ -27,7 +28,7 @@ use Rattle.close_laws.proofs.EncodedSets.{envelopes_encoded, operations_encoded,
 use Rattle.close_laws.proofs.EncodedSets.{body_encoded, body_fit, operations_fit}
 use Rattle.close_laws.proofs.FewDrawn.{set_fits}
 use Rattle.close_laws.proofs.WrittenOffers.{CanTrade}
-use Rattle.close_laws.proofs.Bytes.{IsId, muxed_id, AreBytes, IsOpener, AreSponsors}
+use Rattle.close_laws.proofs.Bytes.{IsId, muxed_id, AreBytes, IsOpener, IsContextBytes, IsStamp, new_stamp}
 use Rattle.tx_apply.proofs.SetsHold.{Begins, BeginsEnvelope, envelope_holds, fees_hold, judged_holds, without_used}
 use Rattle.close_laws.proofs.Written.{no_account, of_bytes, writing}
 use Rattle.close_laws.proofs.WrittenOperations.{any_written}
@@ -58,7 +59,7 @@ AreOperations operations = All (IsEncoded operation) operations
 indexed_bytes : (ctx : Ctx) (index : ℕ) (source : AccountId) (m : EntryMap) → Before writing ctx m
     → Before writing (inserted ctx index source) m
 indexed_bytes ctx index source m work =
-    record { entries = work.entries; context = record { all = work.context.all } }
+    record { entries = work.entries; context = record { all = work.context.all; extension = work.context.extension } }
 
 -- what holds before the operations of a transaction that are left: each may draw an id that can be written
 pub record AreRunning (ctx : Ctx) (source : AccountId) (operations : List Operation) (m : EntryMap) : Type 0 where
@@ -138,12 +139,14 @@ pub record IsBegun (ctx : Ctx) (tx : Transaction) (m : EntryMap) : Type 0 where
   pub encoded : IsEncoded transaction tx
   pub closed : ctx.sponsorships ≡ []
   pub seq : ctx.seq < 2147483647
+  pub extension : IsStamp (new_extension_v3 ctx)
   pub settled : IsSettled ctx.id_pool m
   pub each : AreBytes m
   pub ids : CanDraw (length tx.operations) ctx.id_pool
 
-closed_context : (ctx : Ctx) → ctx.sponsorships ≡ [] → AreSponsors ctx
-closed_context ctx closed = record { all = subst (All IsOpener) (sym closed) (All-nil IsOpener) }
+closed_context : (ctx : Ctx) → ctx.sponsorships ≡ [] → IsStamp (new_extension_v3 ctx) → IsContextBytes ctx
+closed_context ctx closed extension =
+    record { all = subst (All IsOpener) (sym closed) (All-nil IsOpener); extension = extension }
 
 module _ (laws : TransactionLaws) where
   -- what its checks leave
@@ -162,8 +165,8 @@ module _ (laws : TransactionLaws) where
         work = record {
           entries = without_used of_bytes hash (checks.source_account tx) tx.operations checked.entries
               (judged_holds of_bytes pays ctx hash signatures tx m (checks.early_fault pays base_fee ctx tx m)
-              begun.each);
-          context = closed_context ctx begun.closed;
+              begun.extension begun.each);
+          context = closed_context ctx begun.closed begun.extension;
         };
         under = record {
           settled = used.settled;
@@ -184,6 +187,7 @@ begun_after laws ctx tx payer hash m begun = record {
   encoded = begun.encoded;
   closed = begun.closed;
   seq = begun.seq;
+  extension = begun.extension;
   settled = (laws.preauths ctx.id_pool m payer hash begun.settled).settled;
   each = removing_signer of_bytes payer (PreAuthTx hash) m begun.each;
   ids = begun.ids;
@@ -192,6 +196,7 @@ begun_after laws ctx tx payer hash m begun = record {
 begins : TransactionLaws → Begins of_bytes IsBegun
 begins laws = record {
   entries = λ ctx tx m begun. begun.each;
+  extension = λ ctx tx m begun. begun.extension;
   used = λ ctx tx payer hash m begun. begun_after laws ctx tx payer hash m begun;
   ran = λ pays base_fee ctx hash signatures tx m begun. run_bytes laws.operations ctx (checks.source_account tx) 0
       tx.operations _ (begun_running laws pays base_fee ctx hash signatures tx m begun);
@@ -203,6 +208,7 @@ begins laws = record {
 pub record MayApply (setting : Setting) (id_pool : ℕ) (entire : TransactionEnvelope) (m : EntryMap) : Type 0 where
   pub encoded : IsEncoded transaction_envelope entire
   pub seq : setting.header.ledger_seq < 2147483647
+  pub time : setting.close_time < 18446744073709551616
   pub settled : IsSettled id_pool m
   pub each : AreBytes m
   pub ids : CanDraw (length (operations_of entire)) id_pool
@@ -215,6 +221,7 @@ begun_v1 setting id_pool signed m may = record {
   encoded = v1_encoded signed (record { within = may.encoded.within; sized = may.encoded.sized });
   closed = refl;
   seq = may.seq;
+  extension = new_stamp (ctx_in setting id_pool (envelope.V1 signed)) may.seq may.time;
   settled = may.settled;
   each = may.each;
   ids = may.ids;
@@ -229,6 +236,7 @@ begun_bump setting id_pool signed m may = record {
       (record { within = may.encoded.within.0.1.1.0.1; sized = may.encoded.sized.0.1.1.0.1 });
   closed = refl;
   seq = may.seq;
+  extension = new_stamp (ctx_in setting id_pool (envelope.FeeBump signed)) may.seq may.time;
   settled = may.settled;
   each = may.each;
   ids = may.ids;
@@ -246,6 +254,7 @@ pub record MayApplyAll (setting : Setting) (id_pool : ℕ) (envelopes : List Tra
     (m : EntryMap) : Type 0 where
   pub encoded : All (IsEncoded transaction_envelope) envelopes
   pub seq : setting.header.ledger_seq < 2147483647
+  pub time : setting.close_time < 18446744073709551616
   pub settled : IsSettled id_pool m
   pub each : AreBytes m
   pub ids : CanDraw (operation_total envelopes) id_pool
@@ -266,6 +275,7 @@ module _ (setting : Setting) (id_pool : ℕ) (entire : TransactionEnvelope) (oth
   may_first = record {
     encoded = All-head (IsEncoded transaction_envelope) entire others may.encoded;
     seq = may.seq;
+    time = may.time;
     settled = may.settled;
     each = may.each;
     ids = first_ids id_pool (length (operations_of entire)) (operation_total others) its_ids;
@@ -280,6 +290,7 @@ module _ (setting : Setting) (id_pool : ℕ) (entire : TransactionEnvelope) (oth
       record {
         encoded = All-tail (IsEncoded transaction_envelope) entire others may.encoded;
         seq = may.seq;
+        time = may.time;
         settled = sound.left.settled;
         each = envelope_holds of_bytes IsBegun (begins laws) setting id_pool entire m
             (begins_envelope setting id_pool entire m laws may_first);
@@ -302,11 +313,13 @@ all_bytes laws setting id_pool (entire ∷ others) (fee ∷ fees) m may =
 
 -- what holds before the transactions of a set, after their fees
 pub set_begun : TransactionLaws → LegalSettles → (setting : Setting) (set : TransactionSet) (m : EntryMap)
-    → CanClose setting set m → IsEncoded transaction_set set → length set.txs ≤ 16777216 → AreBytes m
+    → CanClose setting set m → setting.close_time < 18446744073709551616 → IsEncoded transaction_set set
+    → length set.txs ≤ 16777216 → AreBytes m
     → MayApplyAll setting setting.header.id_pool (envelopes_in_order set) (fees_taken_of setting set m).entries
-set_begun laws settles setting set m can encoded few each = record {
+set_begun laws settles setting set m can time encoded few each = record {
   encoded = all_at (IsEncoded transaction_envelope) set.txs (apply_order_of set) (envelopes_encoded set encoded);
   seq = can.seq;
+  time = time;
   settled = (all_taken laws setting.header.id_pool (set_base_fee setting.header set.txs) (envelopes_in_order set) m
       (settles setting.header m can.legal)).settled;
   each = fees_hold of_bytes (set_base_fee setting.header set.txs) (envelopes_in_order set) m each;
@@ -314,8 +327,9 @@ set_begun laws settles setting set m can encoded few each = record {
 }
 
 pub set_bytes : TransactionLaws → LegalSettles → (setting : Setting) (set : TransactionSet) (m : EntryMap)
-    → CanClose setting set m → IsEncoded transaction_set set → length set.txs ≤ 16777216 → AreBytes m
+    → CanClose setting set m → setting.close_time < 18446744073709551616 → IsEncoded transaction_set set
+    → length set.txs ≤ 16777216 → AreBytes m
     → AreBytes (set_done setting set m).entries
-set_bytes laws settles setting set m can encoded few each =
+set_bytes laws settles setting set m can time encoded few each =
     all_bytes laws setting setting.header.id_pool (envelopes_in_order set) (fees_taken_of setting set m).fees
-    (fees_taken_of setting set m).entries (set_begun laws settles setting set m can encoded few each)
+    (fees_taken_of setting set m).entries (set_begun laws settles setting set m can time encoded few each)

@@ -1,21 +1,35 @@
 -- What a record that has an encoding says of the transactions of its set.
-use Rattle.close_laws.proofs.Prelude.{◌≤◌, List, length, All, arith, ints, ℤ, ◌≤ℤ◌, FitsSigned, w64, greatest_i64}
+use Rattle.close_laws.proofs.Prelude.{◌<◌, ◌≤◌, List, length, All, arith, ints, ℤ, ◌≤ℤ◌, FitsSigned, w64}
+use Rattle.close_laws.proofs.Prelude.{greatest_i64}
 use Rattle.close_laws.proofs.Prelude.{Operation, OperationBody, Transaction, TransactionV1Envelope, TransactionEnvelope}
 use Rattle.close_laws.proofs.Prelude.{TransactionSet, i64, list_of, claimant, operation, operation_body}
 use Rattle.close_laws.proofs.Prelude.{bump_sequence_op, change_trust_op, create_claimable_balance_op, transaction_tail}
 use Rattle.close_laws.proofs.Prelude.{transaction, transaction_v0, transaction_v1_envelope, transaction_v0_envelope}
 use Rattle.close_laws.proofs.Prelude.{fee_bump_transaction, fee_bump_envelope, transaction_envelope, transaction_set}
 use Rattle.close_laws.proofs.Prelude.{CloseRecord, close_record, IsFit, operations_of, AreFit, AreAllFit, IsEncoded}
+use Rattle.close_rules.specs.ledger_types.declared.header.StellarValue.{StellarValue}
+use Rattle.close_rules.specs.xdr_header.Header.{stellar_value}
 use Rattle.close_rules.specs.op_types.declared.operation.OperationBody.TheVariants as body
 use Rattle.close_rules.specs.op_types.declared.transaction.TransactionV0.{TransactionV0}
 use Rattle.close_rules.specs.op_types.declared.transaction.TransactionEnvelope.TheVariants as envelope
 use Rattle.close_laws.proofs.Encoded.{each_encoded, few_encoded}
+use Rattle.close_laws.proofs.ShortEntries.{u64_of}
 
 -- ---- sets
 
 pub set_encoded : (closing : CloseRecord) → IsEncoded close_record closing → IsEncoded transaction_set closing.tx_set
 unfolding close_record
 set_encoded closing encoded = record { within = encoded.within.1.0; sized = encoded.sized.1.0 }
+
+value_time : (value : StellarValue) → stellar_value.sized value → value.close_time < 18446744073709551616
+unfolding stellar_value
+value_time value sized = u64_of value.close_time sized.1.0
+
+-- the close time is a uint64
+pub time_fits : (closing : CloseRecord) → IsEncoded close_record closing
+    → closing.scp_value.close_time < 18446744073709551616
+unfolding close_record
+time_fits closing encoded = value_time closing.scp_value encoded.sized.1.1
 
 txs_encoded : (set : TransactionSet) → IsEncoded transaction_set set
     → IsEncoded (list_of 4294967295 transaction_envelope) set.txs

@@ -10,6 +10,7 @@ use prelude.{read_complete, upgrade_in, upgraded, upgraded_if, all_upgraded, set
 use prelude.{moves_third, hash_at, skip_list_after, finished, SetsConserve, ClosingState, IsEncoded, applied_in}
 use prelude.{filled_header, upgraded_header, IsClosable}
 use Rattle.std.proofs.Common.{ℤ, pos}
+use Rattle.close_rules.specs.legal_rules.Headers.{IsSupported}
 use Rattle.close_rules.specs.ledger_types.declared.asset.Asset.TheVariants as asset
 use Rattle.close_rules.specs.ledger_types.declared.header.LedgerHeaderExtensionV1.{LedgerHeaderExtensionV1}
 use Rattle.close_rules.specs.ledger_types.declared.header.LedgerUpgrade.TheVariants as upgrade
@@ -294,8 +295,8 @@ header_encoded h parts range coins pool buckets =
       );
     }
   where
-    of_version : h.ledger_version ≡ 18 → h.ledger_version < 4294967296
-    of_version is = omega arith
+    of_version : IsSupported h.ledger_version → h.ledger_version < 4294967296
+    of_version supported = let high = supported.1 in omega arith
 
     of_seq : h.ledger_seq ≤ 2147483647 → h.ledger_seq < 4294967296
     of_seq le = omega arith

@@ -21,7 +21,7 @@ use Rattle.close_rules.specs.ledger_types.declared.entry.LedgerEntryBody.TheVari
 use Rattle.close_rules.specs.entry_slots.Accounts.{account_of}
 use Rattle.close_laws.proofs.Unmarked.{AreMapsAlike, next_alike, existed}
 use Rattle.close_laws.proofs.Encoded.{each_encoded}
-use Rattle.close_laws.proofs.EncodedSets.{set_encoded}
+use Rattle.close_laws.proofs.EncodedSets.{set_encoded, time_fits}
 use Rattle.close_laws.proofs.Unrefused.{seq_below}
 use Rattle.close_laws.proofs.NextLegal.{can_close, next_settled, next_is_legal}
 use Rattle.close_laws.proofs.Bytes.{IsIdIf, no_id, IsThird, no_third, IsKey, sponsors_in, AreAccountBytes}
@@ -371,7 +371,7 @@ module _ (laws : TransactionLaws) (settles : LegalSettles) (legal : SettledLegal
       alike_bytes (applied_in s closing).entries after
       (next_alike (s.header.ledger_seq + 1) s.entries (applied_in s closing).entries after closed)
       (set_bytes laws settles (setting_in s closing) closing.tx_set s.entries (can_close s closing can)
-      (set_encoded closing can.encoded) can.few (map_bytes s.entries can.state.entries))
+      (time_fits closing can.encoded) (set_encoded closing can.encoded) can.few (map_bytes s.entries can.state.entries))
 
   next_seq : (k : LedgerKey) (e : LedgerEntry) → get after k ≡ Some e → e.last_modified_ledger_seq < 4294967296
   next_seq k e there =

@@ -6,13 +6,27 @@ use Rattle.close_laws.proofs.Prelude.{upgraded_if, all_upgraded, finished, map_a
 use Rattle.close_laws.proofs.Prelude.{ClosingState, record_fault, applied_in, filled_header, upgraded_header}
 use Rattle.close_laws.proofs.Prelude.{add_nonnegative, natural_add_nonnegative, natural_nonnegative}
 use Rattle.close_rules.specs.ledger_types.declared.header.LedgerUpgrade.TheVariants as upgrade
+use Rattle.close_rules.specs.legal_rules.Headers.{IsSupported}
 use Rattle.close_laws.proofs.Unrefused.{IsGood, IsGoodRead, upgrades_good}
 
 -- ---- upgrades
 
+supported : (n : ℕ) → n ≡ 19 → IsSupported n
+supported n is = (omega arith, omega arith)
+
 range_upgraded : (h : LedgerHeader) (asked : LedgerUpgrade) → IsGood asked → IsHeaderInRange h
     → IsHeaderInRange (upgraded h asked)
-range_upgraded h (upgrade.Version n) good range = absurd good
+range_upgraded h (upgrade.Version n) good range = record {
+  version = supported n good;
+  seq_low = range.seq_low;
+  seq_high = range.seq_high;
+  base_fee = range.base_fee;
+  base_reserve = range.base_reserve;
+  total_coins = range.total_coins;
+  fee_pool = range.fee_pool;
+  id_pool = range.id_pool;
+  flags = range.flags;
+}
 range_upgraded h (upgrade.BaseFee n) good range = record {
   version = range.version;
   seq_low = range.seq_low;

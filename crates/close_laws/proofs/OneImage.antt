@@ -8,6 +8,7 @@ use Rattle.close_laws.proofs.Prelude.{AreFieldsInRange, ImagesAreOne}
 use Rattle.std.specs.Prelude.{All}
 use Rattle.bucket_levels.proofs.bucket_core_proofs.Files.{files_distinguish}
 use Rattle.bucket_levels.specs.Meaning.{Represent, AreWellMarked}
+use Rattle.close_rules.specs.legal_rules.Headers.{IsSupported}
 use Rattle.close_rules.specs.declared.image_fault.ImageFault.{ImageFault}
 use Rattle.close_rules.specs.declared.image_fault.ImageFault.TheVariants as fault
 use Rattle.close_rules.specs.declared.image_fault.ImageRule.{ImageRule}
@@ -123,8 +124,8 @@ ByFields network image h judged =
 
 abbrev ByVersion : Hash → StartImage → LedgerHeader → Judged → Type 0
 ByVersion network image h judged =
-    Broken rule.Version (h.ledger_version ≡ 18) judged
-    ⊎ ((h.ledger_version ≡ 18) × ByFields network image h judged)
+    Broken rule.Version (IsSupported h.ledger_version) judged
+    ⊎ (IsSupported h.ledger_version × ByFields network image h judged)
 
 abbrev ByRules : Hash → StartImage → Judged → Type 0
 ByRules network image judged =

@@ -24,7 +24,7 @@ use Rattle.close_rules.specs.op_types.InnerOutcome.{inner_outcome}
 use Rattle.close_rules.specs.tx_apply.InnerResult.{inner_pair, bump_outcome}
 use Rattle.close_rules.specs.tx_apply.Transaction as spec
 use Rattle.close_laws.specs.Results.{ResultsAreEncoded}
-use Rattle.close_laws.proofs.EncodedSets.{set_encoded, envelopes_few}
+use Rattle.close_laws.proofs.EncodedSets.{set_encoded, envelopes_few, time_fits}
 use Rattle.close_laws.proofs.FewDrawn.{HasFew, set_few, envelopes_len}
 use Rattle.close_laws.proofs.Digests.{hash_len}
 use Rattle.close_laws.proofs.Written.{IsAnswer, bad_auth}
@@ -172,6 +172,14 @@ first_plain (test ∷ tests) all = either test.0 (first_plain tests all.1)
     either true rest = all.0
     either false rest = rest
 
+malformed : IsPlain outcome.Malformed
+unfolding transaction_outcome inner_transaction_outcome
+malformed = record { itself = tt; inner = tt }
+
+bad_min_seq_age_or_gap : IsPlain outcome.BadMinSeqAgeOrGap
+unfolding transaction_outcome inner_transaction_outcome
+bad_min_seq_age_or_gap = record { itself = tt; inner = tt }
+
 missing_operation : IsPlain outcome.MissingOperation
 unfolding transaction_outcome inner_transaction_outcome
 missing_operation = record { itself = tt; inner = tt }
@@ -225,10 +233,10 @@ early_plain : (pays : Bool) (base_fee : ℕ) (ctx : Ctx) (tx : Transaction) (m :
     → MaybePlain (checks.early_fault pays base_fee ctx tx m)
 early_plain pays base_fee ctx tx m =
     fault_plain (first_fault (checks.own_tests pays base_fee ctx tx))
-    (first_fault (checks.source_tests tx.seq_num (account_at m (checks.source_account tx))))
+    (first_fault (checks.source_tests ctx tx (account_at m (checks.source_account tx))))
     (first_plain (checks.own_tests pays base_fee ctx tx)
-    (not_supported, (missing_operation, (too_early, (too_late, (insufficient_fee, tt))))))
-    (first_plain (checks.source_tests tx.seq_num (account_at m (checks.source_account tx))) (no_source, (bad_seq, tt)))
+    (not_supported, (malformed, (missing_operation, (too_early, (too_late, (insufficient_fee, tt)))))))
+    (first_plain (checks.source_tests ctx tx (account_at m (checks.source_account tx))) (no_source, (bad_seq, tt)))
 
 either_plain : (b : Bool) (x y : Option TransactionOutcome) → MaybePlain x → MaybePlain y
     → MaybePlain (if b then x else y)
@@ -258,8 +266,10 @@ judged_plain : (pays : Bool) (ctx : Ctx) (hash : Hash) (signatures : List HeldSi
     → MaybePlain (checks.judged_by pays ctx hash signatures tx m fault).outcome
 judged_plain pays ctx digest signatures tx m (Some fault) few plain = plain
 judged_plain pays ctx digest signatures tx m None few plain =
-    late_plain pays ctx digest tx (checks.map_after_seq_num tx m)
-    (auth_of digest Low signatures (checks.map_after_seq_num tx m) (checks.source_account tx)) few
+    let used = checks.map_after_seq_num ctx tx m in
+    either_plain (checks.is_bad_min_seq_age_or_gap ctx tx.cond (account_at m (checks.source_account tx)))
+    (Some outcome.BadMinSeqAgeOrGap) (checks.late_outcome pays ctx digest signatures tx used) bad_min_seq_age_or_gap
+    (late_plain pays ctx digest tx used (checks.transaction_auth digest signatures tx used) few)
 
 either_applied : (b : Bool) (x y : spec.Applied) → IsPlain x.outcome → IsPlain y.outcome
     → IsPlain (if b then x else y).outcome
@@ -416,7 +426,8 @@ unfolding transaction_result_set list
 results_are_encoded laws settles s closing can =
     let set = closing.tx_set in
     let encoded = set_encoded closing can.encoded in
-    let begun = set_begun laws settles (setting_in s closing) set s.entries (can_close s closing can) encoded can.few
+    let begun = set_begun laws settles (setting_in s closing) set s.entries (can_close s closing can)
+    (time_fits closing can.encoded) encoded can.few
     (map_bytes s.entries can.state.entries) in
     let results = all_results laws (setting_in s closing) s.header.id_pool (envelopes_in_order set)
     (fees_taken_of (setting_in s closing) set s.entries).fees

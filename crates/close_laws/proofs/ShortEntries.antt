@@ -39,7 +39,7 @@ u32_of : (n : ℕ) → u32.sized n → n < 4294967296
 unfolding u32
 u32_of n sized = omega (arith, sized)
 
-u64_of : (n : ℕ) → u64.sized n → n < 18446744073709551616
+pub u64_of : (n : ℕ) → u64.sized n → n < 18446744073709551616
 unfolding u64
 u64_of n sized = omega (arith, sized)
 

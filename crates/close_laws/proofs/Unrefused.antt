@@ -7,7 +7,9 @@ use prelude.{LedgerUpgrade, CloseRecord, upgrade_in, type_of, is_bad_value, is_b
 use prelude.{is_out_of_profile, first_index, ClosingState, record_fault, term_fault, upgrade_fault, set_fault}
 use prelude.{less_from_unequal, natural_positive_from_unequal, natural_zero_add, leb-false, ltb-false}
 use Rattle.std.proofs.Common.{option_map}
+use Rattle.std.proofs.lemmas.Bool.{eqb-true}
 use Rattle.std.proofs.lemmas.Option.{slice_get-get_or}
+use Rattle.std.specs.Prelude.{nat_eq, not}
 use Rattle.close_rules.specs.Refusals.{term_tests}
 use Rattle.close_rules.specs.entry_slots.Tests.{Tests, first_fault}
 use Rattle.op_form.proofs.Steps.{AllPass}
@@ -70,7 +72,7 @@ later_time s closing none =
 
 -- an upgrade that is made, of a value that its field may have
 abbrev pub IsGood : LedgerUpgrade → Type 0
-IsGood (upgrade.Version n) = ⊥
+IsGood (upgrade.Version n) = n ≡ 19
 IsGood (upgrade.BaseFee n) = 1 ≤ n
 IsGood (upgrade.MaxTxSetSize n) = Unit {0}
 IsGood (upgrade.BaseReserve n) = 1 ≤ n
@@ -103,9 +105,15 @@ pub either_false : (a b : Bool) → (a || b) ≡ false → b ≡ false
 either_false true b e = absurd (cc)
 either_false false b e = e
 
+not_false : (b : Bool) → not b ≡ false → b ≡ true
+not_false true e = refl
+not_false false e = absurd (cc)
+
 good_value : (header : LedgerHeader) (asked : LedgerUpgrade) → is_bad_value asked ≡ false
     → is_out_of_profile header (Some (Some asked)) ≡ false → IsGood asked
-good_value header (upgrade.Version n) value made = cc
+good_value header (upgrade.Version n) value made =
+    eqb-true n 19 (not_false (nat_eq n 19)
+    (either_false (not (nat_eq header.ledger_version 18)) (not (nat_eq n 19)) made))
 good_value header (upgrade.BaseFee n) value made = natural_positive_from_unequal n value
 good_value header (upgrade.MaxTxSetSize n) value made = tt
 good_value header (upgrade.BaseReserve n) value made = natural_positive_from_unequal n value

@@ -1,9 +1,9 @@
 -- What operations leave and answer can be written.
-use Rattle.close_laws.proofs.AccountBytes.{count_bytes, liable_bytes, numbers, set_signer, signer_at_bytes}
-use Rattle.close_laws.proofs.AccountBytes.{signer_sponsor_bytes, without_signer_bytes}
+use Rattle.close_laws.proofs.AccountBytes.{count_bytes, liable_bytes, numbers, seq_num_bytes, set_signer}
+use Rattle.close_laws.proofs.AccountBytes.{signer_at_bytes, signer_sponsor_bytes, without_signer_bytes}
 use Rattle.close_laws.proofs.Bytes.{AreAccountBytes, AreBalanceBytes, AreBytes, AreDataBytes, AreEntryBytes}
-use Rattle.close_laws.proofs.Bytes.{AreLineBytes, AreOfferBytes, ArePoolBytes, AreSponsors, IsId, IsIdIf, IsOpener}
-use Rattle.close_laws.proofs.Bytes.{id_of_some, no_id, open_sponsor_id}
+use Rattle.close_laws.proofs.Bytes.{AreLineBytes, AreOfferBytes, ArePoolBytes, IsContextBytes, IsId, IsIdIf}
+use Rattle.close_laws.proofs.Bytes.{IsOpener, IsStamp, id_of_some, no_id, open_sponsor_id}
 use Rattle.close_laws.proofs.ShortIds.{fits_i64}
 use Rattle.close_rules.proofs.entry_sums_proofs.Lookups.{erase_each, put_each}
 use Rattle.close_rules.proofs.ledger_types_proofs.Arithmetic.{natural_nonnegative}
@@ -107,6 +107,7 @@ of_bytes = record {
     Pool = ArePoolBytes;
     Sponsor = IsIdIf;
     Key = λ k. IsEncoded signer_key k;
+    Extension = IsStamp;
     Named = λ held. IsEncoded basic.asset held;
   };
   Holds = AreBytes;
@@ -120,6 +121,7 @@ of_bytes = record {
   nobody = no_id;
   counted = count_bytes;
   numbered = λ balance seq_num a bytes. numbers a (record a { balance = balance; seq_num = seq_num }) bytes;
+  sequenced = seq_num_bytes;
   signed = signer_at_bytes;
   unsigned = without_signer_bytes;
   sponsored = signer_sponsor_bytes;
@@ -187,25 +189,27 @@ others = (record { within = tt }, record { within = tt }, record { within = tt }
 
 -- ---- the context
 
-pub opened_sponsors : (ctx : Ctx) (one : Sponsorship) → IsIdIf (Some one.sponsor) → AreSponsors ctx
-    → AreSponsors (record ctx { sponsorships = ctx.sponsorships ++ one ∷ [] })
-opened_sponsors ctx one named sponsors = record {
-  all = All-append IsOpener ctx.sponsorships (one ∷ []) sponsors.all
+pub opened_sponsors : (ctx : Ctx) (one : Sponsorship) → IsIdIf (Some one.sponsor) → IsContextBytes ctx
+    → IsContextBytes (record ctx { sponsorships = ctx.sponsorships ++ one ∷ [] })
+opened_sponsors ctx one named bytes = record {
+  all = All-append IsOpener ctx.sponsorships (one ∷ []) bytes.all
       (All-cons IsOpener one [] (id_of_some one.sponsor named) (All-nil IsOpener));
+  extension = bytes.extension;
 }
 
-pub closed_sponsors : (ctx : Ctx) (index : ℕ) → AreSponsors ctx
-    → AreSponsors (record ctx { sponsorships = remove ctx.sponsorships index })
-closed_sponsors ctx index sponsors = record {
+pub closed_sponsors : (ctx : Ctx) (index : ℕ) → IsContextBytes ctx
+    → IsContextBytes (record ctx { sponsorships = remove ctx.sponsorships index })
+closed_sponsors ctx index bytes = record {
   all = All-append IsOpener (take index ctx.sponsorships) (drop (suc index) ctx.sponsorships)
-      (All-take IsOpener index ctx.sponsorships sponsors.all)
-      (All-drop IsOpener (suc index) ctx.sponsorships sponsors.all);
+      (All-take IsOpener index ctx.sponsorships bytes.all)
+      (All-drop IsOpener (suc index) ctx.sponsorships bytes.all);
+  extension = bytes.extension;
 }
 
 abbrev pub writing : Logic
 writing = record {
   inv = of_bytes;
-  Context = AreSponsors;
+  Context = IsContextBytes;
   answers = record {
     Answer = IsAnswer;
     bare = bare;
@@ -216,7 +220,8 @@ writing = record {
     exceeded = others.3;
   };
   sponsor = open_sponsor_id;
+  extension = λ ctx bytes. bytes.extension;
   opened = opened_sponsors;
   closed = closed_sponsors;
-  drawn = λ ctx ids sponsors. record { all = sponsors.all };
+  drawn = λ ctx ids bytes. record { all = bytes.all; extension = bytes.extension };
 }

@@ -9,7 +9,7 @@ use Rattle.xdr_core.specs.Position.{Reading, start_of}
 use Rattle.header_chain.specs.xdr_header.declared.image.StartImage.{StartImage}
 use Rattle.header_chain.specs.xdr_header.Header.{ledger_header}
 use Rattle.bucket_levels.specs.entry_map.EntryMap.{EntryMap}
-use Rattle.tx_apply.specs.legal_rules.Headers.{header_flags}
+use Rattle.tx_apply.specs.legal_rules.Headers.{IsSupported, header_flags}
 use Rattle.tx_apply.specs.op_form.Sequences.{last_seq}
 use Rattle.bucket_levels.specs.bucket_core.File.{file_of, HasFile}
 use Rattle.bucket_levels.specs.Spills.{level_count}
@@ -68,7 +68,7 @@ pub record HasFiles (image : StartImage) (levels : List Pair) : Type 0 where
 -- the first three rules
 pub record HasHeader (image : StartImage) (h : LedgerHeader) : Type 0 where
   pub reads : header_in image.header ≡ Some h
-  pub version : h.ledger_version ≡ 18
+  pub version : IsSupported h.ledger_version
   pub fields : AreFieldsInRange h
 
 -- the first four
@@ -91,11 +91,11 @@ state_of network h levels m = record { network = network; header = h; entries = 
 
 -- 2 to 6, each where those before it are kept
 abbrev pub BreaksVersion : StartImage → Type 0
-BreaksVersion image = (h : LedgerHeader) × (header_in image.header ≡ Some h) × (h.ledger_version ≢ 18)
+BreaksVersion image = (h : LedgerHeader) × (header_in image.header ≡ Some h) × (IsSupported h.ledger_version → ⊥)
 
 abbrev pub BreaksFields : StartImage → Type 0
 BreaksFields image =
-    (h : LedgerHeader) × (header_in image.header ≡ Some h) × (h.ledger_version ≡ 18) × (AreFieldsInRange h → ⊥)
+    (h : LedgerHeader) × (header_in image.header ≡ Some h) × IsSupported h.ledger_version × (AreFieldsInRange h → ⊥)
 
 abbrev pub BreaksBucket : StartImage → Type 0
 BreaksBucket image = (h : LedgerHeader) × HasHeader image h × ((levels : List Pair) → HasFiles image levels → ⊥)

@@ -50,14 +50,20 @@ upgrades_answer asked old new (Err (OutOfProfile index)) (none_bad, some_out, st
 abbrev two : (first second : List ℕ) → List (Option LedgerUpgrade)
 two first second = upgrade_in first ∷ upgrade_in second ∷ []
 
--- the version 19, a base fee of 200 and of 0, a set of 50 transactions at most
+-- a header of a version
+abbrev of_version : (version : ℕ) → LedgerHeader → LedgerHeader
+of_version version header = record header { ledger_version = version }
+
+-- the versions 19 and 20, a base fee of 200 and of 0, a set of 50 transactions at most
 upgrades_are_judged_by_their_types_and_values : (header : LedgerHeader)
-    → (answer header (two (hex "0000000100000013") (hex "00000002000000c8")) ≡ Err (OutOfProfile 0))
+    → (answer (of_version 18 header) (two (hex "0000000100000013") (hex "00000002000000c8")) ≡ Ok tt)
+    × (answer (of_version 19 header) (two (hex "0000000100000013") (hex "00000002000000c8")) ≡ Err (OutOfProfile 0))
+    × (answer (of_version 18 header) (two (hex "0000000100000014") (hex "00000002000000c8")) ≡ Err (OutOfProfile 0))
     × (answer header (two (hex "00000002000000c8") (hex "0000000100000013")) ≡ Err (Bad 1))
     × (answer header (two (hex "0000000300000032") (hex "00000002000000c8")) ≡ Err (Bad 1))
     × (answer header (two (hex "0000000200000000") (hex "0000000300000032")) ≡ Err (Bad 0))
 unfolding ledger_upgrade u32 i32 hex
-upgrades_are_judged_by_their_types_and_values header = (refl, refl, refl, refl)
+upgrades_are_judged_by_their_types_and_values header = (refl, refl, refl, refl, refl, refl)
 
 -- the flags 7
 flags_add_an_extension : (header : LedgerHeader)

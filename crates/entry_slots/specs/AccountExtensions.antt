@@ -1,5 +1,5 @@
 -- What accounts' extensions say (CAP-0003, CAP-0033, CAP-0021). What isn't there reads as zeros and none.
-use Rattle.std.specs.Prelude.{ℕ, pos, Bool, ◌&&◌, List, map, Option, Some, None, if◌then◌else◌}
+use Rattle.std.specs.Prelude.{ℕ, ℤ, pos, int_lt, Bool, ◌&&◌, List, map, Option, Some, None, if◌then◌else◌}
 use Rattle.std.specs.List.{slice_get}
 use Rattle.std.specs.Option.{option_and_then}
 use Rattle.std.specs.Ordering.{int_eq}
@@ -42,7 +42,7 @@ abbrev pub second_in : Option AccountEntryExtensionV1 → Option AccountEntryExt
 second_in None = None
 second_in (Some ext) = ext.ext
 
--- when the sequence number was last set, as far as it is recorded (CAP-0021)
+-- when the sequence number was last set, where that is recorded (CAP-0021)
 abbrev pub third_in : Option AccountEntryExtensionV2 → Option AccountEntryExtensionV3
 third_in None = None
 third_in (Some ext) = ext.ext
@@ -62,6 +62,22 @@ num_sponsoring account = sponsoring_in (second_in account.ext)
 -- how many reserves of an account others pay
 abbrev pub num_sponsored : AccountEntry → ℕ
 num_sponsored account = sponsored_in (second_in account.ext)
+
+abbrev pub seq_ledger_in : Option AccountEntryExtensionV3 → ℕ
+seq_ledger_in None = 0
+seq_ledger_in (Some ext) = ext.seq_ledger
+
+abbrev pub seq_time_in : Option AccountEntryExtensionV3 → ℕ
+seq_time_in None = 0
+seq_time_in (Some ext) = ext.seq_time
+
+-- the ledger in which the sequence number was last set, or 0 where that isn't recorded
+abbrev pub seq_ledger : AccountEntry → ℕ
+seq_ledger account = seq_ledger_in (third_in (second_in account.ext))
+
+-- the close time of that ledger
+abbrev pub seq_time : AccountEntry → ℕ
+seq_time account = seq_time_in (third_in (second_in account.ext))
 
 -- who pays the reserve of the signer at an index, if somebody does
 abbrev pub signer_sponsor : AccountEntry → ℕ → Option AccountId
@@ -83,3 +99,18 @@ sponsorship_of account = sponsorship_in account.signers (second_in account.ext)
 abbrev pub with_sponsorship : AccountEntryExtensionV2 → AccountEntry → AccountEntry
 with_sponsorship sponsorship account =
     record account { ext = Some (record { liabilities = account_liabilities account; ext = Some sponsorship }) }
+
+-- ---- sequence numbers
+
+-- An account with extension V3, where one is given. The extensions below it are added, and what stands in them stays.
+abbrev pub with_extension_v3 : Option AccountEntryExtensionV3 → AccountEntry → AccountEntry
+with_extension_v3 None account = account
+with_extension_v3 (Some ext) account = with_sponsorship (record (sponsorship_of account) { ext = Some ext }) account
+
+-- an account whose sequence number is set to n, with the extension V3 that a ledger of its version gives it
+abbrev pub with_seq_num : (n : ℤ) → Option AccountEntryExtensionV3 → AccountEntry → AccountEntry
+with_seq_num n ext account = with_extension_v3 ext (record account { seq_num = n })
+
+-- an account whose sequence number is set to n, or to what it is where that is greater
+abbrev pub with_seq_num_from : (n : ℤ) → Option AccountEntryExtensionV3 → AccountEntry → AccountEntry
+with_seq_num_from n ext account = with_seq_num (if int_lt account.seq_num n then n else account.seq_num) ext account

@@ -3,7 +3,8 @@ use Rattle.std.specs.Prelude.{Option, Some, None}
 use Rattle.entry_map.specs.ledger_types.declared.ids.AccountId.{AccountId}
 use Rattle.entry_map.specs.ledger_types.declared.account.AccountEntry.{AccountEntry}
 use Rattle.entry_map.specs.EntryMap.{EntryMap}
-use Rattle.entry_slots.specs.AccountExtensions.{account_liabilities, num_sponsored, num_sponsoring}
+use Rattle.entry_slots.specs.AccountExtensions.{account_liabilities, num_sponsored, num_sponsoring, seq_ledger}
+use Rattle.entry_slots.specs.AccountExtensions.{seq_time}
 use Rattle.entry_slots.specs.Accounts.{account_at}
 use Rattle.entry_slots.specs.declared.account_facts.AccountFacts.{AccountFacts}
 
@@ -17,6 +18,8 @@ facts_of account = record {
   liabilities = account_liabilities account;
   num_sponsored = num_sponsored account;
   num_sponsoring = num_sponsoring account;
+  seq_ledger = seq_ledger account;
+  seq_time = seq_time account;
 }
 
 -- the facts of an account, if there is one

@@ -1,10 +1,11 @@
 //! What accounts' extensions say. What isn't there reads as zeros and none, and is added for a value that is neither.
 
-ghost use Rattle.std.specs.Prelude.{◌≡◌, None, map, IfOk};
+ghost use Rattle.std.specs.Prelude.{◌≡◌, None, map, IfOk, OnOk};
 ghost use Rattle.entry_slots.specs.AccountExtensions as spec;
 
 use entry_map::ledger_types::{
-    AccountEntry, AccountEntryExtensionV1, AccountEntryExtensionV2, AccountId, Liabilities, Signer,
+    AccountEntry, AccountEntryExtensionV1, AccountEntryExtensionV2, AccountEntryExtensionV3,
+    AccountId, Liabilities, Signer,
 };
 use item_list::ItemList;
 use std::alloc::AllocError;
@@ -76,6 +77,63 @@ pub fn num_sponsoring(account: &AccountEntry) -> u32
         ) => second.num_sponsoring,
         _ => 0,
     }
+}
+
+/// The ledger in which an account's sequence number was last set, or 0 where that isn't recorded (CAP-0021).
+pub fn seq_ledger(account: &AccountEntry) -> u32
+    ensures { result ≡ spec.seq_ledger account.now }
+{
+    match extension_v3(account) {
+        Some(ext) => ext.seq_ledger,
+        None => 0,
+    }
+}
+
+/// The close time of the ledger in which an account's sequence number was last set, or 0 where that isn't recorded.
+pub fn seq_time(account: &AccountEntry) -> u64
+    ensures { result ≡ spec.seq_time account.now }
+{
+    match extension_v3(account) {
+        Some(ext) => ext.seq_time,
+        None => 0,
+    }
+}
+
+fn extension_v3(account: &AccountEntry) -> Option<AccountEntryExtensionV3>
+    ensures { result ≡ spec.third_in (spec.second_in account.now.ext) }
+{
+    account.ext.as_ref()?.ext.as_ref()?.ext
+}
+
+/// Gives an account extension V3, where there is one to give.
+fn set_extension_v3(
+    account: &mut AccountEntry,
+    ext: Option<AccountEntryExtensionV3>,
+) -> Result<(), AllocError>
+    ensures { OnOk result (account.new ≡ spec.with_extension_v3 ext account.old) }
+{
+    if ext.is_none() {
+        return Ok(());
+    }
+    let (liabilities, mut sponsorship) = both_extensions(&account.signers, account.ext.take())?;
+    sponsorship.ext = ext;
+    account.ext = Some(AccountEntryExtensionV1 {
+        liabilities,
+        ext: Some(sponsorship),
+    });
+    Ok(())
+}
+
+/// Sets an account's sequence number, and the ledger and the close time in which that happens, where they are recorded.
+pub fn set_seq_num(
+    account: &mut AccountEntry,
+    seq_num: i64,
+    ext: Option<AccountEntryExtensionV3>,
+) -> Result<(), AllocError>
+    ensures { OnOk result (account.new ≡ spec.with_seq_num seq_num ext account.old) }
+{
+    account.seq_num = seq_num;
+    set_extension_v3(account, ext)
 }
 
 /// Who pays the reserve of the signer at an index, if somebody does.

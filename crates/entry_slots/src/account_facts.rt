@@ -5,7 +5,9 @@ ghost use Rattle.std.specs.Option.{option_copied};
 ghost use Rattle.entry_slots.specs.Accounts.{account_of};
 ghost use Rattle.entry_slots.specs.AccountFacts as spec;
 
-use crate::account_extensions::{account_liabilities, num_sponsored, num_sponsoring};
+use crate::account_extensions::{
+    account_liabilities, num_sponsored, num_sponsoring, seq_ledger, seq_time,
+};
 use crate::accounts::account_in;
 use entry_map::ledger_types::{AccountEntry, AccountId, LedgerEntry, LedgerKey, Liabilities};
 use entry_map::{Base, Entries};
@@ -22,6 +24,10 @@ pub struct AccountFacts {
     pub liabilities: Liabilities,
     pub num_sponsored: u32,
     pub num_sponsoring: u32,
+    /// The ledger in which the sequence number was last set, or 0 where that isn't recorded (CAP-0021).
+    pub seq_ledger: u32,
+    /// The close time of that ledger.
+    pub seq_time: u64,
 }
 
 /// The facts of an account.
@@ -37,6 +43,8 @@ pub fn facts_of(account: &AccountEntry) -> AccountFacts
         liabilities: account_liabilities(account),
         num_sponsored: num_sponsored(account),
         num_sponsoring: num_sponsoring(account),
+        seq_ledger: seq_ledger(account),
+        seq_time: seq_time(account),
     }
 }
 

@@ -99,22 +99,3 @@ pub fn erase_account<B: Base>(
         account_id: *account_id,
     })
 }
-
-/// Gives the account with this id, if it exists, another sequence number.
-#[tactic(auto, unfolding(crate::specs::Accounts::with_account))]
-pub fn set_seq_num<B: Base>(
-    entries: &mut Entries<'_, B>,
-    account_id: &AccountId,
-    seq_num: i64,
-) -> Result<(), AllocError>
-    ensures { OnOk result (
-        entries.new ≡
-        with_current entries.old (
-        spec.with_account entries.old.current account_id.now (λ account. record account { seq_num = seq_num }))) }
-{
-    let Some(mut slot) = load_account(entries, account_id)? else {
-        return Ok(());
-    };
-    slot.account.seq_num = seq_num;
-    store_account(entries, slot)
-}

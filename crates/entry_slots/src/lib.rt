@@ -13,13 +13,12 @@ mod offers;
 mod pools;
 
 pub use account_extensions::{
-    account_liabilities, both_extensions, num_sponsored, num_sponsoring, set_account_liabilities,
-    signer_sponsor,
+    account_liabilities, both_extensions, num_sponsored, num_sponsoring, seq_ledger, seq_time,
+    set_account_liabilities, set_seq_num, signer_sponsor,
 };
 pub use account_facts::{AccountFacts, facts_of, load_facts};
 pub use accounts::{
-    AccountSlot, account_in, account_slot_in, erase_account, load_account, set_seq_num,
-    store_account,
+    AccountSlot, account_in, account_slot_in, erase_account, load_account, store_account,
 };
 pub use balances::{BalanceSlot, balance_slot_in, erase_balance, load_balance, store_balance};
 pub use data_entries::{DataSlot, data_slot_in, erase_data, load_data, store_data};

@@ -8,7 +8,7 @@ use Rattle.close_laws.specs.ledger_types.contracts.ids.Hash as hash
 use Rattle.close_laws.specs.legal_rules.Headers.{header_flags}
 use Rattle.close_laws.specs.close_rules.declared.image_fault.ImageFault.TheVariants as fault
 use Rattle.close_laws.specs.close_rules.declared.image_fault.ImageRule.TheVariants as rule
-use Rattle.existence_laws.proofs.Decided.{Decided, decided_as, both, below, below_int, same_number, same_value}
+use Rattle.existence_laws.proofs.Decided.{Decided, decided_as, both, below, below_int, same_value}
 use Rattle.existence_laws.proofs.FilesOfLevels.{some_files}
 use Rattle.existence_laws.proofs.Marks.{well_marked, are_keyed}
 use Rattle.existence_laws.proofs.Rules.{IsOfEntries, FirstOf, first_of}
@@ -81,7 +81,7 @@ module _ (network : Hash) (image : StartImage) (text : All IsBytes image.files) 
 
   by_header : header_in image.header ≡ Some h → Verdict network image
   by_header reads =
-      elim (same_number h.ledger_version 18) [
+      elim (both (below 18 h.ledger_version) (below h.ledger_version 19)) [
         | inl version ↦ elim (fields_in_range h) [
           | inl fields ↦ by_files (record { reads = reads; version = version; fields = fields })
           | inr fails ↦ (Err (fault.BadImage rule.Fields), (h, reads, version, fails))

@@ -1,5 +1,5 @@
 -- Upgrades that a ledger's value asks for (Upgrades::isValidForApply and applyTo in stellar-core).
-use Rattle.std.specs.Prelude.{◌≡◌, ℕ, zero, suc, nat_eq, nat_le, nat_lt, Bool, true, false, ◌||◌, List, [], ◌∷◌}
+use Rattle.std.specs.Prelude.{◌≡◌, ℕ, zero, suc, nat_eq, nat_le, nat_lt, not, Bool, true, false, ◌||◌, List, [], ◌∷◌}
 use Rattle.std.specs.Prelude.{length, slice_get, Option, Some, None, Result, Ok, Err}
 use Rattle.std.specs.List.{find, fold, range_with_len}
 use Rattle.ledger_types.specs.declared.header.LedgerHeader.{LedgerHeader}
@@ -64,9 +64,10 @@ is_bad_at asked i = is_bad_after (type_before asked i) (slice_get asked i)
 
 -- ---- upgrades that aren't made here
 
--- another version, or a greater reserve than the header's
+-- a version, but for 19 where the header's is 18, or a greater reserve than the header's
 abbrev pub is_out_of_profile : LedgerHeader → Option (Option LedgerUpgrade) → Bool
-is_out_of_profile header (Some (Some (upgrade.Version n))) = true
+is_out_of_profile header (Some (Some (upgrade.Version n))) =
+    not (nat_eq header.ledger_version 18) || not (nat_eq n 19)
 is_out_of_profile header (Some (Some (upgrade.BaseReserve n))) = nat_lt header.base_reserve n
 is_out_of_profile header other = false
 

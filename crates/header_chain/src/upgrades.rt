@@ -97,11 +97,19 @@ fn first_bad(upgrades: &[ItemList<u8>]) -> Option<u32>
 
 // ---- upgrades that aren't made here
 
+/// The protocol that a ledger may be upgraded from.
+const OLDER_VERSION: u32 = 18;
+
+/// The protocol that it may be upgraded to.
+const NEWER_VERSION: u32 = 19;
+
 fn is_out_of_profile(header: &LedgerHeader, asked: &Option<LedgerUpgrade>) -> bool
     ensures { result ≡ spec.is_out_of_profile header.now (Some asked.now) }
 {
     match asked {
-        Some(LedgerUpgrade::Version(_)) => true,
+        Some(LedgerUpgrade::Version(version)) => {
+            header.ledger_version != OLDER_VERSION || *version != NEWER_VERSION
+        }
         Some(LedgerUpgrade::BaseReserve(reserve)) => header.base_reserve < *reserve,
         _ => false,
     }

@@ -8,6 +8,7 @@ ghost use Rattle.bucket_levels.specs.Levels.{pair_of};
 ghost use Rattle.bucket_levels.specs.Pairs.{Pair};
 ghost use Rattle.bucket_levels.specs.Pending.{AreUndrawnAt};
 ghost use Rattle.close_rules.specs.Images.{IsJudged};
+ghost use Rattle.close_rules.specs.legal_rules.Headers.{IsSupported};
 ghost use Rattle.ledger_close.specs.Answers as answer;
 ghost use Rattle.ledger_close.specs.ImageFiles.{IsFileFault};
 ghost use Rattle.ledger_close.specs.Judging as judging;
@@ -54,6 +55,13 @@ fn read_header(alloc: Global, bytes: &[u8]) -> Result<LedgerHeader, ImageFault>
     }
 }
 
+/// Whether a ledger may have a version of the protocol.
+fn is_supported(version: u32) -> bool
+    ensures { IsTrue result ↔ IsSupported version }
+{
+    18 <= version && version <= 19
+}
+
 /// The header of an image, by the first three rules.
 fn judge_header(alloc: Global, image: &StartImage) -> Result<LedgerHeader, ImageFault>
     ensures { judging.IsHeaderJudged image.now result }
@@ -62,7 +70,7 @@ fn judge_header(alloc: Global, image: &StartImage) -> Result<LedgerHeader, Image
         Ok(header) => header,
         Err(fault) => return Err(fault),
     };
-    if header.ledger_version != 18 {
+    if !is_supported(header.ledger_version) {
         return Err(broken(ImageRule::Version));
     }
     if !are_fields_in_range(&header) {

@@ -172,8 +172,11 @@ ids_low le = omega arith
 two_low : pos 2 ≤ℤ pos 1 → ⊥
 two_low le = omega (arith, ints)
 
-versions : ◌≡◌ {A = ℕ} 19 18 → ⊥
-versions same = omega arith
+later_version : 20 ≤ 19 → ⊥
+later_version le = omega arith
+
+earlier_version : 18 ≤ 17 → ⊥
+earlier_version le = omega arith
 
 -- what is first
 first_there : (e : LedgerEntry) (es : List LedgerEntry) → get (state_of (e ∷ es)) (key_of e) ≡ Some e
@@ -233,7 +236,8 @@ half_a_pool legal = elim (legal.filled (key_of emptied) emptied (first_there emp
 
 pub rules_bind : RulesBind
 rules_bind = record {
-  another_protocol = λ legal. versions legal.header.version;
+  a_later_protocol = λ legal. later_version legal.header.version.1;
+  an_earlier_protocol = λ legal. earlier_version legal.header.version.0;
   no_base_reserve = λ legal. one_low legal.header.base_reserve;
   more_ids_than_ledgers_draw = λ legal. ids_low legal.header.id_pool;
   an_offer_above_the_pool_of_ids = λ legal. one_not_at_most_zero (legal.entries (key.Offer owner (pos 1))

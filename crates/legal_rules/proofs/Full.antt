@@ -21,7 +21,7 @@ use Rattle.legal_rules.proofs.Evaluated.{legal_in, needs_in, view_in, value, Are
 
 header : IsHeaderInRange full_header
 header = record {
-  version = refl;
+  version = (omega arith, omega arith);
   seq_low = omega arith;
   seq_high = omega arith;
   base_fee = omega arith;

@@ -43,6 +43,7 @@ pub mod ShareLinesKept
 pub mod Passed
 pub mod Holdings
 pub mod Leaving
+pub mod SeqNums
 pub mod Multiples
 pub mod ReservesLeft
 pub mod ChargesLeft

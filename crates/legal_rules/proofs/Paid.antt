@@ -1,4 +1,4 @@
--- Lumens that are paid, charged or moved, and another sequence number.
+-- Lumens that are paid, charged or moved.
 use Rattle.legal_rules.proofs.Prelude.{◌≡◌, refl, sym, ◌∙◌, ℕ, Some, arith, ints, ℤ, pos, neg_ℤ, ◌+ℤ◌, ◌-ℤ◌, ◌≤ℤ◌}
 use Rattle.legal_rules.proofs.Prelude.{is_eq, AccountId, AccountEntry, LedgerHeader, LedgerEntry, LedgerKey, asset_cmp}
 use Rattle.legal_rules.proofs.Prelude.{EntryMap, account_liabilities, account_at, room, greatest_i64, IsInRange, Kind}
@@ -6,8 +6,8 @@ use Rattle.legal_rules.proofs.Prelude.{Subentries, View, lumens_of, IsHeaderInRa
 use Rattle.legal_rules.proofs.Prelude.{nothing_owed, IsEntryLegal, IsLegalOwing, add_change_if, add_nonnegative}
 use Rattle.legal_rules.proofs.Prelude.{add_sub_self, add_zero, sub_nonnegative}
 use Rattle.hash_ids.specs.ledger_types.declared.asset.Asset.TheVariants as asset
-use Rattle.legal_rules.specs.Payments.{paid, with_paid, numbered, with_seq_num, with_fee}
-use Rattle.legal_rules.specs.PaymentLaws.{FeesKeep, SeqNumsKeep, MovesKeep}
+use Rattle.legal_rules.specs.Payments.{paid, with_paid, with_fee}
+use Rattle.legal_rules.specs.PaymentLaws.{FeesKeep, MovesKeep}
 use Rattle.legal_rules.proofs.Numbers.{there_and_back, fee_moved}
 use Rattle.legal_rules.proofs.Legality.{owing_nothing, legal_of}
 use Rattle.legal_rules.proofs.Bounded.{account_legal}
@@ -120,51 +120,3 @@ moves_keep h m to from a b amount legal low to_exists room from_exists enough =
   where
     credit_low : (balance amount : ℤ) → pos 0 ≤ℤ balance → pos 0 ≤ℤ amount → pos 0 ≤ℤ (balance +ℤ amount)
     credit_low balance amount low also = omega (arith, ints)
-
--- ---- sequence numbers
-
-numbered_unmoved : (n : ℤ) (a : AccountEntry) (v : View) (kind : Kind) (k : LedgerKey) (e : LedgerEntry)
-    → weight v kind k (with_body e (numbered n a)) ≡ weight v kind k (with_body e a)
-numbered_unmoved n a v Subentries k e = refl
-numbered_unmoved n a v other k e = refl
-
-numbered_range : (n : ℤ) (a : AccountEntry) → IsInRange a → IsInRange (numbered n a)
-numbered_range n a range = record {
-  balance = range.balance;
-  buying = range.buying;
-  selling = range.selling;
-  fits =
-      range.fits;
-}
-
-numbered_keeps : (id_pool : ℕ) (n : ℤ) (a : AccountEntry) → pos 0 ≤ℤ n → n ≤ℤ greatest_i64
-    → KeepsRange (IsEntryLegal id_pool) a (numbered n a)
-numbered_keeps id_pool n a low high e was = record {
-  range = record {
-    body = record {
-      range = numbered_range n a was.range.body.range;
-      seq_num = low;
-      greatest_seq_num = high;
-      flags = was.range.body.flags;
-      home_domain = was.range.body.home_domain;
-      signers = was.range.body.signers;
-    };
-    paid = was.range.paid;
-  };
-  bound = tt;
-  few = was.few;
-  fits = was.fits;
-  filled = tt;
-}
-
-pub seq_nums_keep : SeqNumsKeep
-seq_nums_keep h m id a n legal exists low high =
-    let coins = h.total_coins -ℤ h.fee_pool in
-    legal_of h (pools_in m) (with_seq_num id n m) legal.header
-    (legal_as (view m) (IsEntryLegal h.id_pool) (λ kind k. nothing_owed kind k +ℤ nothing_owed kind k) nothing_owed _
-    _ (with_seq_num id n m)
-    (with_account_legal (view m) (IsEntryLegal h.id_pool) nothing_owed nothing_owed coins m id (numbered n) a
-    (owing_nothing h m legal) exists
-    (record { id = refl; aggregates = λ v kind k e. numbered_unmoved n a v kind k e ∙ sym (add_zero _) })
-    (numbered_keeps h.id_pool n a low high))
-    (λ kind k. add_zero (pos 0)) (add_sub_self coins a.balance))

@@ -299,7 +299,8 @@ lost_sale =
 -- each of these states breaks a rule
 pub record RulesBind : Type 0 where
   -- the header
-  pub another_protocol : IsLegal (record full_header { ledger_version = 19 }) full_entries → ⊥
+  pub a_later_protocol : IsLegal (record full_header { ledger_version = 20 }) full_entries → ⊥
+  pub an_earlier_protocol : IsLegal (record full_header { ledger_version = 17 }) full_entries → ⊥
   pub no_base_reserve : IsLegal (record full_header { base_reserve = 0 }) full_entries → ⊥
   pub more_ids_than_ledgers_draw : IsLegal (record full_header { id_pool = 7 * 2 ^ 32 + 1 }) full_entries → ⊥
   -- each entry by itself

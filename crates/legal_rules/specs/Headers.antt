@@ -1,4 +1,4 @@
--- The ranges of a header (LedgerHeader in Stellar-ledger.x) of protocol 18.
+-- The ranges of a header (LedgerHeader in Stellar-ledger.x) of protocols 18 and 19.
 use Rattle.std.specs.Prelude.{◌≡◌, ℕ, ◌*◌, ◌^◌, ◌≤◌, pos, ◌≤ℤ◌, Option, Some, None}
 use Rattle.hash_ids.specs.ledger_types.declared.header.LedgerHeader.{LedgerHeader}
 use Rattle.hash_ids.specs.ledger_types.declared.header.LedgerHeaderExtensionV1.{LedgerHeaderExtensionV1}
@@ -11,9 +11,13 @@ header_flags_in (Some ext) = ext.flags
 abbrev pub header_flags : LedgerHeader → ℕ
 header_flags h = header_flags_in h.ext
 
+-- the versions of the protocol that a ledger may have
+abbrev pub IsSupported : (version : ℕ) → Type 0
+IsSupported version = (18 ≤ version) × (version ≤ 19)
+
 -- No ledger draws 2^32 ids.
 pub record IsHeaderInRange (h : LedgerHeader) : Type 0 where
-  pub version : h.ledger_version ≡ 18
+  pub version : IsSupported h.ledger_version
   pub seq_low : 1 ≤ h.ledger_seq
   pub seq_high : h.ledger_seq ≤ 2147483647
   pub base_fee : 1 ≤ h.base_fee

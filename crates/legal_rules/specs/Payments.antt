@@ -13,12 +13,5 @@ paid delta a = record a { balance = a.balance +ℤ delta }
 abbrev pub with_paid : AccountId → ℤ → EntryMap → EntryMap
 with_paid id delta m = with_account m id (paid delta)
 
--- an account with another sequence number
-abbrev pub numbered : ℤ → AccountEntry → AccountEntry
-numbered n a = record a { seq_num = n }
-
-abbrev pub with_seq_num : AccountId → ℤ → EntryMap → EntryMap
-with_seq_num id n m = with_account m id (numbered n)
-
 abbrev pub with_fee : ℤ → LedgerHeader → LedgerHeader
 with_fee fee h = record h { fee_pool = h.fee_pool +ℤ fee }

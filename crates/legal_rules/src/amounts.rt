@@ -7,7 +7,8 @@ pub fn fees_keep()
     ensures { FeesKeep }
 {}
 
-/// Another sequence number of an account, from 0 to the greatest number of 64 bits, keeps the state legal.
+/// A sequence number that is set, from 0 to the greatest number of 64 bits, keeps the state legal, whether or not the
+/// account records the ledger and the close time of it (CAP-0021).
 pub fn seq_nums_keep()
     ensures { SeqNumsKeep }
 {}

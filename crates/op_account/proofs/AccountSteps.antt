@@ -1,7 +1,7 @@
 -- CREATE_ACCOUNT, ACCOUNT_MERGE and BUMP_SEQUENCE, step by step, by what holds of their successes.
 use Rattle.entry_map.specs.EntryMap.{EntryMap}
+use Rattle.entry_slots.specs.AccountExtensions.{with_seq_num_from}
 use Rattle.entry_slots.specs.Accounts.{account_at, with_account}
-use Rattle.ledger_types.proofs.Booleans.{if_either}
 use Rattle.ledger_types.specs.Ids.{account_of}
 use Rattle.ledger_types.specs.declared.account.AccountEntry.{AccountEntry}
 use Rattle.ledger_types.specs.declared.ids.AccountId.{AccountId}
@@ -14,9 +14,10 @@ use Rattle.op_types.specs.declared.account_ops.CreateAccountOp.{CreateAccountOp}
 use Rattle.op_types.specs.declared.account_results.AccountMergeResult.{AccountMergeResult}
 use Rattle.op_types.specs.declared.payment_results.CreateAccountResult.{CreateAccountResult}
 use Rattle.sponsor_rules.specs.Adding.{map_after_adding}
+use Rattle.sponsor_rules.specs.SeqNums.{new_extension_v3}
 use Rattle.sponsor_rules.specs.declared.context.Ctx.{Ctx}
 use Rattle.std.proofs.Common.{refl}
-use Rattle.std.specs.Prelude.{List, Ok, Some, [], false, int_lt, pos, ◌∷◌, ◌≡◌}
+use Rattle.std.specs.Prelude.{List, Ok, Some, [], false, if◌then◌else◌, int_lt, pos, ◌∷◌, ◌≡◌}
 use Rattle.op_form.proofs.AmountSteps.{lumens_credit_holds, lumens_debit_holds}
 use Rattle.sponsor_rules.proofs.Changes.{account_changed}
 use Rattle.sponsor_rules.proofs.Charges.{adding_account, removing_holds, removing_signer}
@@ -106,7 +107,7 @@ account_merged w ctx op m before goes =
 
 pub bump_steps : (x : Answering) (Q : Done → Type 0) (ctx : Ctx) (op : BumpSequenceOp) (m : EntryMap)
     → (int_lt op.bump_to (pos 0) ≡ false → Q (succeeded ctx (bumping.answer bump.Success)
-    (with_account m ctx.op_source (bumping.with_seq_num_from op.bump_to)) []))
+    (with_account m ctx.op_source (with_seq_num_from op.bump_to (new_extension_v3 ctx))) []))
     → Ends x Q (bumping.bump_sequence ctx op m)
 bump_steps x Q ctx op m done =
     past ((int_lt op.bump_to (pos 0), bumping.answer bump.BadSeq) ∷ []) _ (x.bare (tr.BumpSequence bump.BadSeq) tt, tt)
@@ -116,6 +117,6 @@ pub sequence_bumped : (w : Logic) (ctx : Ctx) (op : BumpSequenceOp) (m : EntryMa
     → Leaves w (bumping.bump_sequence ctx op m)
 sequence_bumped w ctx op m before =
     bump_steps w.answers (Left w) ctx op m (λ low. left (tr.BumpSequence bump.Success) tt before
-    (account_changed w.inv (bumping.with_seq_num_from op.bump_to)
-    (λ a fits. if_either w.inv.of.Account (int_lt a.seq_num op.bump_to) (record a { seq_num = op.bump_to }) a
-    (w.inv.numbered a.balance op.bump_to a fits) fits) m ctx.op_source before.entries))
+    (account_changed w.inv (with_seq_num_from op.bump_to (new_extension_v3 ctx))
+    (λ a. w.inv.sequenced (if int_lt a.seq_num op.bump_to then op.bump_to else a.seq_num) (new_extension_v3 ctx)
+    (w.extension ctx before.context) a) m ctx.op_source before.entries))

@@ -1,6 +1,5 @@
--- BUMP_SEQUENCE (BumpSequenceOpFrame in stellar-core; CAP-0001).
-use Rattle.std.specs.Prelude.{◌∷◌, [], ℤ, pos, int_lt, if◌then◌else◌}
-use Rattle.ledger_types.specs.declared.account.AccountEntry.{AccountEntry}
+-- BUMP_SEQUENCE (BumpSequenceOpFrame in stellar-core; CAP-0001, CAP-0021).
+use Rattle.std.specs.Prelude.{◌∷◌, [], pos, int_lt}
 use Rattle.op_types.specs.declared.account_ops.BumpSequenceOp.{BumpSequenceOp}
 use Rattle.op_types.specs.declared.account_results.BumpSequenceResult.{BumpSequenceResult}
 use Rattle.op_types.specs.declared.account_results.BumpSequenceResult.TheVariants as bump
@@ -8,7 +7,9 @@ use Rattle.op_types.specs.declared.operation_result.OperationResult.{OperationRe
 use Rattle.op_types.specs.declared.operation_result.OperationResult.TheVariants.{Inner}
 use Rattle.op_types.specs.declared.operation_result.OperationResultTr.TheVariants as tr
 use Rattle.entry_map.specs.EntryMap.{EntryMap}
+use Rattle.entry_slots.specs.AccountExtensions.{with_seq_num_from}
 use Rattle.entry_slots.specs.Accounts.{with_account}
+use Rattle.sponsor_rules.specs.SeqNums.{new_extension_v3}
 use Rattle.sponsor_rules.specs.declared.context.Ctx.{Ctx}
 use Rattle.op_form.specs.Done.{Attempt}
 use Rattle.op_form.specs.Steps.{unless_refused, success}
@@ -16,12 +17,8 @@ use Rattle.op_form.specs.Steps.{unless_refused, success}
 abbrev pub answer : BumpSequenceResult → OperationResult
 answer code = Inner (tr.BumpSequence code)
 
--- an account whose sequence number is at least so great
-abbrev pub with_seq_num_from : ℤ → AccountEntry → AccountEntry
-with_seq_num_from least account =
-    if int_lt account.seq_num least then record account { seq_num = least } else account
-
 abbrev pub bump_sequence : Ctx → BumpSequenceOp → EntryMap → Attempt
 bump_sequence ctx bump_op m =
     unless_refused ((int_lt bump_op.bump_to (pos 0), answer bump.BadSeq) ∷ [])
-    (success ctx (answer bump.Success) (with_account m ctx.op_source (with_seq_num_from bump_op.bump_to)) [])
+    (success ctx (answer bump.Success)
+    (with_account m ctx.op_source (with_seq_num_from bump_op.bump_to (new_extension_v3 ctx))) [])

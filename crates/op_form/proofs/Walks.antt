@@ -5,6 +5,7 @@ use Rattle.op_form.specs.Done.{Attempt, Done, Move, done_of}
 use Rattle.op_types.specs.declared.operation_result.OperationResult.{OperationResult}
 use Rattle.op_types.specs.declared.operation_result.OperationResultTr.{OperationResultTr}
 use Rattle.sponsor_rules.specs.Payers.{open_sponsor}
+use Rattle.sponsor_rules.specs.SeqNums.{new_extension_v3}
 use Rattle.sponsor_rules.specs.declared.context.Ctx.{Ctx}
 use Rattle.sponsor_rules.specs.declared.context.Sponsorship.{Sponsorship}
 use Rattle.std.proofs.Common.{subst}
@@ -20,6 +21,7 @@ pub record Logic : Type 1 where
   pub answers : Answering
   pub Context : Ctx → Type 0
   pub sponsor : (ctx : Ctx) (id : AccountId) → Context ctx → inv.of.Sponsor (open_sponsor ctx id)
+  pub extension : (ctx : Ctx) → Context ctx → inv.of.Extension (new_extension_v3 ctx)
   -- sponsorships that are opened and closed, and ids that are drawn
   pub opened : (ctx : Ctx) (one : Sponsorship) → inv.of.Sponsor (Some one.sponsor) → Context ctx
       → Context (record ctx { sponsorships = ctx.sponsorships ++ one ∷ [] })

@@ -23,7 +23,8 @@ pub use Rattle.std.specs.declared.cmp.Ordering.{Ordering}
 pub use Rattle.std.specs.declared.cmp.Ordering.TheVariants.{Equal, Greater, Less}
 pub use Rattle.op_account.specs.AccountMerge.{account_merge, map_without_account}
 unfoldable pub use Rattle.op_account.specs.AccountMerge.{map_without_signers}
-pub use Rattle.op_account.specs.BumpSequence.{bump_sequence, with_seq_num_from}
+pub use Rattle.op_account.specs.BumpSequence.{bump_sequence}
+pub use Rattle.op_flags.specs.entry_slots.AccountExtensions.{with_seq_num_from}
 pub use Rattle.op_account.specs.CreateAccount.{create_account, new_account, new_entry}
 pub use Rattle.op_claim.specs.Predicates.{fixed_claimant, fixed_level, time_after}
 unfoldable pub use Rattle.op_claim.specs.Predicates.{fixed_below}

@@ -1,20 +1,22 @@
 -- That fees, sequence numbers and signers that are used up leave settled entries.
-use Rattle.std.specs.Prelude.{◌≡◌, ◌≢◌, ℕ, ◌+◌, ◌≤◌, ℤ, pos, neg_ℤ, ◌+ℤ◌, ◌≤ℤ◌, [], length, Some}
+use Rattle.std.specs.Prelude.{◌≡◌, ℕ, ◌+◌, ◌≤◌, ℤ, pos, neg_ℤ, ◌+ℤ◌, ◌≤ℤ◌, ◌<ℤ◌, [], length, Option, Some}
 use Rattle.op_flags.specs.ledger_types.declared.ids.AccountId.{AccountId}
 use Rattle.op_flags.specs.ledger_types.declared.ids.Hash.{Hash}
 use Rattle.op_flags.specs.ledger_types.declared.asset.Asset.{Asset}
 use Rattle.op_flags.specs.ledger_types.declared.asset.Asset.TheVariants as asset
 use Rattle.op_flags.specs.ledger_types.declared.header.LedgerHeader.{LedgerHeader}
 use Rattle.op_flags.specs.ledger_types.declared.account.AccountEntry.{AccountEntry}
+use Rattle.op_flags.specs.ledger_types.declared.account.AccountEntryExtensionV3.{AccountEntryExtensionV3}
 use Rattle.op_flags.specs.entry_map.EntryMap.{EntryMap}
-use Rattle.op_flags.specs.entry_slots.Accounts.{account_at, HasAccount}
+use Rattle.op_flags.specs.entry_slots.AccountExtensions.{with_seq_num}
+use Rattle.op_flags.specs.entry_slots.Accounts.{account_at, with_account, HasAccount}
 use Rattle.op_flags.specs.entry_sums.Sums.{total}
 use Rattle.op_pool.specs.reserve_rules.Reserve.{greatest_i64}
 use Rattle.op_flags.specs.sponsor_rules.declared.context.Ctx.{Ctx}
 use Rattle.op_flags.specs.sponsor_rules.Signers.{map_after_removing_preauth}
 use Rattle.op_flags.specs.legal_rules.Headers.{IsHeaderInRange}
 use Rattle.op_flags.specs.legal_rules.Legal.{IsLegal}
-use Rattle.op_flags.specs.legal_rules.Payments.{with_paid, with_seq_num}
+use Rattle.op_flags.specs.legal_rules.Payments.{with_paid}
 use Rattle.op_flags.specs.legal_rules.Supply.{held, lumens_of}
 use Rattle.op_flags.specs.legal_rules.Ranges.{IsAccountInRange}
 use Rattle.op_flags.specs.pool_shares.Premises.{ArePoolsSound}
@@ -40,11 +42,14 @@ FeesSettle =
     → IsSettled id_pool (with_paid id (neg_ℤ fee) m)
     × ((x : Asset) → total (held x) (with_paid id (neg_ℤ fee) m) ≡ total (held x) m +ℤ lumens_of x (neg_ℤ fee))
 
--- the next sequence number of an account is used up
+-- A greater sequence number of an account, within int64 where the account's is, is used up, whatever extension V3 the
+-- account is given with it.
 abbrev pub SeqNumsSettle : Type 0
-SeqNumsSettle = (id_pool : ℕ) (m : EntryMap) (id : AccountId) (a : AccountEntry) (n : ℤ) → IsSettled id_pool m
-    → account_at m id ≡ Some a → a.seq_num ≢ greatest_i64 → n ≡ a.seq_num +ℤ pos 1
-    → LeavesSettled id_pool m (with_seq_num id n m) []
+SeqNumsSettle =
+    (id_pool : ℕ) (m : EntryMap) (id : AccountId) (a : AccountEntry) (n : ℤ) (ext : Option AccountEntryExtensionV3)
+    → IsSettled id_pool m → account_at m id ≡ Some a → a.seq_num <ℤ n
+    → (a.seq_num ≤ℤ greatest_i64 → n ≤ℤ greatest_i64)
+    → LeavesSettled id_pool m (with_account m id (with_seq_num n ext)) []
 
 -- the pre-authorised signers of a hash are removed from an account
 abbrev pub PreauthsSettle : Type 0

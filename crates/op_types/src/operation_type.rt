@@ -1,4 +1,4 @@
-//! The types of operations (OperationType in Stellar-transaction.x of protocol 19): the discriminants of what
+//! The types of operations (OperationType in Stellar-transaction.x of protocols 18 and 19): the discriminants of what
 //! operations do and of what they answer.
 
 /// Makes an account.

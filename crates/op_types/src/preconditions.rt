@@ -19,8 +19,7 @@ pub struct LedgerBounds {
     pub max_ledger: u32,
 }
 
-/// What a transaction asks beside its sequence number, in the second form (PreconditionsV2 in Stellar-transaction.x;
-/// CAP-0021).
+/// What a transaction may ask from protocol 19 on (PreconditionsV2 in Stellar-transaction.x; CAP-0021).
 #[derive(Drop)]
 pub struct PreconditionsV2 {
     pub time_bounds: Option<TimeBounds>,

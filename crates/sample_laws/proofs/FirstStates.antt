@@ -20,7 +20,7 @@ use Rattle.sample_ledger.proofs.bucket_core_proofs.Files.{nothing_has_file}
 
 header_in_range : (seed : ℕ) → IsHeaderInRange (first_header seed)
 header_in_range seed = record {
-  version = refl;
+  version = (omega arith, omega arith);
   seq_low = omega arith;
   seq_high = omega arith;
   base_fee = omega arith;

@@ -1,7 +1,7 @@
 -- The weight of signatures: which signers of an account count, in which order, and which signatures are used for them.
 -- Source: SignatureChecker::checkSignature and SignatureUtils in stellar-core.
 use Rattle.std.specs.Prelude.{ℕ, ◌+◌, ◌&&◌, ◌||◌, nat_eq, nat_le, min, zero, suc, List, [], ◌∷◌, ◌++◌, map, drop}
-use Rattle.std.specs.Prelude.{slice_index, Bool, true, false, Option, Some, None, if◌then◌else◌}
+use Rattle.std.specs.Prelude.{slice_index, length, Bool, true, false, Option, Some, None, if◌then◌else◌}
 use Rattle.std.specs.List.{filter}
 use Rattle.std.specs.Str.{bytes_eq}
 use Rattle.ledger_types.specs.declared.ids.Hash.{Hash}
@@ -132,3 +132,20 @@ succeeds hash signatures account need = reaches need 0 (counted hash signatures 
 abbrev pub after_check : Hash → List HeldSignature → AccountEntry → ℕ → List HeldSignature
 after_check hash signatures account need =
     used_for (until_reached need 0 (counted hash signatures (signers_of account))) signatures
+
+-- ---- a check of extra signers (CAP-0021)
+
+-- keys as signers of weight 1 each
+abbrev pub extra_signers : List SignerKey → List Signer
+extra_signers keys = map (λ key. record { key = key; weight = 1 }) keys
+
+-- all of the extra signers count; where there are none, there is no check
+abbrev pub extra_succeeds : Hash → List HeldSignature → List SignerKey → Bool
+extra_succeeds hash signatures [] = true
+extra_succeeds hash signatures (key ∷ keys) =
+    reaches (length (key ∷ keys)) 0 (counted hash signatures (extra_signers (key ∷ keys)))
+
+abbrev pub after_extra : Hash → List HeldSignature → List SignerKey → List HeldSignature
+after_extra hash signatures [] = signatures
+after_extra hash signatures (key ∷ keys) =
+    used_for (until_reached (length (key ∷ keys)) 0 (counted hash signatures (extra_signers (key ∷ keys)))) signatures

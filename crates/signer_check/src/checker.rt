@@ -1,15 +1,25 @@
 //! Checks of a transaction's signatures.
 
 ghost use Rattle.std.specs.Prelude.{◌≡◌, ◌≤◌, ◌↔◌, IsTrue, true, length, map, All, IfOk};
-ghost use Rattle.signer_check.specs.Weight.{held, succeeds, after_check};
+ghost use Rattle.signer_check.specs.Weight.{held, succeeds, after_check, extra_succeeds, after_extra};
 
 use crate::held::HeldSignature;
 use crate::reaching::reach_in;
 use item_list::ItemList;
-use ledger_types::{AccountEntry, Hash};
+use ledger_types::{AccountEntry, Hash, Signer, SignerKey};
 use op_types::DecoratedSignature;
 use std::alloc::{AllocError, Global};
 use std::marker::Model;
+
+/// A key as a signer of weight 1.
+fn extra_signer(key: &SignerKey) -> Signer
+    ensures { result ≡ record { key = key.now; weight = 1 } }
+{
+    Signer {
+        key: *key,
+        weight: 1,
+    }
+}
 
 /// The signatures of a transaction, and which of them the checks so far used (SignatureChecker in stellar-core).
 #[derive(Drop)]
@@ -65,6 +75,25 @@ impl Checker {
             account.signers.as_slice(),
             needed,
         )
+    }
+
+    /// Whether the signatures are of all extra signers, at most 2 (CAP-0021): each counts once, with the weight 1.
+    /// Without extra signers there is no check. It takes no memory.
+    pub fn check_extra(&mut self, signers: &[SignerKey]) -> bool
+        requires { length signers.now ≤ 2 }
+        ensures succeeds { result ≡ extra_succeeds self.old.hash self.old.signatures signers.now }
+        ensures used { self.new ≡
+            record self.old { signatures = after_extra self.old.hash self.old.signatures signers.now } }
+    {
+        match signers {
+            [] => true,
+            [only] => reach_in(&self.hash, &mut self.signatures, &[extra_signer(only)], 1),
+            [first, second] => {
+                let both = [extra_signer(first), extra_signer(second)];
+                reach_in(&self.hash, &mut self.signatures, &both, 2)
+            }
+            _ => false,
+        }
     }
 
     /// Whether each signature was used by some check. It takes no memory.

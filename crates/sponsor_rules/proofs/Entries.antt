@@ -1,8 +1,9 @@
 -- What an invariant says of entries, kind by kind, and the changes of a map under which it is closed.
 use Rattle.entry_map.specs.EntryMap.{EntryMap, erase, put}
-use Rattle.entry_slots.specs.AccountExtensions.{account_liabilities, with_account_liabilities}
+use Rattle.entry_slots.specs.AccountExtensions.{account_liabilities, with_account_liabilities, with_seq_num}
 use Rattle.entry_slots.specs.EntrySponsor.{sponsor_of}
 use Rattle.ledger_types.specs.declared.account.AccountEntry.{AccountEntry}
+use Rattle.ledger_types.specs.declared.account.AccountEntryExtensionV3.{AccountEntryExtensionV3}
 use Rattle.ledger_types.specs.declared.asset.Asset.{Asset}
 use Rattle.ledger_types.specs.declared.claim_atom.ClaimAtom.{ClaimAtom}
 use Rattle.ledger_types.specs.declared.claimable_balance.ClaimableBalanceEntry.{ClaimableBalanceEntry}
@@ -38,6 +39,8 @@ pub record Kinds : Type 1 where
   pub Pool : LiquidityPoolEntry → Type 0
   pub Sponsor : Option AccountId → Type 0
   pub Key : SignerKey → Type 0
+  -- what an account is given with a sequence number that is set
+  pub Extension : Option AccountEntryExtensionV3 → Type 0
   -- an asset that is named
   pub Named : Asset → Type 0
 
@@ -86,6 +89,8 @@ pub record Invariant : Type 1 where
   pub counted : (count : Count) (n : ℕ) (a : AccountEntry) → of.Account a → of.Account (with_count count n a)
   pub numbered : (balance seq_num : ℤ) (a : AccountEntry) → of.Account a
       → of.Account (record a { balance = balance; seq_num = seq_num })
+  pub sequenced : (n : ℤ) (ext : Option AccountEntryExtensionV3) → of.Extension ext → (a : AccountEntry)
+      → of.Account a → of.Account (with_seq_num n ext a)
   pub signed : (index : ℕ) (one : Signer) (sponsor : Option AccountId) → of.Key one.key → of.Sponsor sponsor
       → (a : AccountEntry) → of.Account a → of.Account (with_signer_at index one sponsor a)
   pub unsigned : (index : ℕ) (a : AccountEntry) → of.Account a → of.Account (without_signer index a)

@@ -7,6 +7,7 @@ pub mod Outcome
 pub mod Adding
 pub mod Removing
 pub mod Moving
+pub mod SeqNums
 pub mod SignerIndex
 pub mod Signers
 pub use Rattle.reserve_rules.specs.entry_map

@@ -1,7 +1,10 @@
 //! What an operation is applied in.
 
+ghost use Rattle.std.specs.Prelude.{◌≡◌, ◌<◌};
+ghost use Rattle.sponsor_rules.specs.SeqNums.{new_extension_v3};
+
 use item_list::ItemList;
-use ledger_types::AccountId;
+use ledger_types::{AccountEntryExtensionV3, AccountId};
 
 /// A sponsorship that is open: `sponsor` pays the reserves of what `sponsored` adds (CAP-0033). That no account is
 /// sponsored twice or by itself is for the operations that open sponsorships; nothing here asks for it.
@@ -34,4 +37,23 @@ pub struct Ctx {
     /// The greatest offer id so far.
     pub id_pool: u64,
     pub sponsorships: ItemList<Sponsorship>,
+}
+
+/// The first protocol in which accounts have extension V3: seqLedger and seqTime (CAP-0021).
+const EXTENSION_V3_FROM: u32 = 19;
+
+impl Ctx {
+    /// The extension V3 of an account whose sequence number is set in this close.
+    pub fn new_extension_v3(&self) -> Option<AccountEntryExtensionV3>
+        requires { self.now.seq < 4294967295 }
+        ensures { result ≡ new_extension_v3 self.now }
+    {
+        if self.version < EXTENSION_V3_FROM {
+            return None;
+        }
+        Some(AccountEntryExtensionV3 {
+            seq_ledger: self.seq + 1,
+            seq_time: self.close_time,
+        })
+    }
 }

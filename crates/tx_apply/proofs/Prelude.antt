@@ -39,7 +39,7 @@ unfoldable pub use Rattle.op_laws.specs.Moves.{gained, issued}
 pub use Rattle.op_laws.specs.Steps.{AreSignersFew, LegalSettles, PreauthsSettle, SeqNumsSettle, TransactionLaws}
 pub use Rattle.op_laws.specs.Underway.{AreDrawn, IsSettled, IsUnderway, LeavesSettled}
 unfoldable pub use Rattle.op_laws.specs.entry_sums.Sums.{total}
-pub use Rattle.op_laws.specs.legal_rules.Payments.{paid, with_paid, with_seq_num}
+pub use Rattle.op_laws.specs.legal_rules.Payments.{paid, with_paid}
 pub use Rattle.op_types.specs.declared.operation.Operation.{Operation}
 pub use Rattle.op_types.specs.declared.transaction.FeeBumpTransactionEnvelope.{FeeBumpTransactionEnvelope}
 pub use Rattle.op_types.specs.declared.transaction.Transaction.{Transaction}

@@ -1,13 +1,14 @@
 -- Transactions and sets, step by step, in a map of which an invariant holds.
 use Rattle.entry_map.specs.EntryMap.{EntryMap}
 use Rattle.ledger_types.proofs.Booleans.{if_either}
+use Rattle.entry_slots.specs.AccountExtensions.{with_seq_num}
 use Rattle.entry_slots.specs.Accounts.{account_at}
 use Rattle.entry_slots.specs.Tests.{first_fault}
 use Rattle.fee_rules.specs.Envelopes.{fee_source_of}
 use Rattle.ledger_types.specs.declared.ids.AccountId.{AccountId}
 use Rattle.ledger_types.specs.declared.ids.Hash.{Hash}
 use Rattle.ledger_types.specs.declared.signer.SignerKey.TheVariants.{PreAuthTx}
-use Rattle.legal_rules.specs.Payments.{numbered, paid}
+use Rattle.legal_rules.specs.Payments.{paid}
 use Rattle.op_form.specs.declared.levels.ThresholdLevel.TheVariants.{Low}
 use Rattle.op_types.specs.declared.operation.Operation.{Operation}
 use Rattle.op_types.specs.declared.transaction.FeeBumpTransaction.{FeeBumpTransaction}
@@ -15,6 +16,7 @@ use Rattle.op_types.specs.declared.transaction.Transaction.{Transaction}
 use Rattle.op_types.specs.declared.transaction.TransactionEnvelope.{TransactionEnvelope}
 use Rattle.op_types.specs.declared.transaction_result.TransactionOutcome.{TransactionOutcome}
 use Rattle.signer_check.specs.declared.held.HeldSignature.{HeldSignature}
+use Rattle.sponsor_rules.specs.SeqNums.{new_extension_v3}
 use Rattle.sponsor_rules.specs.Signers.{map_after_removing_preauth}
 use Rattle.sponsor_rules.specs.declared.context.Ctx.{Ctx}
 use Rattle.tx_apply.specs.Fees.{fee_of, fees_taken, map_after_fee}
@@ -50,11 +52,12 @@ module _ (v : Invariant) where
       without_preauths hash source operations _ (removing_signer v source (PreAuthTx hash) m holds)
 
   pub judged_holds : (pays : Bool) (ctx : Ctx) (hash : Hash) (signatures : List HeldSignature) (tx : Transaction)
-      (m : EntryMap) (fault : Option TransactionOutcome) → v.Holds m
+      (m : EntryMap) (fault : Option TransactionOutcome) → v.of.Extension (new_extension_v3 ctx) → v.Holds m
       → v.Holds (checks.judged_by pays ctx hash signatures tx m fault).entries
-  judged_holds pays ctx hash signatures tx m (Some fault) holds = holds
-  judged_holds pays ctx hash signatures tx m None holds =
-      account_changed v (numbered tx.seq_num) (λ a. v.numbered _ _ a) m (checks.source_account tx) holds
+  judged_holds pays ctx hash signatures tx m (Some fault) given holds = holds
+  judged_holds pays ctx hash signatures tx m None given holds =
+      account_changed v (with_seq_num tx.seq_num (new_extension_v3 ctx))
+      (v.sequenced tx.seq_num (new_extension_v3 ctx) given) m (checks.source_account tx) holds
 
   pub fees_hold : (base : ℕ) (envelopes : List TransactionEnvelope) (m : EntryMap) → v.Holds m
       → v.Holds (fees_taken base envelopes m).entries
@@ -79,6 +82,8 @@ module _ (v : Invariant) where
   -- what holds before transactions, by what a proof knows of them
   pub record Begins (Begun : Ctx → Transaction → EntryMap → Type 0) : Type 0 where
     pub entries : (ctx : Ctx) (tx : Transaction) (m : EntryMap) → Begun ctx tx m → v.Holds m
+    pub extension : (ctx : Ctx) (tx : Transaction) (m : EntryMap) → Begun ctx tx m
+        → v.of.Extension (new_extension_v3 ctx)
     -- the transaction in a fee bump begins after the signers that its payer used up
     pub used : (ctx : Ctx) (tx : Transaction) (payer : AccountId) (hash : Hash) (m : EntryMap) → Begun ctx tx m
         → Begun ctx tx (map_after_removing_preauth payer hash m)
@@ -104,7 +109,8 @@ module _ (v : Invariant) where
         let source = checks.source_account tx in
         ended_holds ctx tx (spec.map_without_used hash source tx.operations checked.entries) checked.outcome
         (without_used hash source tx.operations checked.entries (judged_holds pays ctx hash signatures tx m
-        (checks.early_fault pays base_fee ctx tx m) (begins.entries ctx tx m begun)))
+        (checks.early_fault pays base_fee ctx tx m) (begins.extension ctx tx m begun)
+        (begins.entries ctx tx m begun)))
         (begins.ran pays base_fee ctx hash signatures tx m begun)
 
     -- ---- fee bumps

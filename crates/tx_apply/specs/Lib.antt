@@ -1,5 +1,6 @@
 pub mod Success
 pub mod Signing
+pub mod Preconditions
 pub mod Checks
 pub mod Running
 pub mod Transaction

@@ -6,6 +6,7 @@ ghost use Rattle.entry_slots.specs.Accounts.{account_at};
 ghost use Rattle.entry_slots.specs.Tests.{first_fault};
 ghost use Rattle.op_form.specs.Sequences.{last_seq};
 ghost use Rattle.op_laws.specs.Underway.{IsSettled};
+ghost use Rattle.tx_apply.specs.Preconditions.{extra_signers_of};
 ghost use Rattle.tx_apply.specs.FeeBump as spec;
 ghost use Rattle.tx_apply.specs.Laws.{AreFit, CanDraw};
 
@@ -92,6 +93,7 @@ fn apply_after_auth<B: Base>(
     requires closed { ctx.old.sponsorships ≡ [] }
     requires seq { ctx.old.seq < last_seq }
     requires few { length bump.now.inner_tx.tx.operations ≤ 100 }
+    requires signers { length (extra_signers_of bump.now.inner_tx.tx.cond) ≤ 2 }
     requires fit { AreFit bump.now.inner_tx.tx.operations }
     requires ids { CanDraw 100 ctx.old.id_pool }
     requires inner { inner.old.hash ≡ inner_hash.now }
@@ -138,6 +140,7 @@ pub(crate) fn apply_fee_bump<B: Base>(
     requires closed { ctx.old.sponsorships ≡ [] }
     requires seq { ctx.old.seq < last_seq }
     requires few { length bump.now.inner_tx.tx.operations ≤ 100 }
+    requires signers { length (extra_signers_of bump.now.inner_tx.tx.cond) ≤ 2 }
     requires fit { AreFit bump.now.inner_tx.tx.operations }
     requires ids { CanDraw 100 ctx.old.id_pool }
     requires outer { outer.old.hash ≡ hash.now }

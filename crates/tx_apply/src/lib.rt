@@ -14,6 +14,7 @@ mod inner_result;
 mod laws;
 mod operations;
 mod preauths;
+mod preconditions;
 mod running;
 mod set;
 mod signing;

@@ -5,6 +5,7 @@ ghost use Rattle.entry_map.specs.Undo.{with_current};
 ghost use Rattle.op_form.specs.Sequences.{last_seq};
 ghost use Rattle.op_laws.specs.Underway.{IsSettled, IsUnderway};
 ghost use Rattle.tx_apply.specs.Laws.{AreFit, CanDraw};
+ghost use Rattle.tx_apply.specs.Preconditions.{extra_signers_of};
 ghost use Rattle.tx_apply.specs.Transaction as spec;
 
 use crate::checks::judge;
@@ -77,6 +78,7 @@ pub(crate) fn apply_transaction<B: Base>(
     requires closed { ctx.old.sponsorships ≡ [] }
     requires seq { ctx.old.seq < last_seq }
     requires few { length tx.now.operations ≤ 100 }
+    requires signers { length (extra_signers_of tx.now.cond) ≤ 2 }
     requires fit { AreFit tx.now.operations }
     requires ids { CanDraw 100 ctx.old.id_pool }
     requires hash { checker.old.hash ≡ hash.now }

@@ -1,4 +1,5 @@
-//! The encodings of ledger entries, their keys and the items of buckets, read and written (protocol 19, over RFC 4506).
+//! The encodings of ledger entries, their keys and the items of buckets, read and written (protocols 18 and 19, over
+//! RFC 4506).
 //!
 //! A reader answers the value that a prefix of the text encodes, and the cursor is after it; else it answers the first
 //! fault in reading order, and the cursor is where it was. A reader whose error is `XdrFault` takes no memory, and

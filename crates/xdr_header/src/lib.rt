@@ -1,6 +1,6 @@
 //! The encodings of ledger headers, of the records that close ledgers and of the images that ledgers start from, read
-//! and written. Headers and values are those of protocol 18 (over RFC 4506); the record and the image are this ledger's
-//! own.
+//! and written. Headers and values are those of protocols 18 and 19 (over RFC 4506); the record and the image are this
+//! ledger's own.
 #![tactic(auto)]
 
 mod closing;

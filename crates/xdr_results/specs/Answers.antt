@@ -1,4 +1,4 @@
--- The formats of what operations answer (Stellar-transaction.x of protocol 18, over RFC 4506).
+-- The formats of what operations answer (Stellar-transaction.x of protocols 18 and 19, over RFC 4506).
 use Rattle.std.specs.Prelude.{ℤ, pos, List, [], ◌∷◌, refl}
 use Rattle.xdr_core.specs.declared.fault.XdrFault.{XdrFault}
 use Rattle.xdr_core.specs.Leaves.{i64, fixed}

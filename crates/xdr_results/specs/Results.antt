@@ -1,5 +1,5 @@
 -- The formats of what operations and transactions answer, and of the results of a set (Stellar-transaction.x and
--- Stellar-ledger.x of protocol 19, over RFC 4506).
+-- Stellar-ledger.x of protocols 18 and 19, over RFC 4506).
 use Rattle.std.specs.Prelude.{ℤ, pos, List, [], ◌∷◌, refl}
 use Rattle.xdr_core.specs.declared.fault.XdrFault.{XdrFault}
 use Rattle.xdr_core.specs.Leaves.{i64}

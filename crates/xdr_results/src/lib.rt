@@ -1,5 +1,5 @@
-//! The encodings of what operations and transactions answer, read and written (protocol 19, over RFC 4506). A code that
-//! the protocol doesn't list doesn't read.
+//! The encodings of what operations and transactions answer, read and written (protocols 18 and 19, over RFC 4506). A
+//! code that the protocol doesn't list doesn't read.
 //!
 //! A reader answers the value that a prefix of the text encodes, and the cursor is after it; else it answers the first
 //! fault in reading order, and the cursor is where it was. A writer puts the encoding at the end of a text. Where a

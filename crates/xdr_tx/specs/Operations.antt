@@ -1,4 +1,4 @@
--- The formats of operations (Stellar-transaction.x of protocol 19, over RFC 4506).
+-- The formats of operations (Stellar-transaction.x of protocols 18 and 19, over RFC 4506).
 use Rattle.std.specs.Prelude.{ℕ, ℤ, pos, List, [], ◌∷◌, Option, refl}
 use Rattle.xdr_core.specs.declared.fault.XdrFault.{XdrFault}
 use Rattle.xdr_core.specs.Leaves.{u32, i64, fixed, var}

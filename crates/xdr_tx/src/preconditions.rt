@@ -73,7 +73,7 @@ impl Encode for LedgerBoundsFormat {
     }
 }
 
-/// Reads preconditions of the second form.
+/// Reads PreconditionsV2.
 #[tactic(auto, unfolding(crate::specs::Transactions::preconditions_v2))]
 pub fn read_preconditions_v2(
     alloc: Global,
@@ -99,7 +99,7 @@ pub fn read_preconditions_v2(
     })
 }
 
-/// Writes preconditions of the second form.
+/// Writes PreconditionsV2.
 #[tactic(auto, unfolding(crate::specs::Transactions::preconditions_v2))]
 pub fn write_preconditions_v2(
     value: &PreconditionsV2,

@@ -1,7 +1,7 @@
 use Rattle.tx_apply.proofs.Prelude.{◌≡◌, List, IfOk, OnOk, map, ap, subst, ◌∙◌, Hash, with_current, HeldSignature}
 use Rattle.tx_apply.proofs.Prelude.{Checks, held, transaction_hash_of}
 use Rattle.tx_apply.specs.FeeBump.{BumpSigned, signed_by, bump_applied}
-use Rattle.tx_apply.proofs.Encoded.{few_of_v1, inner_within}
+use Rattle.tx_apply.proofs.Encoded.{few_of_v1, inner_within, signers_of_v1}
 use Rattle.tx_apply.proofs.envelope.apply_fee_bump_envelope.Goals as goal
 
 pub transaction_hash-requires : goal.transaction_hash-requires
@@ -10,6 +10,10 @@ transaction_hash-requires g c = inner_within c.args.envelope.now c.requires.with
 pub apply_fee_bump-requires-clause-few : goal.apply_fee_bump-requires-clause-few
 apply_fee_bump-requires-clause-few g c =
     few_of_v1 c.args.envelope.now.tx.inner_tx (inner_within c.args.envelope.now c.requires.within)
+
+pub apply_fee_bump-requires-clause-signers : goal.apply_fee_bump-requires-clause-signers
+apply_fee_bump-requires-clause-signers g c =
+    signers_of_v1 c.args.envelope.now.tx.inner_tx (inner_within c.args.envelope.now c.requires.within)
 
 same_signed : (hash inner known : Hash) (outer_signed outer inner_signed own : List HeldSignature) → outer_signed ≡
     outer

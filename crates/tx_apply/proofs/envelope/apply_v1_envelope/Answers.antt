@@ -1,10 +1,13 @@
 use Rattle.tx_apply.proofs.Prelude.{◌≡◌, true, List, IfOk, OnOk, map, ap, subst, ◌∙◌, with_current, HeldSignature}
 use Rattle.tx_apply.proofs.Prelude.{Checks, held, transaction_applied}
-use Rattle.tx_apply.proofs.Encoded.{few_of_v1}
+use Rattle.tx_apply.proofs.Encoded.{few_of_v1, signers_of_v1}
 use Rattle.tx_apply.proofs.envelope.apply_v1_envelope.Goals as goal
 
 pub apply_transaction-requires-clause-few : goal.apply_transaction-requires-clause-few
 apply_transaction-requires-clause-few g c = few_of_v1 c.args.envelope.now c.requires.within
+
+pub apply_transaction-requires-clause-signers : goal.apply_transaction-requires-clause-signers
+apply_transaction-requires-clause-signers g c = signers_of_v1 c.args.envelope.now c.requires.within
 
 pub returns-clause-outcome : goal.returns-clause-outcome
 returns-clause-outcome g c =

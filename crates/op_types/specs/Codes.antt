@@ -1,5 +1,5 @@
--- The codes of results (Stellar-transaction.x of protocols 18 and 19): the number of each, and those that have no more than a
--- number.
+-- The codes of results (Stellar-transaction.x of protocols 18 and 19): the number of each, and those that have no more
+-- than a number.
 use Rattle.std.specs.Prelude.{ℤ, pos, List, [], ◌∷◌}
 use Rattle.op_types.specs.Numbers.{minus}
 use Rattle.op_types.specs.declared.payment_results.CreateAccountResult.{CreateAccountResult}

@@ -1,4 +1,5 @@
--- The formats of ledger headers and of what a ledger closes with (Stellar-ledger.x of protocols 18 and 19, over RFC 4506).
+-- The formats of ledger headers and of what a ledger closes with (Stellar-ledger.x of protocols 18 and 19, over
+-- RFC 4506).
 use Rattle.std.specs.Prelude.{ℕ, ℤ, pos, List, [], ◌∷◌, Option, refl}
 use Rattle.xdr_core.specs.declared.fault.XdrFault.{XdrFault}
 use Rattle.xdr_core.specs.Leaves.{u32, u64, i64, var}

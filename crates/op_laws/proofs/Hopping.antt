@@ -2,7 +2,7 @@
 use Rattle.op_laws.proofs.Prelude.{◌≡◌, refl, sym, ap, subst, ◌∙◌, ℕ, Bool, true, false, List, [], ◌∷◌, ◌++◌, Ok, Err}
 use Rattle.op_laws.proofs.Prelude.{Result, eqb-true, if◌then◌else◌, Asset, ClaimAtom, EntryMap, Ctx, view, nothing_owed}
 use Rattle.op_laws.proofs.Prelude.{AreEntriesLegal, held, total, entries_legal, Trade, Crossing, IsHopTrade, IsHopped}
-use Rattle.op_laws.proofs.Prelude.{hop_keeps, PathFault, Carried, and_then, by_end, hopped, after_hop, receiving}
+use Rattle.op_laws.proofs.Prelude.{hop_keeps, HopFault, Carried, and_then, by_end, hopped, after_hop, receiving}
 use Rattle.op_laws.proofs.Prelude.{sending, needed_before, carried_on, is_same_asset, received_hop, sent_hop, received}
 use Rattle.op_laws.proofs.Prelude.{sent, same_assets}
 use Rattle.op_flags.specs.trade_cross.Hop.{hop, is_served}
@@ -46,7 +46,7 @@ hop_carried ctx id_pool trade m asks legal =
     }
 
 -- a hop that was served
-served_if : (b : Bool) (done was : Crossing) (fault : PathFault) → (if b then Ok was else Err fault) ≡ Ok done
+served_if : (b : Bool) (done was : Crossing) (fault : HopFault) → (if b then Ok was else Err fault) ≡ Ok done
     → (b ≡ true) × (was ≡ done)
 served_if true done was fault is = (refl, cc)
 served_if false done was fault is = absurd (cc)
@@ -59,7 +59,7 @@ served_by_end trade done was ends.Converted is = served_if (is_served trade was)
 served_by_end trade done was ends.Partial is = served_if (is_served trade was) done was _ is
 served_by_end trade done was ends.BadPrice is = served_if (is_served trade was) done was _ is
 
-went_hop : (step : Result Crossing PathFault) (next : Crossing → Carried) (new : Carried) → after_hop step next ≡ Ok new
+went_hop : (step : Result Crossing HopFault) (next : Crossing → Carried) (new : Carried) → after_hop step next ≡ Ok new
     → (done : Crossing) × (step ≡ Ok done) × (next done ≡ new)
 went_hop (Err fault) next new is = absurd (cc)
 went_hop (Ok done) next new is = (done, refl, cc)
@@ -180,7 +180,7 @@ module _ (ctx : Ctx) (id_pool : ℕ) where
 
   -- ---- along a path
 
-  went_then : (step : Result Carried PathFault) (next : Carried → Result Carried PathFault) (new : Carried)
+  went_then : (step : Result Carried HopFault) (next : Carried → Result Carried HopFault) (new : Carried)
       → and_then step next ≡ Ok new → (now : Carried) × (step ≡ Ok now) × (next now ≡ Ok new)
   went_then (Err fault) next new is = absurd (cc)
   went_then (Ok now) next new is = (now, refl, is)

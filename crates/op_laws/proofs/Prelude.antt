@@ -253,7 +253,7 @@ pub use Rattle.op_payment.specs.Paths.{needed_before, received, received_hop, re
 pub use Rattle.op_payment.specs.Paths.{set_out}
 pub use Rattle.op_payment.specs.Payment.{payment}
 pub use Rattle.op_payment.specs.Payment.{payment_move, payment_tests}
-pub use Rattle.op_payment.specs.declared.path_fault.PathFault.{PathFault}
+pub use Rattle.op_payment.specs.declared.hop_fault.HopFault.{HopFault}
 pub use Rattle.op_pool.specs.Deposit.{deposit_by, does_pass, given_tests, is_above}
 pub use Rattle.op_pool.specs.Deposit.{is_price_bad, is_price_outside}
 pub use Rattle.op_pool.specs.Deposit.{liquidity_pool_deposit, map_after_depositing}

@@ -2,7 +2,7 @@
 use Rattle.op_payment.proofs.Prelude as prelude
 use prelude.{◌≡◌, ◌≢◌, refl, sym, ap, subst, ◌∙◌, ◌≤◌, Bool, true, false, Result, Ok, Err, unsigned_abs, ◌-◌, ◌++◌}
 use prelude.{if◌then◌else◌, Asset, EntryMap, Undo, with_current, Ctx, IsCrossable, AreTradeBounds, IsCrossing}
-use prelude.{CarriedOfCall, PathFault, carried_of, needed_before_of, carried_on_of, DoCrossingsFit, IsReceiving}
+use prelude.{CarriedOfCall, HopFault, carried_of, needed_before_of, carried_on_of, DoCrossingsFit, IsReceiving}
 use prelude.{IsSending, IsHopped, IsCarriedSo, Carried, by_end, hopped, after_hop, receiving, sending, needed_before}
 use prelude.{carried_on, is_same_asset, received_hop, sent_hop, natural_nonnegative, nonnegative_from_natural}
 use Rattle.offer_exchange.specs.Exchange.{unlimited}
@@ -14,7 +14,7 @@ use Rattle.trade_cross.specs.declared.crossed.CrossEnd.TheVariants.{CrossSelf, T
 use Rattle.trade_cross.specs.declared.trade.Trade.{Trade}
 use Rattle.trade_cross.specs.HopLaws.{crossings_in, IsHopTrade}
 use Rattle.trade_cross.proofs.HopsKeep.{hop_keeps}
-use Rattle.op_payment.specs.declared.path_fault.PathFault.TheVariants as fault
+use Rattle.op_payment.specs.declared.hop_fault.HopFault.TheVariants as fault
 use Rattle.entry_map.proofs.Pairs.{same_assets_tied}
 
 -- ---- the trades
@@ -62,13 +62,13 @@ crossings_few ctx trade m k asks done is =
 
 -- ---- what a call's hop yielded
 
-record IsServed (answer : Crossed) (old new : Undo) (hop : Result Crossing PathFault) : Type 0 where
+record IsServed (answer : Crossed) (old new : Undo) (hop : Result Crossing HopFault) : Type 0 where
   pub done : Crossing
   pub is : hop ≡ Ok done
   pub crossing : IsCrossing answer done
   pub entries : new ≡ with_current old done.entries
 
-served : (answer : Crossed) (old new : Undo) (hop : Result Crossing PathFault) → IsHopped (Ok answer) old new hop
+served : (answer : Crossed) (old new : Undo) (hop : Result Crossing HopFault) → IsHopped (Ok answer) old new hop
     → IsServed answer old new hop
 served answer old new (Ok done) its = record { done = done; is = refl; crossing = its.0; entries = its.1 }
 served answer old new (Err fault) its = absurd its
@@ -81,12 +81,12 @@ crossings_fit ctx trade answer old new k asks its =
     subst (λ atoms. crossings_in atoms ≤ trade.crossings) (sym s.crossing.atoms)
     (crossings_few ctx trade old.current k asks s.done s.is)
 
-hop_on : (t : Bool) (alone : Result Carried PathFault) (hop : Result Crossing PathFault) (next : Crossing → Carried)
+hop_on : (t : Bool) (alone : Result Carried HopFault) (hop : Result Crossing HopFault) (next : Crossing → Carried)
     (done : Crossing) → t ≡ false → hop ≡ Ok done → (if t then alone else after_hop hop next) ≡ Ok (next done)
 hop_on t alone hop next done other is = λ i. if other i then alone else after_hop (is i) next
 
-hop_off : (t : Bool) (alone : Result Carried PathFault) (hop : Result Crossing PathFault) (next : Crossing → Carried)
-    (why : PathFault) → t ≡ false → hop ≡ Err why → (if t then alone else after_hop hop next) ≡ Err why
+hop_off : (t : Bool) (alone : Result Carried HopFault) (hop : Result Crossing HopFault) (next : Crossing → Carried)
+    (why : HopFault) → t ≡ false → hop ≡ Err why → (if t then alone else after_hop hop next) ≡ Err why
 hop_off t alone hop next why other is = λ i. if other i then alone else after_hop (is i) next
 
 current_is : (old new : Undo) (m : EntryMap) → new ≡ with_current old m → new.current ≡ m
@@ -103,22 +103,22 @@ module _ (ctx : Ctx) (sheep wheat : Asset) (carried : CarriedOfCall) (trade : Tr
   so_far = carried_of carried old.current
 
   module _ (is : IsReceiving trade ctx sheep wheat carried) where
-    abbrev back : Result Crossing PathFault
+    abbrev back : Result Crossing HopFault
     back = hopped ctx (receiving ctx sheep wheat so_far) old.current
 
-    received_by : (r : Result Crossed PathFault) → IsHopped r old new (hopped ctx trade old.current)
+    received_by : (r : Result Crossed HopFault) → IsHopped r old new (hopped ctx trade old.current)
         → IsHopped r old new back
     received_by r its = subst (λ t. IsHopped r old new (hopped ctx t old.current)) (is old.current) its
 
     -- no more offers were crossed than might be
-    pub receiving_fits : (r : Result Crossed PathFault) (answer : Crossed) → r ≡ Ok answer → IsCrossable old.current
+    pub receiving_fits : (r : Result Crossed HopFault) (answer : Crossed) → r ≡ Ok answer → IsCrossable old.current
         → IsHopped r old new (hopped ctx trade old.current) → DoCrossingsFit carried answer
     receiving_fits r answer ok k its =
         crossings_fit ctx (receiving ctx sheep wheat so_far) answer old new k
         (receiving_asks ctx sheep wheat so_far other)
         (subst (λ x. IsHopped x old new back) ok (received_by r its))
 
-    pub received_on : (r : Result Crossed PathFault) (answer : Crossed) → r ≡ Ok answer
+    pub received_on : (r : Result Crossed HopFault) (answer : Crossed) → r ≡ Ok answer
         → IsHopped r old new (hopped ctx trade old.current) → IsCrossable new.current → (next : CarriedOfCall)
         → next ≡ needed_before_of carried answer
         → IsCarriedSo (Ok next) old new (received_hop ctx sheep wheat so_far)
@@ -140,7 +140,7 @@ module _ (ctx : Ctx) (sheep wheat : Asset) (carried : CarriedOfCall) (trade : Tr
           k,
         )
 
-    pub not_received : (r : Result Crossed PathFault) (why : PathFault) → r ≡ Err why
+    pub not_received : (r : Result Crossed HopFault) (why : HopFault) → r ≡ Err why
         → IsHopped r old new (hopped ctx trade old.current)
         → IsCarriedSo (Err why) old new (received_hop ctx sheep wheat so_far)
     not_received r why err its =
@@ -150,19 +150,19 @@ module _ (ctx : Ctx) (sheep wheat : Asset) (carried : CarriedOfCall) (trade : Tr
         )
 
   module _ (is : IsSending trade ctx sheep wheat carried) where
-    abbrev on : Result Crossing PathFault
+    abbrev on : Result Crossing HopFault
     on = hopped ctx (sending ctx sheep wheat so_far) old.current
 
-    sent_by : (r : Result Crossed PathFault) → IsHopped r old new (hopped ctx trade old.current) → IsHopped r old new on
+    sent_by : (r : Result Crossed HopFault) → IsHopped r old new (hopped ctx trade old.current) → IsHopped r old new on
     sent_by r its = subst (λ t. IsHopped r old new (hopped ctx t old.current)) (is old.current) its
 
-    pub sending_fits : (r : Result Crossed PathFault) (answer : Crossed) → r ≡ Ok answer → IsCrossable old.current
+    pub sending_fits : (r : Result Crossed HopFault) (answer : Crossed) → r ≡ Ok answer → IsCrossable old.current
         → IsHopped r old new (hopped ctx trade old.current) → DoCrossingsFit carried answer
     sending_fits r answer ok k its =
         crossings_fit ctx (sending ctx sheep wheat so_far) answer old new k (sending_asks ctx sheep wheat so_far other)
         (subst (λ x. IsHopped x old new on) ok (sent_by r its))
 
-    pub sent_on : (r : Result Crossed PathFault) (answer : Crossed) → r ≡ Ok answer
+    pub sent_on : (r : Result Crossed HopFault) (answer : Crossed) → r ≡ Ok answer
         → IsHopped r old new (hopped ctx trade old.current) → IsCrossable new.current → (next : CarriedOfCall)
         → next ≡ carried_on_of carried answer → IsCarriedSo (Ok next) old new (sent_hop ctx sheep wheat so_far)
     sent_on r answer ok its k next next_is =
@@ -182,7 +182,7 @@ module _ (ctx : Ctx) (sheep wheat : Asset) (carried : CarriedOfCall) (trade : Tr
           k,
         )
 
-    pub not_sent : (r : Result Crossed PathFault) (why : PathFault) → r ≡ Err why
+    pub not_sent : (r : Result Crossed HopFault) (why : HopFault) → r ≡ Err why
         → IsHopped r old new (hopped ctx trade old.current)
         → IsCarriedSo (Err why) old new (sent_hop ctx sheep wheat so_far)
     not_sent r why err its =

@@ -2,7 +2,7 @@
 use Rattle.op_payment.proofs.Prelude as prelude
 use prelude.{◌≡◌, refl, sym, ap, subst, ◌∙◌, false, ◌∷◌, [], Option, None, Result, Ok, Err, pos, ◌≤ℤ◌, int_lt, IfOk}
 use prelude.{AccountId, Undo, with_current, Ctx, CreditFault, DebitFault, map_after_credit, map_after_debit}
-use prelude.{BalancesAreInRange, IsStep, unless_refused, after_step, CarriedOfCall, PathFault, Carried, set_out}
+use prelude.{BalancesAreInRange, IsStep, unless_refused, after_step, CarriedOfCall, HopFault, Carried, set_out}
 use prelude.{received, sent, carried_of, IsCarriedSo, IsTried, arrived, path_moves, unsigned_abs_nonnegative}
 use Rattle.std.proofs.lemmas.Result.{IfOk-weaker}
 use Rattle.ledger_types.specs.Ids.{account_of}
@@ -18,8 +18,8 @@ use Rattle.op_payment.proofs.PathLegality.{crossable_in_range}
 
 -- ---- what was carried so far
 
-pub in_range_after : (r : Result CarriedOfCall PathFault) (carried : CarriedOfCall) → r ≡ Ok carried → (old new : Undo)
-    (step : Result Carried PathFault) → IsCarriedSo r old new step → BalancesAreInRange new.current
+pub in_range_after : (r : Result CarriedOfCall HopFault) (carried : CarriedOfCall) → r ≡ Ok carried → (old new : Undo)
+    (step : Result Carried HopFault) → IsCarriedSo r old new step → BalancesAreInRange new.current
 in_range_after r carried is old new step its =
     crossable_in_range new.current (subst (λ x. IsCarriedSo x old new step) is its).3
 
@@ -90,7 +90,7 @@ module _ (ctx : Ctx) (op : PathPaymentStrictReceiveOp) where
   pub taken_and_given_so : {E : Type 0} (old taken now new : Undo) (fault : Option CreditFault) → fault ≡ None
       → (id : AccountId) → id ≡ account_of op.destination
       → IsStep fault old taken (map_after_credit id op.dest_asset op.dest_amount old.current)
-      → (r : Result CarriedOfCall PathFault) (carried : CarriedOfCall) → r ≡ Ok carried
+      → (r : Result CarriedOfCall HopFault) (carried : CarriedOfCall) → r ≡ Ok carried
       → IsCarriedSo r taken now
       (received ctx op.send_asset op.path op.dest_asset (set_out op.dest_amount taken.current))
       → (given : Result (Result OperationResult OperationResult) E)
@@ -161,7 +161,7 @@ module _ (ctx : Ctx) (op : PathPaymentStrictSendOp) where
 
   pub given_and_taken_so : {E : Type 0} (old given now new : Undo) (fault : Option DebitFault) → fault ≡ None
       → IsStep fault old given (map_after_debit ctx ctx.op_source op.send_asset op.send_amount old.current)
-      → (r : Result CarriedOfCall PathFault) (carried : CarriedOfCall) → r ≡ Ok carried
+      → (r : Result CarriedOfCall HopFault) (carried : CarriedOfCall) → r ≡ Ok carried
       → IsCarriedSo r given now (sent ctx op.send_asset op.path op.dest_asset (set_out op.send_amount given.current))
       → (taken : Result (Result OperationResult OperationResult) E)
       → IfOk taken (λ x. IsTried x ctx now new (sending.taken ctx op (carried_of carried now.current)))

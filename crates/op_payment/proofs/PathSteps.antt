@@ -14,7 +14,7 @@ use Rattle.op_form.specs.declared.amounts.DebitFault.{DebitFault}
 use Rattle.op_payment.proofs.Amounts.{amount_given, amount_taken}
 use Rattle.op_payment.specs.PathPayment.{arrived, is_path_valid, path_moves}
 use Rattle.op_payment.specs.Paths.{Carried, received, sent, set_out}
-use Rattle.op_payment.specs.declared.path_fault.PathFault.{PathFault}
+use Rattle.op_payment.specs.declared.hop_fault.HopFault.{HopFault}
 use Rattle.op_types.specs.declared.operation_result.OperationResult.{OperationResult}
 use Rattle.op_types.specs.declared.payment_ops.PathPaymentStrictReceiveOp.{PathPaymentStrictReceiveOp}
 use Rattle.op_types.specs.declared.payment_ops.PathPaymentStrictSendOp.{PathPaymentStrictSendOp}
@@ -37,7 +37,7 @@ use Rattle.op_form.specs.declared.amounts.CreditFault.TheVariants as credit
 use Rattle.op_form.specs.declared.amounts.DebitFault.TheVariants as debit
 use Rattle.op_payment.specs.PathReceive as receiving
 use Rattle.op_payment.specs.PathSend as sending
-use Rattle.op_payment.specs.declared.path_fault.PathFault.TheVariants as fault
+use Rattle.op_payment.specs.declared.hop_fault.HopFault.TheVariants as fault
 use Rattle.op_types.specs.declared.operation_result.OperationResultTr.TheVariants as tr
 use Rattle.op_types.specs.declared.payment_results.PathPaymentStrictReceiveResult.TheVariants as got_code
 use Rattle.op_types.specs.declared.payment_results.PathPaymentStrictSendResult.TheVariants as sent_code
@@ -83,12 +83,12 @@ module _ (x : Answering) where
   got_debit debit.NotAuthorized = got got_code.SrcNotAuthorized tt
   got_debit debit.Short = got got_code.Underfunded tt
 
-  got_path : (found : PathFault) → x.Answer (receiving.path_result found)
+  got_path : (found : HopFault) → x.Answer (receiving.path_result found)
   got_path fault.CrossSelf = got got_code.OfferCrossSelf tt
   got_path fault.TooMany = x.exceeded
   got_path fault.TooFew = got got_code.TooFewOffers tt
 
-  past_received : (Q : Done → Type 0) (way : Result Carried PathFault) (next : Carried → Attempt)
+  past_received : (Q : Done → Type 0) (way : Result Carried HopFault) (next : Carried → Attempt)
       → ((carried : Carried) → way ≡ Ok carried → Ends x Q (next carried)) → Ends x Q (receiving.after_path way next)
   past_received Q (Err found) next go = record { ends = got_path found }
   past_received Q (Ok carried) next go = go carried refl
@@ -167,12 +167,12 @@ module _ (x : Answering) where
   sent_debit debit.NotAuthorized = sent_bare sent_code.SrcNotAuthorized tt
   sent_debit debit.Short = sent_bare sent_code.Underfunded tt
 
-  sent_path : (found : PathFault) → x.Answer (sending.path_result found)
+  sent_path : (found : HopFault) → x.Answer (sending.path_result found)
   sent_path fault.CrossSelf = sent_bare sent_code.OfferCrossSelf tt
   sent_path fault.TooMany = x.exceeded
   sent_path fault.TooFew = sent_bare sent_code.TooFewOffers tt
 
-  past_sent : (Q : Done → Type 0) (way : Result Carried PathFault) (next : Carried → Attempt)
+  past_sent : (Q : Done → Type 0) (way : Result Carried HopFault) (next : Carried → Attempt)
       → ((carried : Carried) → way ≡ Ok carried → Ends x Q (next carried)) → Ends x Q (sending.after_path way next)
   past_sent Q (Err found) next go = record { ends = sent_path found }
   past_sent Q (Ok carried) next go = go carried refl

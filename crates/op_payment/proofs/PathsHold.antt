@@ -5,7 +5,7 @@ use Rattle.ledger_types.specs.declared.asset.Asset.{Asset}
 use Rattle.op_payment.proofs.HopsMade.{receiving_asks, sending_asks}
 use Rattle.op_payment.specs.Paths.{Carried, after_hop, and_then, by_end, carried_on, hopped, is_same_asset}
 use Rattle.op_payment.specs.Paths.{needed_before, received, received_hop, receiving, sending, sent, sent_hop, set_out}
-use Rattle.op_payment.specs.declared.path_fault.PathFault.{PathFault}
+use Rattle.op_payment.specs.declared.hop_fault.HopFault.{HopFault}
 use Rattle.sponsor_rules.specs.declared.context.Ctx.{Ctx}
 use Rattle.std.proofs.Common.{arith, length-append, refl, subst, suc, sym, ◌*◌, ◌-◌}
 use Rattle.std.proofs.lemmas.List.Elements.{All-append, All-head, All-nil, All-tail}
@@ -22,7 +22,7 @@ use Rattle.trade_cross.specs.declared.crossed.CrossEnd.{CrossEnd}
 use Rattle.trade_cross.specs.declared.trade.Trade.{Trade}
 use Rattle.trade_cross.proofs.CrossedHold.{AreCrossed}
 use Rattle.trade_cross.proofs.HopsHold.{AreNamed, hop_holds, most_atoms}
-use Rattle.op_payment.specs.declared.path_fault.PathFault.TheVariants as fault
+use Rattle.op_payment.specs.declared.hop_fault.HopFault.TheVariants as fault
 
 -- ---- numbers
 
@@ -56,7 +56,7 @@ module _ (g : Invariant) where
     pub crossings : carried.crossings ≤ most_crossings
 
   -- if it gets there
-  abbrev pub IsOnWayIf : ℕ → Result Carried PathFault → Type 0
+  abbrev pub IsOnWayIf : ℕ → Result Carried HopFault → Type 0
   IsOnWayIf most (Err fault) = Unit {0}
   IsOnWayIf most (Ok carried) = IsOnWay most carried
 
@@ -165,7 +165,7 @@ module _ (g : Invariant) where
 
   -- ---- along the path
 
-  next_on : (most more : ℕ) (r : Result Carried PathFault) (next : Carried → Result Carried PathFault)
+  next_on : (most more : ℕ) (r : Result Carried HopFault) (next : Carried → Result Carried HopFault)
       → IsOnWayIf most r → ((carried : Carried) → IsOnWay most carried → IsOnWayIf more (next carried))
       → IsOnWayIf more (and_then r next)
   next_on most more (Err fault) next way on = tt

@@ -28,7 +28,7 @@ pub use Rattle.op_payment.specs.PathPayment.{arrived, path_moves}
 pub use Rattle.op_payment.specs.Paths.{Carried, after_hop, by_end, carried_on, hopped, is_same_asset, needed_before}
 pub use Rattle.op_payment.specs.Paths.{received, received_hop, receiving, sending, sent, sent_hop, set_out}
 pub use Rattle.op_payment.specs.declared.carried.Carried.{Carried as CarriedOfCall}
-pub use Rattle.op_payment.specs.declared.path_fault.PathFault.{PathFault}
+pub use Rattle.op_payment.specs.declared.hop_fault.HopFault.{HopFault}
 pub use Rattle.sponsor_rules.specs.declared.context.Ctx.{Ctx}
 unfoldable pub use Rattle.sponsor_rules.specs.entry_slots.Lines.{line_at, with_line}
 pub use Rattle.sponsor_rules.specs.reserve_rules.Reserve.{IsLineInRange, available, line_available, line_room}

@@ -14,7 +14,7 @@ use Rattle.trade_cross.specs.Crossing.{Crossing, most_crossings}
 use Rattle.trade_cross.specs.HopLaws.{crossings_in}
 use Rattle.trade_cross.specs.Progressing.{IsCrossing}
 use Rattle.op_payment.specs.declared.carried.Carried.{Carried as CarriedOfCall}
-use Rattle.op_payment.specs.declared.path_fault.PathFault.{PathFault}
+use Rattle.op_payment.specs.declared.hop_fault.HopFault.{HopFault}
 use Rattle.op_payment.specs.Paths.{Carried, by_end, receiving, sending}
 
 -- how far an amount has come, with the entries then
@@ -54,22 +54,22 @@ abbrev pub IsSending : Trade → Ctx → (sheep wheat : Asset) → CarriedOfCall
 IsSending trade ctx sheep wheat carried = (m : EntryMap) → trade ≡ sending ctx sheep wheat (carried_of carried m)
 
 -- why a hop wasn't served, as its definition has it
-abbrev pub IsEnd : Option PathFault → Crossing → Result Crossing PathFault → Type 0
+abbrev pub IsEnd : Option HopFault → Crossing → Result Crossing HopFault → Type 0
 IsEnd None done end = end ≡ Ok done
 IsEnd (Some fault) done end = end ≡ Err fault
 
-abbrev pub IsEndFault : Option PathFault → Trade → Crossed → Type 0
+abbrev pub IsEndFault : Option HopFault → Trade → Crossed → Type 0
 IsEndFault fault trade answer =
     (done : Crossing) → IsCrossing answer done → IsEnd fault done (by_end trade done done.end)
 
 -- what the hop of a call yielded
-abbrev pub IsHopped : Result Crossed PathFault → Undo → Undo → Result Crossing PathFault → Type 0
+abbrev pub IsHopped : Result Crossed HopFault → Undo → Undo → Result Crossing HopFault → Type 0
 IsHopped (Ok answer) old new (Ok done) = IsCrossing answer done × (new ≡ with_current old done.entries)
 IsHopped (Err fault) old new hop = (hop ≡ Err fault) × (new ≡ with_current old new.current)
 IsHopped answer old new hop = ⊥
 
 -- how far the amount came, and that it can go on from there; or why it didn't, and the map has to be undone
-abbrev pub IsCarriedSo : Result CarriedOfCall PathFault → Undo → Undo → Result Carried PathFault → Type 0
+abbrev pub IsCarriedSo : Result CarriedOfCall HopFault → Undo → Undo → Result Carried HopFault → Type 0
 IsCarriedSo (Ok carried) old new step =
     (step ≡ Ok (carried_of carried new.current)) × (new ≡ with_current old new.current) × (pos 0 ≤ℤ carried.amount)
     × IsCrossable new.current

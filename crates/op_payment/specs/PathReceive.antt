@@ -17,8 +17,8 @@ use Rattle.op_form.specs.declared.amounts.DebitFault.TheVariants as debit
 use Rattle.op_form.specs.Amounts.{map_after_credit, map_after_debit}
 use Rattle.op_form.specs.Done.{Attempt}
 use Rattle.op_form.specs.Steps.{unless_refused, after_step, success}
-use Rattle.op_payment.specs.declared.path_fault.PathFault.{PathFault}
-use Rattle.op_payment.specs.declared.path_fault.PathFault.TheVariants as fault
+use Rattle.op_payment.specs.declared.hop_fault.HopFault.{HopFault}
+use Rattle.op_payment.specs.declared.hop_fault.HopFault.TheVariants as fault
 use Rattle.op_payment.specs.PathPayment.{is_path_valid, is_nobody, arrived, path_moves}
 use Rattle.op_payment.specs.Paths.{Carried, set_out, received}
 
@@ -53,14 +53,14 @@ debit_result debit.NoLine = answer path.SrcNoTrust
 debit_result debit.NotAuthorized = answer path.SrcNotAuthorized
 debit_result debit.Short = answer path.Underfunded
 
-abbrev pub path_result : PathFault → OperationResult
+abbrev pub path_result : HopFault → OperationResult
 path_result fault.CrossSelf = answer path.OfferCrossSelf
 path_result fault.TooMany = ExceededWorkLimit
 path_result fault.TooFew = answer path.TooFewOffers
 
 -- ---- the operation
 
-abbrev pub after_path : Result Carried PathFault → (Carried → Attempt) → Attempt
+abbrev pub after_path : Result Carried HopFault → (Carried → Attempt) → Attempt
 after_path (Err fault) next = Err (path_result fault)
 after_path (Ok carried) next = next carried
 

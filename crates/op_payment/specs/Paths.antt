@@ -15,8 +15,8 @@ use Rattle.trade_cross.specs.declared.trade.Trade.{Trade}
 use Rattle.trade_cross.specs.Crossing.{Crossing, most_crossings}
 use Rattle.trade_cross.specs.Hop.{hop, is_served}
 use Rattle.trade_cross.specs.HopLaws.{crossings_in}
-use Rattle.op_payment.specs.declared.path_fault.PathFault.{PathFault}
-use Rattle.op_payment.specs.declared.path_fault.PathFault.TheVariants as fault
+use Rattle.op_payment.specs.declared.hop_fault.HopFault.{HopFault}
+use Rattle.op_payment.specs.declared.hop_fault.HopFault.TheVariants as fault
 
 -- how far an amount has come
 pub record Carried : Type 0 where
@@ -32,22 +32,22 @@ abbrev pub set_out : ℤ → EntryMap → Carried
 set_out amount m =
     record { amount = unsigned_abs amount; crossings = most_crossings; atoms = []; entries = m }
 
-abbrev pub and_then : Result Carried PathFault → (Carried → Result Carried PathFault) → Result Carried PathFault
+abbrev pub and_then : Result Carried HopFault → (Carried → Result Carried HopFault) → Result Carried HopFault
 and_then (Err fault) next = Err fault
 and_then (Ok carried) next = next carried
 
 -- ---- one hop
 
-abbrev pub by_end : Trade → Crossing → CrossEnd → Result Crossing PathFault
+abbrev pub by_end : Trade → Crossing → CrossEnd → Result Crossing HopFault
 by_end trade done CrossSelf = Err fault.CrossSelf
 by_end trade done TooMany = Err fault.TooMany
 by_end trade done other = if is_served trade done then Ok done else Err fault.TooFew
 
 -- a hop that was served, or why it wasn't
-abbrev pub hopped : Ctx → Trade → EntryMap → Result Crossing PathFault
+abbrev pub hopped : Ctx → Trade → EntryMap → Result Crossing HopFault
 hopped ctx trade m = let done = hop ctx trade m in by_end trade done done.end
 
-abbrev pub after_hop : Result Crossing PathFault → (Crossing → Carried) → Result Carried PathFault
+abbrev pub after_hop : Result Crossing HopFault → (Crossing → Carried) → Result Carried HopFault
 after_hop (Err fault) next = Err fault
 after_hop (Ok done) next = Ok (next done)
 
@@ -107,25 +107,25 @@ carried_on carried done =
 abbrev pub is_same_asset : Asset → Asset → Bool
 is_same_asset a b = is_eq (asset_cmp a b)
 
-abbrev pub received_hop : Ctx → (sheep wheat : Asset) → Carried → Result Carried PathFault
+abbrev pub received_hop : Ctx → (sheep wheat : Asset) → Carried → Result Carried HopFault
 received_hop ctx sheep wheat carried =
     if is_same_asset sheep wheat then Ok carried
     else after_hop (hopped ctx (receiving ctx sheep wheat carried) carried.entries) (needed_before carried)
 
-abbrev pub sent_hop : Ctx → (sheep wheat : Asset) → Carried → Result Carried PathFault
+abbrev pub sent_hop : Ctx → (sheep wheat : Asset) → Carried → Result Carried HopFault
 sent_hop ctx sheep wheat carried =
     if is_same_asset sheep wheat then Ok carried
     else after_hop (hopped ctx (sending ctx sheep wheat carried) carried.entries) (carried_on carried)
 
 -- from an asset along a path to the last one: what is needed at its end is received, from the last pair back to the
 -- first
-abbrev pub received : Ctx → Asset → List Asset → (last : Asset) → Carried → Result Carried PathFault
+abbrev pub received : Ctx → Asset → List Asset → (last : Asset) → Carried → Result Carried HopFault
 received ctx first [] last carried = received_hop ctx first last carried
 received ctx first (next ∷ path) last carried =
     and_then (received ctx next path last carried) (received_hop ctx first next)
 
 -- what is sent at its beginning is carried on, from the first pair to the last
-abbrev pub sent : Ctx → Asset → List Asset → (last : Asset) → Carried → Result Carried PathFault
+abbrev pub sent : Ctx → Asset → List Asset → (last : Asset) → Carried → Result Carried HopFault
 sent ctx first [] last carried = sent_hop ctx first last carried
 sent ctx first (next ∷ path) last carried =
     and_then (sent_hop ctx first next carried) (sent ctx next path last)

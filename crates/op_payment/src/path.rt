@@ -7,7 +7,7 @@ ghost use Rattle.op_payment.specs.PathCalls as calls;
 ghost use Rattle.op_payment.specs.Paths as spec;
 
 use crate::carried::Carried;
-use crate::path_fault::PathFault;
+use crate::hop_fault::HopFault;
 use entry_map::{Base, Entries};
 use ledger_types::Asset;
 use offer_exchange::Rounding;
@@ -52,17 +52,17 @@ fn sending(ctx: &Ctx, sheep: &Asset, wheat: &Asset, carried: &Carried) -> Trade
 }
 
 /// Why a hop wasn't served that ended so, if it wasn't.
-fn end_fault(trade: &Trade, done: &Crossed) -> Option<PathFault>
+fn end_fault(trade: &Trade, done: &Crossed) -> Option<HopFault>
     requires bounds { AreTradeBounds trade.now }
     requires sheep { pos 0 ≤ℤ done.now.sheep }
     requires wheat { pos 0 ≤ℤ done.now.wheat }
     ensures { calls.IsEndFault result trade.now done.now }
 {
     match done.end {
-        CrossEnd::CrossSelf => Some(PathFault::CrossSelf),
-        CrossEnd::TooMany => Some(PathFault::TooMany),
+        CrossEnd::CrossSelf => Some(HopFault::CrossSelf),
+        CrossEnd::TooMany => Some(HopFault::TooMany),
         _ if is_served(trade, done) => None,
-        _ => Some(PathFault::TooFew),
+        _ => Some(HopFault::TooFew),
     }
 }
 
@@ -71,7 +71,7 @@ fn hopped<B: Base>(
     entries: &mut Entries<'_, B>,
     ctx: &Ctx,
     trade: &Trade,
-) -> Result<Result<Crossed, PathFault>, AllocError>
+) -> Result<Result<Crossed, HopFault>, AllocError>
     requires crossable { IsCrossable entries.old.current }
     requires bounds { AreTradeBounds trade.now }
     ensures hopped { IfOk result (λ done. calls.IsHopped done entries.old entries.new (
@@ -92,7 +92,7 @@ fn receive_hop<B: Base>(
     sheep: &Asset,
     wheat: &Asset,
     carried: Carried,
-) -> Result<Result<Carried, PathFault>, AllocError>
+) -> Result<Result<Carried, HopFault>, AllocError>
     requires crossable { IsCrossable entries.old.current }
     requires low { pos 0 ≤ℤ carried.amount }
     ensures { IfOk result (λ r. calls.IsCarriedSo r entries.old entries.new (
@@ -115,7 +115,7 @@ fn send_hop<B: Base>(
     sheep: &Asset,
     wheat: &Asset,
     carried: Carried,
-) -> Result<Result<Carried, PathFault>, AllocError>
+) -> Result<Result<Carried, HopFault>, AllocError>
     requires crossable { IsCrossable entries.old.current }
     requires low { pos 0 ≤ℤ carried.amount }
     ensures { IfOk result (λ r. calls.IsCarriedSo r entries.old entries.new (
@@ -139,7 +139,7 @@ pub fn receive<B: Base>(
     path: &[Asset],
     last: &Asset,
     carried: Carried,
-) -> Result<Result<Carried, PathFault>, AllocError>
+) -> Result<Result<Carried, HopFault>, AllocError>
     requires crossable { IsCrossable entries.old.current }
     requires low { pos 0 ≤ℤ carried.amount }
     ensures { IfOk result (λ r. calls.IsCarriedSo r entries.old entries.new (
@@ -162,7 +162,7 @@ pub fn send<B: Base>(
     path: &[Asset],
     last: &Asset,
     carried: Carried,
-) -> Result<Result<Carried, PathFault>, AllocError>
+) -> Result<Result<Carried, HopFault>, AllocError>
     requires crossable { IsCrossable entries.old.current }
     requires low { pos 0 ≤ℤ carried.amount }
     ensures { IfOk result (λ r. calls.IsCarriedSo r entries.old entries.new (

@@ -8,8 +8,8 @@ ghost use Rattle.op_payment.specs.PathCalls as calls;
 ghost use Rattle.op_payment.specs.PathSend as spec;
 
 use crate::carried::Carried;
+use crate::hop_fault::HopFault;
 use crate::path::send;
-use crate::path_fault::PathFault;
 use crate::path_payment::{arrived, is_nobody, is_path_valid};
 use entry_map::{Base, Entries};
 use op_form::{CreditFault, DebitFault, credit, debit};
@@ -90,13 +90,13 @@ fn debit_result(fault: DebitFault) -> OperationResult
 }
 
 /// What a path answers along which the amount doesn't go.
-fn path_result(fault: PathFault) -> OperationResult
+fn path_result(fault: HopFault) -> OperationResult
     ensures { result ≡ spec.path_result fault }
 {
     match fault {
-        PathFault::CrossSelf => answer(PathPaymentStrictSendResult::OfferCrossSelf),
-        PathFault::TooMany => OperationResult::ExceededWorkLimit,
-        PathFault::TooFew => answer(PathPaymentStrictSendResult::TooFewOffers),
+        HopFault::CrossSelf => answer(PathPaymentStrictSendResult::OfferCrossSelf),
+        HopFault::TooMany => OperationResult::ExceededWorkLimit,
+        HopFault::TooFew => answer(PathPaymentStrictSendResult::TooFewOffers),
     }
 }
 

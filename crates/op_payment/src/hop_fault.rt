@@ -1,8 +1,8 @@
-//! Why an amount doesn't go along a path.
+//! Why a hop of a path isn't served.
 
 /// Why a hop isn't served.
 #[derive(Clone, Copy, PartialEq, Eq)]
-pub enum PathFault {
+pub enum HopFault {
     /// The next offer to be crossed is the source's own, and no pool can serve.
     CrossSelf,
     /// More offers would be crossed than an operation may, and no pool can serve.

@@ -1,6 +1,6 @@
 -- Numbers, counts, liabilities and signers that change leave the bytes of accounts.
-use Rattle.close_laws.proofs.Bytes.{AreAccountBytes, IsIdIf, IsKey, IsStamp, IsThird, KeepsAccounts, no_id, no_stamp}
-use Rattle.close_laws.proofs.Bytes.{no_third, sponsors_in}
+use Rattle.close_laws.proofs.Bytes.{AreAccountBytes, IsIdIf, IsKey, IsThird, KeepsAccounts, no_id, no_third}
+use Rattle.close_laws.proofs.Bytes.{sponsors_in}
 use Rattle.close_laws.proofs.ThirdExtensions.{liable_third, sponsors_third, sponsorship_third}
 use Rattle.close_rules.proofs.ledger_types_proofs.Booleans.{if_either}
 use Rattle.close_rules.proofs.ledger_types_proofs.Lists.{all_insert, all_remove}
@@ -72,13 +72,13 @@ sponsorship_bytes sponsorship account bytes all third = record {
 
 -- ---- sequence numbers
 
-pub seq_num_bytes : (n : ℤ) (ext : Option AccountEntryExtensionV3) → IsStamp ext → KeepsAccounts (with_seq_num n ext)
-seq_num_bytes n None stamp account bytes = numbers account (record account { seq_num = n }) bytes
-seq_num_bytes n (Some ext) stamp account bytes =
+pub seq_num_bytes : (n : ℤ) (ext : Option AccountEntryExtensionV3) → IsThird ext → KeepsAccounts (with_seq_num n ext)
+seq_num_bytes n None third account bytes = numbers account (record account { seq_num = n }) bytes
+seq_num_bytes n (Some ext) third account bytes =
     let numbered : AccountEntry = record account { seq_num = n } in
     sponsorship_bytes (record (sponsorship_of numbered) { ext = Some ext }) numbered
     (numbers account (record account { seq_num = n }) bytes)
-    (sponsors_of account.signers (second_in account.ext) bytes.sponsors) stamp
+    (sponsors_of account.signers (second_in account.ext) bytes.sponsors) third
 
 -- ---- counts
 

@@ -73,17 +73,17 @@ v3_encoded : (ledger time : ℕ) → ledger < 4294967296 → time < 184467440737
 unfolding account_extension_v3 u32 u64 constant
 v3_encoded ledger time low high = record { within = (tt, (tt, tt)); sized = (tt, (low, high)) }
 
-some_stamp : (ext : AccountEntryExtensionV3) → IsEncoded account_extension_v3 ext → IsStamp (Some ext)
+some_third : (ext : AccountEntryExtensionV3) → IsEncoded account_extension_v3 ext → IsThird (Some ext)
 unfolding extension
-some_stamp ext encoded = record { within = encoded.within; sized = encoded.sized }
+some_third ext encoded = record { within = encoded.within; sized = encoded.sized }
 
 -- what an account is given with a sequence number that is set in a close
-pub new_stamp : (ctx : Ctx) → ctx.seq < 2147483647 → ctx.close_time < 18446744073709551616
-    → IsStamp (new_extension_v3 ctx)
-new_stamp ctx seq time =
+pub new_third : (ctx : Ctx) → ctx.seq < 2147483647 → ctx.close_time < 18446744073709551616
+    → IsThird (new_extension_v3 ctx)
+new_third ctx seq time =
     let ext : AccountEntryExtensionV3 = record { seq_ledger = ctx.seq + 1; seq_time = ctx.close_time } in
-    if_either IsStamp (nat_lt ctx.version 19) None (Some ext) no_stamp
-    (some_stamp ext (v3_encoded (ctx.seq + 1) ctx.close_time (omega arith) time))
+    if_either IsThird (nat_lt ctx.version 19) None (Some ext) no_third
+    (some_third ext (v3_encoded (ctx.seq + 1) ctx.close_time (omega arith) time))
 
 abbrev pub IsKey : Signer → Type 0
 IsKey signer = IsEncoded signer_key signer.key
@@ -162,7 +162,7 @@ IsOpener opened = IsId opened.sponsor
 -- Whoever opened a sponsorship has an id, and what accounts are given with a sequence number can be written.
 pub record IsContextBytes (ctx : Ctx) : Type 0 where
   pub all : All IsOpener ctx.sponsorships
-  pub extension : IsStamp (new_extension_v3 ctx)
+  pub extension : IsThird (new_extension_v3 ctx)
 
 opened_by : (test : Sponsorship → Bool) (opened : List Sponsorship) → All IsOpener opened
     → IsIdIf (option_map (λ one. one.sponsor) (find test opened))

@@ -28,7 +28,7 @@ use Rattle.close_laws.proofs.EncodedSets.{envelopes_encoded, operations_encoded,
 use Rattle.close_laws.proofs.EncodedSets.{body_encoded, body_fit, operations_fit}
 use Rattle.close_laws.proofs.FewDrawn.{set_fits}
 use Rattle.close_laws.proofs.WrittenOffers.{CanTrade}
-use Rattle.close_laws.proofs.Bytes.{IsId, muxed_id, AreBytes, IsOpener, IsContextBytes, IsStamp, new_stamp}
+use Rattle.close_laws.proofs.Bytes.{IsId, muxed_id, AreBytes, IsOpener, IsContextBytes, IsThird, new_third}
 use Rattle.tx_apply.proofs.SetsHold.{Begins, BeginsEnvelope, envelope_holds, fees_hold, judged_holds, without_used}
 use Rattle.close_laws.proofs.Written.{no_account, of_bytes, writing}
 use Rattle.close_laws.proofs.WrittenOperations.{any_written}
@@ -139,12 +139,12 @@ pub record IsBegun (ctx : Ctx) (tx : Transaction) (m : EntryMap) : Type 0 where
   pub encoded : IsEncoded transaction tx
   pub closed : ctx.sponsorships ≡ []
   pub seq : ctx.seq < 2147483647
-  pub extension : IsStamp (new_extension_v3 ctx)
+  pub extension : IsThird (new_extension_v3 ctx)
   pub settled : IsSettled ctx.id_pool m
   pub each : AreBytes m
   pub ids : CanDraw (length tx.operations) ctx.id_pool
 
-closed_context : (ctx : Ctx) → ctx.sponsorships ≡ [] → IsStamp (new_extension_v3 ctx) → IsContextBytes ctx
+closed_context : (ctx : Ctx) → ctx.sponsorships ≡ [] → IsThird (new_extension_v3 ctx) → IsContextBytes ctx
 closed_context ctx closed extension =
     record { all = subst (All IsOpener) (sym closed) (All-nil IsOpener); extension = extension }
 
@@ -221,7 +221,7 @@ begun_v1 setting id_pool signed m may = record {
   encoded = v1_encoded signed (record { within = may.encoded.within; sized = may.encoded.sized });
   closed = refl;
   seq = may.seq;
-  extension = new_stamp (ctx_in setting id_pool (envelope.V1 signed)) may.seq may.time;
+  extension = new_third (ctx_in setting id_pool (envelope.V1 signed)) may.seq may.time;
   settled = may.settled;
   each = may.each;
   ids = may.ids;
@@ -236,7 +236,7 @@ begun_bump setting id_pool signed m may = record {
       (record { within = may.encoded.within.0.1.1.0.1; sized = may.encoded.sized.0.1.1.0.1 });
   closed = refl;
   seq = may.seq;
-  extension = new_stamp (ctx_in setting id_pool (envelope.FeeBump signed)) may.seq may.time;
+  extension = new_third (ctx_in setting id_pool (envelope.FeeBump signed)) may.seq may.time;
   settled = may.settled;
   each = may.each;
   ids = may.ids;

@@ -1,19 +1,22 @@
--- That accounts are dated, as an invariant of maps: operations leave the third extensions of accounts, and give them
--- signers of their version alone.
+-- That accounts are dated, as an invariant of maps: what sets a sequence number records the ledger that closes and its
+-- time, all else leaves the third extensions of accounts, and operations give accounts signers of their version alone.
 use Rattle.bucket_levels.specs.entry_map.EntryMap.{EntryMap}
 use Rattle.close_laws.proofs.ThirdExtensions.{liable_third, sponsors_third, sponsorship_third}
 use Rattle.close_rules.proofs.entry_sums_proofs.Lookups.{erase_each, put_each}
 use Rattle.close_rules.proofs.ledger_types_proofs.Booleans.{if_either}
 use Rattle.close_rules.proofs.ledger_types_proofs.Lists.{all_insert, all_remove}
 use Rattle.close_rules.specs.entry_slots.AccountExtensions.{second_in, sponsorship_of, with_account_liabilities}
+use Rattle.close_rules.specs.entry_slots.AccountExtensions.{with_seq_num}
 use Rattle.close_rules.specs.entry_sums.Sums.{EachEntry}
 use Rattle.close_rules.specs.ledger_types.declared.account.AccountEntry.{AccountEntry}
+use Rattle.close_rules.specs.ledger_types.declared.account.AccountEntryExtensionV3.{AccountEntryExtensionV3}
 use Rattle.close_rules.specs.ledger_types.declared.entry.LedgerEntryBody.{LedgerEntryBody}
 use Rattle.close_rules.specs.ledger_types.declared.ids.AccountId.{AccountId}
 use Rattle.close_rules.specs.ledger_types.declared.price.Liabilities.{Liabilities}
 use Rattle.close_rules.specs.ledger_types.declared.signer.Signer.{Signer}
 use Rattle.close_rules.specs.legal_rules.Dated.{IsAccountDated, IsBodyDated, IsKeyDated, IsThirdDated}
 use Rattle.close_rules.specs.sponsor_rules.Counting.{count_in, with_count, with_new_count}
+use Rattle.close_rules.specs.sponsor_rules.SeqNums.{new_extension_v3}
 use Rattle.close_rules.specs.sponsor_rules.SignerIndex.{with_signer_at, with_signer_sponsor, without_signer}
 use Rattle.close_rules.specs.sponsor_rules.declared.context.Ctx.{Ctx}
 use Rattle.close_rules.specs.sponsor_rules.declared.count.Count.TheVariants.{Sponsored, Sponsoring, SubEntries}
@@ -21,10 +24,12 @@ use Rattle.close_rules.specs.sponsor_rules.declared.count.Count.{Count}
 use Rattle.op_form.proofs.Steps.{anything}
 use Rattle.op_form.proofs.Walks.{Logic}
 use Rattle.sponsor_rules.proofs.Entries.{FitsBody, Invariant, Kinds}
-use Rattle.std.proofs.Common.{insert, slice_set}
+use Rattle.std.proofs.Common.{insert, slice_set, subst, sym}
+use Rattle.std.proofs.lemmas.Bool.{ltb-false}
 use Rattle.std.proofs.lemmas.List.Elements.{All-set}
 use Rattle.std.specs.List.{remove}
-use Rattle.std.specs.Prelude.{Option, nat_eq, ℕ, ◌≡◌}
+use Rattle.std.specs.Prelude.{Bool, None, Option, Some, false, if◌then◌else◌, nat_eq, nat_lt, refl, true, ℕ, ℤ, ◌+◌}
+use Rattle.std.specs.Prelude.{◌≡◌, ◌≤◌}
 use Rattle.close_rules.specs.ledger_types.declared.entry.LedgerEntryBody.TheVariants as body
 
 module _ (version seq close_time : ℕ) where
@@ -88,6 +93,27 @@ module _ (version seq close_time : ℕ) where
     signers = dated.signers;
   }
 
+  -- ---- sequence numbers
+
+  pub seq_num_dated : (n : ℤ) (ext : Option AccountEntryExtensionV3) → IsThirdDated version seq close_time ext
+      → (account : AccountEntry) → IsDated account → IsDated (with_seq_num n ext account)
+  seq_num_dated n None third account dated = record { third = dated.third; signers = dated.signers }
+  seq_num_dated n (Some ext) third account dated = record { third = third; signers = dated.signers }
+
+  -- what closes is this ledger or an earlier one
+  abbrev IsDatedContext : Ctx → Type 0
+  IsDatedContext ctx = (ctx.version ≡ version) × ((ctx.seq + 1 ≤ seq) × (ctx.close_time ≤ close_time))
+
+  either_dated : (b : Bool) (ctx : Ctx) → nat_lt ctx.version 19 ≡ b → IsDatedContext ctx
+      → IsThirdDated version seq close_time
+      (if b then None else Some (record { seq_ledger = ctx.seq + 1; seq_time = ctx.close_time }))
+  either_dated true ctx older of = tt
+  either_dated false ctx newer of = (subst (λ n. 19 ≤ n) of.0 (ltb-false ctx.version 19 newer), of.1)
+
+  -- what an account is given with a sequence number that is set
+  pub extension_dated : (ctx : Ctx) → IsDatedContext ctx → IsThirdDated version seq close_time (new_extension_v3 ctx)
+  extension_dated ctx of = either_dated (nat_lt ctx.version 19) ctx refl of
+
   -- ---- entries
 
   abbrev pub dated_kinds : Kinds
@@ -100,6 +126,7 @@ module _ (version seq close_time : ℕ) where
     Pool = λ p. Unit {0};
     Sponsor = λ s. Unit {0};
     Key = IsKeyDated version;
+    Extension = IsThirdDated version seq close_time;
     Named = λ a. Unit {0};
   }
 
@@ -125,6 +152,7 @@ module _ (version seq close_time : ℕ) where
     nobody = tt;
     counted = count_dated;
     numbered = λ balance seq_num a dated. record { third = dated.third; signers = dated.signers };
+    sequenced = seq_num_dated;
     signed = λ index one sponsor key named a dated. signer_dated index one sponsor key a dated;
     unsigned = without_signer_dated;
     sponsored = λ index sponsor named a dated. signer_sponsor_dated index sponsor a dated;
@@ -145,8 +173,9 @@ module _ (version seq close_time : ℕ) where
   dating = record {
     inv = dated_entries;
     answers = anything;
-    Context = λ ctx. ctx.version ≡ version;
+    Context = IsDatedContext;
     sponsor = λ ctx id of. tt;
+    extension = extension_dated;
     opened = λ ctx one named of. of;
     closed = λ ctx index of. of;
     drawn = λ ctx ids of. of;

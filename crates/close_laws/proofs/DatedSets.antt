@@ -16,15 +16,16 @@ use Rattle.close_rules.specs.ledger_types.declared.header.StellarValue.{StellarV
 use Rattle.close_rules.specs.ledger_types.declared.ids.Hash.{Hash}
 use Rattle.close_rules.specs.ledger_types.declared.signer.Signer.{Signer}
 use Rattle.close_rules.specs.ledger_types.declared.signer.SignerKey.{SignerKey}
-use Rattle.close_rules.specs.legal_rules.Dated.{AreDated, IsBodyDated, IsKeyDated, IsThirdDated}
+use Rattle.close_rules.specs.legal_rules.Dated.{AreDated, IsBodyDated, IsKeyDated, IsThirdDated, dated_from}
 use Rattle.close_rules.specs.op_types.declared.operation.OperationBody.{OperationBody}
 use Rattle.close_rules.specs.op_types.declared.transaction.TransactionSet.{TransactionSet}
 use Rattle.close_rules.specs.sponsor_rules.declared.context.Ctx.{Ctx}
 use Rattle.close_rules.specs.tx_apply.Set.{Setting, set_done}
 use Rattle.close_rules.specs.xdr_header.declared.record.CloseRecord.{CloseRecord}
 use Rattle.op_laws.proofs.AccountsAsked.{AccountAsked, IsOfAccounts, of_accounts}
-use Rattle.std.proofs.lemmas.List.Elements.{All-nil}
-use Rattle.std.specs.Prelude.{Bool, None, Option, Some, false, length, nat_eq, nat_lt, true, ℕ, ◌+◌, ◌||◌, ◌≡◌, ◌≤◌}
+use Rattle.std.proofs.lemmas.List.Elements.{All-nil, All-weaker}
+use Rattle.std.specs.Prelude.{All, Bool, List, None, Option, Some, false, length, nat_eq, nat_lt, true, ℕ, ◌+◌, ◌||◌}
+use Rattle.std.specs.Prelude.{◌≡◌, ◌≤◌}
 use Rattle.close_rules.specs.ledger_types.declared.entry.LedgerEntryBody.TheVariants as body
 use Rattle.close_rules.specs.ledger_types.declared.signer.SignerKey.TheVariants as signer_key
 use Rattle.close_rules.specs.op_options.OptionTests as tests
@@ -66,12 +67,12 @@ module _ (version seq close_time : ℕ) where
     asks = λ asks. asks;
   }
 
-  accounts_asked : (ctx : Ctx) (of : OperationBody) → ctx.version ≡ version
+  accounts_asked : (ctx : Ctx) (of : OperationBody) → (dating version seq close_time).Context ctx
       → AccountAsked (dating version seq close_time) ctx of
   accounts_asked ctx (operation.CreateAccount op) is =
       record { third = tt; signers = All-nil (λ (signer : Signer). IsKeyDated version signer.key) }
   accounts_asked ctx (operation.SetOptions op) is = (
-    λ good one given. subst (λ n. IsKeyDated n one.key) is
+    λ good one given. subst (λ n. IsKeyDated n one.key) is.0
         (key_dated ctx one (subst (λ o. tests.is_bad_signer ctx o ≡ false) given good)),
     λ range a dated. record { third = dated.third; signers = dated.signers },
   )
@@ -90,31 +91,58 @@ module _ (version seq close_time : ℕ) where
 abbrev AreDatedIn : (version seq close_time : ℕ) → EntryMap → Type 0
 AreDatedIn version seq close_time m = EachEntry (λ k e. IsBodyDated version seq close_time e.body) m
 
+-- a set whose ledger closes with this number and time, or earlier
 set_dated : (setting : Setting) (set : TransactionSet) (seq close_time : ℕ) (m : EntryMap)
+    → setting.header.ledger_seq + 1 ≤ seq → setting.close_time ≤ close_time
     → AreDatedIn setting.header.ledger_version seq close_time m
     → AreDatedIn setting.header.ledger_version seq close_time (set_done setting set m).entries
-set_dated setting set seq close_time m dated =
+set_dated setting set seq close_time m number time dated =
     set_keeps (dating setting.header.ledger_version seq close_time) (λ of. Unit {0})
-    (admits setting.header.ledger_version seq close_time) setting (λ id_pool entire. refl) set m
+    (admits setting.header.ledger_version seq close_time) setting (λ id_pool entire. (refl, (number, time))) set m
     (λ i d within. λ j e inside. tt) dated
 
 -- ---- later ledgers
 
-third_later : (version seq close_time seq_after close_time_after : ℕ) (third : Option AccountEntryExtensionV3)
-    → seq ≤ seq_after → close_time ≤ close_time_after → IsThirdDated version seq close_time third
-    → IsThirdDated version seq_after close_time_after third
-third_later version seq close_time seq_after close_time_after None number time dated = tt
-third_later version seq close_time seq_after close_time_after (Some third) number time dated =
-    (dated.0, (omega (arith, number, dated.1.0), omega (arith, time, dated.1.1)))
+-- a ledger's version, number and close time, and those of a later one
+record IsLater (version seq close_time version_after seq_after close_time_after : ℕ) : Type 0 where
+  version : version ≤ version_after
+  number : seq ≤ seq_after
+  time : close_time ≤ close_time_after
 
-body_later : (version seq close_time seq_after close_time_after : ℕ) (of : LedgerEntryBody) → seq ≤ seq_after
-    → close_time ≤ close_time_after → IsBodyDated version seq close_time of
-    → IsBodyDated version seq_after close_time_after of
-body_later version seq close_time seq_after close_time_after (body.Account account) number time dated = record {
-  third = third_later version seq close_time seq_after close_time_after _ number time dated.third;
-  signers = dated.signers;
-}
-body_later version seq close_time seq_after close_time_after other number time dated = tt
+module _ (version seq close_time version_after seq_after close_time_after : ℕ)
+    (later : IsLater version seq close_time version_after seq_after close_time_after) where
+  from_later : dated_from ≤ version → dated_from ≤ version_after
+  from_later from = let le = later.version in omega arith
+
+  third_later : (third : Option AccountEntryExtensionV3) → IsThirdDated version seq close_time third
+      → IsThirdDated version_after seq_after close_time_after third
+  third_later None dated = tt
+  third_later (Some third) dated = (
+    from_later dated.0,
+    (omega (arith, later.number, dated.1.0), omega (arith, later.time, dated.1.1)),
+  )
+
+  key_later : (key : SignerKey) → IsKeyDated version key → IsKeyDated version_after key
+  key_later (signer_key.SignedPayload id payload) dated = (from_later dated.0, dated.1)
+  key_later other dated = tt
+
+  signers_later : (signers : List Signer) → All (λ signer. IsKeyDated version signer.key) signers
+      → All (λ signer. IsKeyDated version_after signer.key) signers
+  signers_later signers dated =
+      All-weaker (λ (signer : Signer). IsKeyDated version signer.key)
+      (λ (signer : Signer). IsKeyDated version_after signer.key) (λ signer. key_later signer.key) signers dated
+
+  body_later : (of : LedgerEntryBody) → IsBodyDated version seq close_time of
+      → IsBodyDated version_after seq_after close_time_after of
+  body_later (body.Account account) dated = record {
+    third = third_later _ dated.third;
+    signers = signers_later account.signers dated.signers;
+  }
+  body_later other dated = tt
+
+  each_later : (m : EntryMap) → AreDatedIn version seq close_time m
+      → AreDatedIn version_after seq_after close_time_after m
+  each_later m dated = λ k e there. body_later e.body (dated k e there)
 
 -- ---- closes
 
@@ -128,30 +156,34 @@ alike_dated version seq close_time m n alike each = λ k e there.
 one_more : (n : ℕ) → n ≤ n + 1
 one_more n = omega arith
 
+no_less : (n m : ℕ) → n ≡ m → n ≤ m
+no_less n m is = omega arith
+
 pub next_dated : SetsConserve → (s : ClosingState) (closing : CloseRecord) (after : EntryMap) (list_hash : Hash)
     → IsClosable s closing → AreClosed s closing after → AreDated (finished (upgraded_header s closing) list_hash) after
 next_dated conserve s closing after list_hash can closed =
     let next = finished (upgraded_header s closing) list_hash in
     let from = upgraded_from conserve s closing can list_hash in
     let worked = (applied_in s closing).entries in
-    let alike = next_alike _ s.entries worked after closed in
-    let set = set_dated (setting_in s closing) closing.tx_set s.header.ledger_seq s.header.scp_value.close_time
+    let version = s.header.ledger_version in
+    let seq = s.header.ledger_seq + 1 in
+    let close_time = closing.scp_value.close_time in
+    let before = each_later version s.header.ledger_seq s.header.scp_value.close_time version seq close_time
+    (record {
+      version = no_less version version refl;
+      number = one_more s.header.ledger_seq;
+      time = later_time s closing can.unrefused;
+    })
     s.entries can.state.dated in
-    λ k e there.
-    let was = alike_dated s.header.ledger_version s.header.ledger_seq s.header.scp_value.close_time worked after alike
-    set k e there in
-    let later = body_later s.header.ledger_version s.header.ledger_seq s.header.scp_value.close_time
-    (s.header.ledger_seq + 1) closing.scp_value.close_time e.body (one_more s.header.ledger_seq)
-    (later_time s closing can.unrefused) was in
-    numbers_are e.body s.header.ledger_version next.ledger_version (s.header.ledger_seq + 1) next.ledger_seq
-    closing.scp_value.close_time next.scp_value.close_time
-    (can.state.legal.header.version ∙ sym from.range.version) (sym from.counts.ledger_seq)
-    (sym (ap (λ (value : StellarValue). value.close_time) from.counts.scp_value)) later
-  where
-    numbers_are : (of : LedgerEntryBody) (version version_after seq seq_after close_time close_time_after : ℕ)
-        → version ≡ version_after → seq ≡ seq_after → close_time ≡ close_time_after
-        → IsBodyDated version seq close_time of → IsBodyDated version_after seq_after close_time_after of
-    numbers_are of version version_after seq seq_after close_time close_time_after same number time dated =
-        subst (λ n. IsBodyDated n seq_after close_time_after of) same
-        (subst (λ n. IsBodyDated version n close_time_after of) number
-        (subst (λ n. IsBodyDated version seq n of) time dated))
+    let done = alike_dated version seq close_time worked after
+    (next_alike _ s.entries worked after closed)
+    (set_dated (setting_in s closing) closing.tx_set seq close_time s.entries (no_less seq seq refl)
+    (no_less close_time close_time refl) before) in
+    each_later version seq close_time next.ledger_version next.ledger_seq next.scp_value.close_time
+    (record {
+      version = from.version;
+      number = no_less seq next.ledger_seq (sym from.counts.ledger_seq);
+      time = no_less close_time next.scp_value.close_time
+          (sym (ap (λ (value : StellarValue). value.close_time) from.counts.scp_value));
+    })
+    after done

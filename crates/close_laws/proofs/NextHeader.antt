@@ -118,16 +118,30 @@ counts_upgraded was h (upgrade.Flags n) kept = record {
   scp_value = kept.scp_value;
 }
 
--- a header in its ranges, with these counts
+-- no upgrade is one to an earlier version
+version_upgraded : (was h : LedgerHeader) (asked : LedgerUpgrade) → IsGood asked → IsHeaderInRange h
+    → was.ledger_version ≤ h.ledger_version → was.ledger_version ≤ (upgraded h asked).ledger_version
+version_upgraded was h (upgrade.Version n) good range le = let high = range.version.1 in omega arith
+version_upgraded was h (upgrade.BaseFee n) good range le = le
+version_upgraded was h (upgrade.MaxTxSetSize n) good range le = le
+version_upgraded was h (upgrade.BaseReserve n) good range le = le
+version_upgraded was h (upgrade.Flags n) good range le = le
+
+-- a header in its ranges, of no earlier version, with these counts
 pub record IsUpgradedFrom (was h : LedgerHeader) : Type 0 where
   pub range : IsHeaderInRange h
+  pub version : was.ledger_version ≤ h.ledger_version
   pub counts : KeepsCounts was h
 
 upgraded_once : (was h : LedgerHeader) (asked : Option LedgerUpgrade) → IsGoodRead asked → IsUpgradedFrom was h
     → IsUpgradedFrom was (upgraded_if h asked)
 upgraded_once was h None good from = absurd good
 upgraded_once was h (Some asked) good from =
-    record { range = range_upgraded h asked good from.range; counts = counts_upgraded was h asked from.counts }
+    record {
+      range = range_upgraded h asked good from.range;
+      version = version_upgraded was h asked good from.range from.version;
+      counts = counts_upgraded was h asked from.counts;
+    }
 
 upgraded_all : (was h : LedgerHeader) (asked : List (Option LedgerUpgrade)) → All IsGoodRead asked
     → IsUpgradedFrom was h → IsUpgradedFrom was (all_upgraded h asked)
@@ -186,6 +200,7 @@ finished_range was h list_hash from = record {
     id_pool = from.range.id_pool;
     flags = from.range.flags;
   };
+  version = from.version;
   counts = record {
     ledger_seq = from.counts.ledger_seq;
     total_coins = from.counts.total_coins;
@@ -228,5 +243,6 @@ next_range s closing list_hash range none seq few =
     (upgraded_all (filled_header s closing) (filled_header s closing) (map upgrade_in closing.scp_value.upgrades)
     (upgrades_good s closing none) record {
       range = filled_range s closing range seq few;
+      version = omega arith;
       counts = record { ledger_seq = refl; total_coins = refl; fee_pool = refl; id_pool = refl; scp_value = refl };
     })

@@ -70,6 +70,7 @@ module _ (w : Logic) (Admitted : OperationBody → Type 0) (admits : Admits w Ad
   begins : Begins w.inv IsBegun
   begins = record {
     entries = λ ctx tx m begun. begun.before.entries;
+    extension = λ ctx tx m begun. w.extension ctx begun.before.context;
     used = λ ctx tx payer hash m begun. record {
       admitted = begun.admitted;
       before = record {
@@ -82,7 +83,7 @@ module _ (w : Logic) (Admitted : OperationBody → Type 0) (admits : Admits w Ad
         run_keeps ctx (checks.source_account tx) 0 tx.operations _ begun.admitted (record {
           entries = without_used w.inv hash (checks.source_account tx) tx.operations checked.entries
               (judged_holds w.inv pays ctx hash signatures tx m (checks.early_fault pays base_fee ctx tx m)
-              begun.before.entries);
+              (w.extension ctx begun.before.context) begun.before.entries);
           context = begun.before.context;
         });
   }

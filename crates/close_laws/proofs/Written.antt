@@ -3,7 +3,7 @@ use Rattle.close_laws.proofs.AccountBytes.{count_bytes, liable_bytes, numbers, s
 use Rattle.close_laws.proofs.AccountBytes.{signer_at_bytes, signer_sponsor_bytes, without_signer_bytes}
 use Rattle.close_laws.proofs.Bytes.{AreAccountBytes, AreBalanceBytes, AreBytes, AreDataBytes, AreEntryBytes}
 use Rattle.close_laws.proofs.Bytes.{AreLineBytes, AreOfferBytes, ArePoolBytes, IsContextBytes, IsId, IsIdIf}
-use Rattle.close_laws.proofs.Bytes.{IsOpener, IsStamp, id_of_some, no_id, open_sponsor_id}
+use Rattle.close_laws.proofs.Bytes.{IsOpener, IsThird, id_of_some, no_id, open_sponsor_id}
 use Rattle.close_laws.proofs.ShortIds.{fits_i64}
 use Rattle.close_rules.proofs.entry_sums_proofs.Lookups.{erase_each, put_each}
 use Rattle.close_rules.proofs.ledger_types_proofs.Arithmetic.{natural_nonnegative}
@@ -107,7 +107,7 @@ of_bytes = record {
     Pool = ArePoolBytes;
     Sponsor = IsIdIf;
     Key = λ k. IsEncoded signer_key k;
-    Extension = IsStamp;
+    Extension = IsThird;
     Named = λ held. IsEncoded basic.asset held;
   };
   Holds = AreBytes;

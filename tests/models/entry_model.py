@@ -173,6 +173,13 @@ def second(account):
     return {"sponsored": 0, "sponsoring": 0, "sponsors": [None] * len(account["signers"]), "ext": (0, None)}
 
 
+def third(account):
+    """What an account says of its sequence number: the ledger and the time of its last change; zeros where it says
+    nothing (CAP-0021)."""
+    arm, said = second(account)["ext"]
+    return said if arm else {"ledger": 0, "time": 0}
+
+
 def with_second(account, said):
     return {**account, "ext": (1, {"liabilities": liabilities(account), "ext": (2, said)})}
 
@@ -247,6 +254,7 @@ class Frame:
 
     def __init__(self, header, time, source, number):
         self.reserve, self.seq, self.time, self.open = header["reserve"], header["seq"] + 1, time, {}
+        self.version = header["version"]
         self.source, self.number, self.index, self.ids = source, number, 0, header["ids"]
         self.flags = header["ext"][1]["flags"] if header["ext"][0] else 0
 
@@ -314,7 +322,7 @@ def add_signer(frame, layer, owner, signer, low):
     count(layer, owner, subs=1)
     pay(layer, owner, payer, 1)
     account = layer.account(owner)
-    index = sum(other["key"] < signer["key"] for other in account["signers"])
+    index = sum(rank_of_signer(other) < rank_of_signer(signer) for other in account["signers"])
     set_signers(layer, owner, lambda rows, own: rows[:index] + [own] + rows[index:], signer, None if payer is None else (0, payer))
 
 
@@ -327,6 +335,12 @@ def set_signers(layer, owner, change, signer, payer):
         said = ext["ext"][1]
         changed = with_second(changed, {**said, "sponsors": change(said["sponsors"], payer)})
     layer.set_account(owner, **changed)
+
+
+def rank_of_signer(signer):
+    """What signers are ordered by: the kind of their key, its bytes, and a payload's."""
+    arm, held = signer["key"]
+    return (arm, held["key"], held["payload"]) if arm == 3 else (arm, held)
 
 
 def index_of(account, key):

@@ -1,11 +1,12 @@
-"""A ledger of protocol 18: what `catchup` prints for an input, worked out here.
+"""A ledger of protocols 18 and 19: what `catchup` prints for an input, worked out here.
 
-It shares nothing with the program. It follows the protocol's XDR (RFC 4506; the .x files of stellar-core), CAP-0003 for offers, CAP-0015
-for fee bumps, CAP-0018 for authorisation, CAP-0020 for buckets, CAP-0023 for claimable balances, CAP-0033 for sponsorship, CAP-0035 for
-clawback, CAP-0038 for pools, and stellar-core for the rest. Types are those of the codec of `tools/` (`model_types.py`), values and
-reserves are in `entry_model.py`, the operations of assets in `asset_model.py`, what offers bind in `offer_model.py`, trades in
-`trade_model.py`, pools in `pool_model.py`, paths in `path_model.py`. `run_cases.py` makes cases with it, `bench/` inputs. Python 3.9 or
-later and its standard library.
+It shares nothing with the program. It follows the protocol's XDR (RFC 4506; the .x files of stellar-core), CAP-0003 for
+offers, CAP-0015 for fee bumps, CAP-0018 for authorisation, CAP-0020 for buckets, CAP-0021 for preconditions, CAP-0023
+for claimable balances, CAP-0033 for sponsorship, CAP-0035 for clawback, CAP-0038 for pools, CAP-0040 for signed
+payloads, and stellar-core for the rest. Types are those of the codec of `tools/` (`model_types.py`), values and
+reserves are in `entry_model.py`, the operations of assets in `asset_model.py`, what offers bind in `offer_model.py`,
+trades in `trade_model.py`, pools in `pool_model.py`, paths in `path_model.py`. `run_cases.py` makes cases with it,
+`bench/` inputs. Python 3.9 or later and its standard library.
 """
 
 import asset_model as assets
@@ -14,11 +15,14 @@ import path_model as paths
 import pool_model as pools
 import trade_model as trades
 from entry_model import (  # noqa: F401  (some names are for the scripts that use this ledger)
-    DEAD, ENTRY, GREATEST, HEADER, INIT, ITEM, LIVE, META, RECORD, U32, U64, UPGRADE, Frame, Layer, Refused, Text, Wrong, account_key,
-    add_signer, add_subentry, available, count, i32, i64, index_of, is_text, key_of, liabilities, many, marked, move, muxed_key,
-    rank_of_key, read_entire, refuse, remove_signer, remove_subentry, second, sha, sponsor_of, sponsor_of_signer, test_payer, u32, u64,
-    with_second, with_sponsor,
+    DEAD, ENTRY, GREATEST, HEADER, INIT, ITEM, LIVE, META, RECORD, U32, U64, UPGRADE, Frame, Layer, Refused, Text,
+    Wrong, account_key, add_signer, add_subentry, available, count, i32, i64, index_of, is_text, key_of, liabilities,
+    many, marked, move, muxed_key, rank_of_key, rank_of_signer, read_entire, refuse, remove_signer, remove_subentry,
+    second, sha, sponsor_of, sponsor_of_signer, test_payer, third, u32, u64, with_second, with_sponsor,
 )
+
+# the versions of a ledger, and the one upgrade from one to another
+VERSIONS = 18, 19
 
 # ---- buckets and levels
 
@@ -154,13 +158,21 @@ def create_account(frame, layer, source, op):
     assets.debit(frame, layer, source, assets.NATIVE, op["balance"], None, None, -2)
 
 
+def is_bad_signer(frame, source, signer):
+    """Whether SET_OPTIONS can't have a signer, also to remove it: the account's own key, a weight above 255, or a signed
+    payload that is empty or came before protocol 19."""
+    arm, held = signer["key"]
+    is_bad_payload = arm == 3 and (frame.version < 19 or not held["payload"])
+    return signer["key"] == (0, source) or signer["weight"] > 255 or is_bad_payload
+
+
 def set_options(frame, layer, source, op):
     sets, clears, signer = op["set"] or 0, op["clear"] or 0, op["signer"]
     refuse(sets > 15 or clears > 15, -6)
     refuse(sets & clears, -3)
     weights = [op[name] for name in ("master", "low", "medium", "high")]
     refuse(any((weight or 0) > 255 for weight in weights), -7)
-    refuse(signer is not None and (signer["key"] == (0, source) or signer["weight"] > 255 or signer["key"][0] == 3), -8)
+    refuse(signer is not None and is_bad_signer(frame, source, signer), -8)
     refuse(op["domain"] is not None and not is_text(op["domain"]), -9)
     refuse(op["inflation"] is not None and layer.account(op["inflation"][1]) is None, -4)
     account = layer.account(source)
@@ -213,9 +225,18 @@ def manage_data(frame, layer, source, op):
         add_subentry(frame, layer, source, 3, data, -3)
 
 
+def set_seq(frame, layer, name, seq):
+    """Sets an account's sequence number. From protocol 19 on the account says in which ledger, and when (CAP-0021)."""
+    account = {**layer.account(name), "seq": seq}
+    if frame.version >= 19:
+        said = {"ext": (0, None), "ledger": frame.seq, "time": frame.time}
+        account = with_second(account, {**second(account), "ext": (3, said)})
+    layer.set_account(name, **account)
+
+
 def bump_sequence(frame, layer, source, op):
     refuse(op < 0, -1)
-    layer.set_account(source, seq=max(op, layer.account(source)["seq"]))
+    set_seq(frame, layer, source, max(op, layer.account(source)["seq"]))
 
 
 def begin_sponsoring(frame, layer, source, op):
@@ -317,15 +338,22 @@ class Signatures:
         self.rows, self.digest, self.used = rows, digest, set()
 
     def check(self, account, level):
-        if account is None:
-            return False
-        threshold, reached = account["thresholds"][level], 0
-        for signer in account["signers"]:
+        return account is not None and self.reach(account["signers"], account["thresholds"][level])
+
+    def check_extra(self, keys):
+        """Whether the signers that a transaction asks for beside those of its source have all signed."""
+        return not keys or self.reach([{"key": key, "weight": 1} for key in keys], len(keys))
+
+    def reach(self, signers, threshold):
+        """Whether those of some signers that signed have enough weight together, one of them at least. Only hashes sign:
+        Ed25519 keys and signed payloads never do."""
+        reached = 0
+        for signer in signers:
             if signer["key"] == (1, self.digest):
                 reached += min(signer["weight"], 255)
                 if reached >= threshold:
                     return True
-        left = [signer for signer in account["signers"] if signer["key"][0] == 2]
+        left = [signer for signer in signers if signer["key"][0] == 2]
         for index, row_ in enumerate(self.rows):
             for signer in left:
                 if signer["key"][1][-4:] == row_["hint"] and signer["key"][1] == sha(row_["signature"]):
@@ -371,26 +399,73 @@ def source_of(tx_source, op):
     return tx_source if op["source"] is None else muxed_key(op["source"])
 
 
+NO_LIMITS = {"least": 0, "most": 0}
+
+
+class Asked:
+    """What a transaction asks for before it is applied (CAP-0021)."""
+
+    def __init__(self, preconditions):
+        form, given = preconditions
+        self.is_second = form == 2
+        more = given if self.is_second else {}
+        times = more.get("bounds") if self.is_second else given
+        self.times, self.ledgers = times or NO_LIMITS, more.get("ledgers") or NO_LIMITS
+        self.seq, self.age, self.gap = more.get("seq"), more.get("age", 0), more.get("gap", 0)
+        self.signers = more.get("signers", [])
+
+    @property
+    def is_malformed(self):
+        payloads = [held["payload"] for arm, held in self.signers if arm == 3]
+        return any(self.signers.count(key) > 1 for key in self.signers) or not all(payloads)
+
+    def is_early(self, frame):
+        return self.times["least"] > frame.time or self.ledgers["least"] > frame.seq
+
+    def is_late(self, frame):
+        """Whether it is past: a greatest time is the last one, a greatest ledger the first that is too late."""
+        time, ledger = self.times["most"], self.ledgers["most"]
+        return bool(time and time < frame.time or ledger and ledger <= frame.seq)
+
+    def is_bad_seq(self, frame, account, seq):
+        """Whether a transaction's sequence number doesn't follow its account's. That of a new account is none from
+        protocol 19 on."""
+        if account["seq"] == GREATEST or frame.version >= 19 and seq == frame.seq << 32:
+            return True
+        if self.seq is None:
+            return account["seq"] + 1 != seq
+        return not self.seq <= account["seq"] < seq
+
+    def is_too_soon(self, frame, account):
+        """Whether the account's sequence number is too young, by what the account said before the transaction."""
+        said = third(account)
+        return frame.time - said["time"] < self.age or frame.seq - said["ledger"] < self.gap
+
+
 def checked(header, frame, layer, tx, source, signatures, pays):
     """What a transaction ends with before its operations, if it does. Its sequence number is used up on the way."""
-    operations, (form, bounds) = tx["operations"], tx["asked"]
-    if form == 2:
+    operations, asked = tx["operations"], Asked(tx["asked"])
+    if asked.is_second and frame.version < 19:
         return i32(-12)
+    if asked.is_malformed:
+        return i32(-16)
     if not operations:
         return i32(-4)
-    if bounds and bounds["least"] > frame.time:
+    if asked.is_early(frame):
         return i32(-2)
-    if bounds and bounds["most"] and bounds["most"] < frame.time:
+    if asked.is_late(frame):
         return i32(-3)
     if pays and tx["fee"] < header["base_fee"] * len(operations):
         return i32(-9)
     account = layer.account(source)
     if account is None:
         return i32(-8)
-    if account["seq"] == GREATEST or account["seq"] + 1 != tx["seq"]:
+    if asked.is_bad_seq(frame, account, tx["seq"]):
         return i32(-5)
-    layer.set_account(source, seq=tx["seq"])
-    if not signatures.check(account, 1):
+    set_seq(frame, layer, source, tx["seq"])
+    if asked.is_too_soon(frame, account):
+        return i32(-15)
+    if not signatures.check(account, 1) or not signatures.check_extra(asked.signers):
         return i32(-6)
     if pays and available(account, frame.reserve) < 0:
         return i32(-7)
@@ -494,13 +569,14 @@ def upgraded(header, upgrades):
         before = kind
         asked.append((kind, value))
     for index, (kind, value) in enumerate(asked):
-        if kind == 1 or kind == 4 and value > header["reserve"]:
+        is_other_version = kind == 1 and (header["version"], value) != VERSIONS
+        if is_other_version or kind == 4 and value > header["reserve"]:
             raise BadRecord(f"UpgradeOutOfProfile {index}")
     for kind, value in asked:
         if kind == 5:
             header = {**header, "ext": (1, {"flags": value, "ext": (0, None)})}
         else:
-            header = {**header, {2: "base_fee", 3: "most", 4: "reserve"}[kind]: value}
+            header = {**header, {1: "version", 2: "base_fee", 3: "most", 4: "reserve"}[kind]: value}
     return header
 
 
@@ -635,23 +711,17 @@ def is_in_range(entry, ids):
     )
 
 
-def rank_of_signer(signer):
-    """What signers are ordered by: the kind of their key, its bytes, and a payload's."""
-    arm, held = signer["key"]
-    return (arm, held["key"], held["payload"]) if arm == 3 else (arm, held)
-
-
 def is_dated(entry, header):
-    """Whether an account has what protocol 19 brought under that version alone, no payload is empty, and what it records of its sequence
-    number isn't later than the header."""
+    """Whether an account has what protocol 19 brought under that version alone, no payload is empty, and what it says
+    of its sequence number isn't later than the header."""
     kind, body = entry["body"]
     if kind != 0:
         return True
     payloads = [signer["key"][1]["payload"] for signer in body["signers"] if signer["key"][0] == 3]
-    arm, third = second(body)["ext"]
     if header["version"] < 19:
-        return not arm and not payloads
-    return all(payloads) and (not arm or third["ledger"] <= header["seq"] and third["time"] <= header["value"]["time"])
+        return not second(body)["ext"][0] and not payloads
+    said = third(body)
+    return all(payloads) and said["ledger"] <= header["seq"] and said["time"] <= header["value"]["time"]
 
 
 class Counts:
@@ -769,7 +839,7 @@ def ledger_of(network, header_bytes, files):
         header = read_entire(HEADER, header_bytes)
     except Wrong:
         raise BadImage("rule 1") from None
-    if header["version"] != 18:
+    if header["version"] not in VERSIONS:
         raise BadImage("rule 2")
     flags = header["ext"][1]["flags"] if header["ext"][0] else 0
     least = min(header["seq"], header["base_fee"], header["reserve"]) - 1

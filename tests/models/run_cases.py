@@ -21,6 +21,7 @@ from path_bound_cases import PARTS as PATH_BOUND_PARTS
 from path_cases import PARTS as PATH_PARTS
 from pool_cases import PARTS as POOL_PARTS
 from pool_image_cases import PARTS as POOL_IMAGE_PARTS
+from protocol_19_cases import PARTS as PROTOCOL_19_PARTS
 from revocation_cases import PARTS as REVOCATION_PARTS
 from sample_cases import PARTS as SAMPLE_PARTS
 from share_line_cases import PARTS as SHARE_LINE_PARTS
@@ -80,7 +81,8 @@ def header_rules():
     case("a byte after the header", image_bytes(good + b"\0", files), "10 bad image rule 1")
     case("a header without its end", image_bytes(good[:-4], files), "10 bad image rule 1")
     case("version 17", image([A], version=17), "10 bad image rule 2")
-    case("version 19", image([A], version=19), "10 bad image rule 2")
+    case("version 19", Story(image([A], version=19)).close(sent("a", 1, NOTHING)), "end 6", 1)
+    case("version 20", image([A], version=20), "10 bad image rule 2")
     flags_8, flags_7 = ((1, {"flags": flags, "ext": (0, None)}) for flags in (8, 7))
     for name, fields in [
         ("ledger 0", dict(seq=0)), ("ledger 2147483648", dict(seq=2**31)), ("no base fee", dict(base_fee=0)),
@@ -268,12 +270,14 @@ def upgrades():
         ("type 0", [upgrade(0, 1)], "BadUpgrade 0"), ("type 6", [fee, upgrade(6, 1)], "BadUpgrade 1"),
         ("a base fee of 0", [upgrade(2, 0)], "BadUpgrade 0"),
         ("a base reserve of 0", [fee, most, upgrade(4, 0)], "BadUpgrade 2"), ("flags 8", [upgrade(5, 8)], "BadUpgrade 0"),
-        ("the version and then the fee", [upgrade(1, 19), fee], "UpgradeOutOfProfile 0"),
         ("the fee and then the version", [fee, upgrade(1, 19)], "BadUpgrade 1"), ("the size and then the fee", [most, fee], "BadUpgrade 1"),
         ("the fee twice", [fee, fee], "BadUpgrade 1"), ("the version that is there", [upgrade(1, 18)], "UpgradeOutOfProfile 0"),
         ("a greater reserve", [fee, upgrade(4, 5_000_001)], "UpgradeOutOfProfile 1"),
     ]:
         case(f"upgrades: {name}", Story(legal).refused(upgrades=asked), f"refused 6 {end}")
+    story = Story(legal).close(upgrades=[upgrade(1, 19), fee])
+    assert (story.ledger.header["version"], story.ledger.header["base_fee"]) == (19, 200)
+    case("upgrades: the version and then the fee", story, "end 6", 1)
     # the fee that is asked for is that of the ledgers after it
     story = Story(legal).close(sent("a", 1, NOTHING, fee=150), upgrades=[fee, most, reserve, upgrade(5, 7)])
     assert story.ledger.header["ext"] == (1, {"flags": 7, "ext": (0, None)})
@@ -311,7 +315,7 @@ def faults_at_once():
     """Two faults at once: the earlier one is reported."""
     legal = image([A])
     here = Story(legal).ledger.hash.hex()
-    zero, version, fee = "00" * 32, [upgrade(1, 19)], [upgrade(2, 0)]
+    zero, version, fee = "00" * 32, [upgrade(1, 20)], [upgrade(2, 0)]
     last = Story(image([A], seq=2**31 - 1))
     case("faults: no record, after the last ledger", Story(last.data).add(last.record() + b"\0"), "refused 2147483648 BadXdr 88 Trailing")
     case("faults: another number after the last ledger", Story(last.data).refused(seq=3), "refused 2147483648 SeqEnd")
@@ -441,7 +445,7 @@ PARTS = [
     ("", [forms, header_rules, file_rules, entry_rules, rules_at_once, bad_records, terms, upgrades, set_faults, faults_at_once, closes, bumped]),
     ("assets ", ASSET_PARTS), ("trades ", OFFER_PARTS), ("pools ", POOL_IMAGE_PARTS + SHARE_LINE_PARTS + POOL_PARTS + REVOCATION_PARTS),
     ("paths ", PATH_PARTS + PATH_BOUND_PARTS), ("stores ", STORE_PARTS), ("samples ", SAMPLE_PARTS),
-    ("sets ", TABLE_PARTS),
+    ("sets ", TABLE_PARTS), ("protocol 19 ", PROTOCOL_19_PARTS),
 ]
 
 

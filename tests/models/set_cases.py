@@ -1,12 +1,13 @@
 """Transactions, operations and sets, put together by their fields as XDR, and a table of cases of sets, each with what it has to leave.
 
-Everything is encoded here, as XDR (RFC 4506; Stellar-transaction.x, Stellar-ledger.x and Stellar-ledger-entries.x of protocol 18),
-with SHA-256 of the standard library. What is expected of each case (codes, charges, balances, sequence numbers) is written out case by
-case. The order of application is worked out from the hashes: the k-th transactions of all sources before the next ones, and among
-them by rising full hash, bit by bit xor the hash of the set. `table_cases.py` makes runs of the program of the table.
+Everything is encoded here, as XDR (RFC 4506; Stellar-transaction.x, Stellar-ledger.x and Stellar-ledger-entries.x of
+protocol 19), with SHA-256 of the standard library. What is expected of each case (codes, charges, balances, sequence
+numbers) is written out case by case, here for protocol 18 and in `precondition_cases.py` for protocol 19. The order of
+application is worked out from the hashes: the k-th transactions of all sources before the next ones, and among them by
+rising full hash, bit by bit xor the hash of the set. `table_cases.py` makes runs of the program of the table.
 
-No Ed25519 signature matches in this ledger, so accounts sign by hash-x signers, whose signature is the text that their key is the
-SHA-256 of, or by pre-authorised signers. Python 3.9 or later and its standard library.
+No Ed25519 signature matches in this ledger, so accounts sign by hash-x signers, whose signature is the text that their
+key is the SHA-256 of, or by pre-authorised signers. Python 3.9 or later and its standard library.
 """
 
 import hashlib
@@ -75,9 +76,24 @@ def preauth(tx_hash, weight=1):
     return (1, tx_hash, weight)
 
 
+def signed_payload(name, payload, weight=1):
+    """A signed payload (CAP-0040) of a key."""
+    return (3, key(name) + var(payload), weight)
+
+
+def signer_order(signer):
+    """What an account's signers are in the order of: the kind of their key, its bytes, and a payload's."""
+    arm, data, _ = signer
+    return arm, data[:32], data[36:36 + int.from_bytes(data[32:36], "big")]
+
+
+def encoded_key(signer):
+    arm, data, _ = signer
+    return u32(arm) + data
+
+
 def encoded_signer(signer):
-    arm, data, weight = signer
-    return u32(arm) + data + u32(weight)
+    return encoded_key(signer) + u32(signer[2])
 
 
 def signature(hint, text):
@@ -97,11 +113,13 @@ def by(*names):
 
 
 class Account:
-    """An account. It has one hash-x signer of its own secret, weight 1, unless signers are given."""
+    """An account. It has one hash-x signer of its own secret, weight 1, unless signers are given. `dated` are the ledger and the time in
+    which its sequence number was set, where it says so."""
 
-    def __init__(self, name, balance, seq=0, signers=None, thresholds=(0, 1, 1, 1), domain=b"", data=0, counts=None, flags=0, bound=None):
+    def __init__(self, name, balance, seq=0, signers=None, thresholds=(0, 1, 1, 1), domain=b"", data=0, counts=None, flags=0, bound=None,
+                 dated=None):
         self.fields = dict(name=name, balance=balance, seq=seq, thresholds=thresholds, domain=domain, data=data, counts=counts, flags=flags)
-        self.fields["bound"] = bound
+        self.fields.update(bound=bound, dated=dated)
         self.fields["signers"] = [hash_x(secret_of(name))] if signers is None else signers
 
     def but(self, **changes):
@@ -121,13 +139,15 @@ class Account:
 
     def xdr(self):
         f = self.fields
-        signers = sorted(f["signers"])
-        if f["counts"] is None:
+        signers = sorted(f["signers"], key=signer_order)
+        if f["counts"] is None and f["dated"] is None:
             ext = bound_by(f["bound"])
         else:
-            sponsored, sponsoring = f["counts"]
+            sponsored, sponsoring = f["counts"] or (0, 0)
+            buying, selling = f["bound"] or (0, 0)
             nobody = many([u32(0) for _ in signers])
-            ext = u32(1) + i64(0) + i64(0) + u32(2) + u32(sponsored) + u32(sponsoring) + nobody + u32(0)
+            dated = u32(0) if f["dated"] is None else u32(3) + u32(0) + u32(f["dated"][0]) + u64(f["dated"][1])
+            ext = u32(1) + i64(buying) + i64(selling) + u32(2) + u32(sponsored) + u32(sponsoring) + nobody + dated
         account = u32(0) + key(self.name) + i64(f["balance"]) + i64(f["seq"]) + u32(len(signers) + f["data"]) + u32(0)
         account += u32(f["flags"]) + var(f["domain"]) + bytes(f["thresholds"]) + many([encoded_signer(s) for s in signers]) + ext
         return u32(2) + u32(0) + account + u32(0)
@@ -531,6 +551,7 @@ def inner(number, envelope, outcome):
 
 TOO_EARLY, TOO_LATE, MISSING_OPERATION, BAD_SEQ, BAD_AUTH, INSUFFICIENT_BALANCE, NO_ACCOUNT = map(code, range(-2, -9, -1))
 INSUFFICIENT_FEE, BAD_AUTH_EXTRA, INTERNAL_ERROR, NOT_SUPPORTED, FEE_BUMP_INNER_FAILED, BAD_SPONSORSHIP = map(code, range(-9, -15, -1))
+BAD_MIN_SEQ_AGE_OR_GAP, MALFORMED = code(-15), code(-16)
 
 
 # ---- images and sets
@@ -546,13 +567,14 @@ def marked(data):
 class Start:
     """The ledger that a case begins with, as an image: its entries are in the first file of the levels (CAP-0020)."""
 
-    def __init__(self, before, base_fee=BASE_FEE, max_size=MAX_SIZE, seq=SEQ, pool=0, time=TIME):
+    def __init__(self, before, base_fee=BASE_FEE, max_size=MAX_SIZE, seq=SEQ, pool=0, time=TIME, version=18):
+        self.version = version
         coins = pool + sum(e.balance for e in before if isinstance(e, Account))
-        items = [i32(-1) + u32(18) + u32(0), *(i32(2) + e.xdr() for e in sorted(before, key=lambda e: e.key))]
+        items = [i32(-1) + u32(version) + u32(0), *(i32(2) + e.xdr() for e in sorted(before, key=lambda e: e.key))]
         self.file = b"".join(map(marked, items)) if before else b""
         digest = sha(sha(sha(self.file) + bytes(32) if before else bytes(64)) + 10 * sha(bytes(64)))
         value = bytes(32) + u64(time - 5) + u32(0) + u32(0)
-        self.header = u32(18) + sha(b"the ledger before") + value + bytes(32) + digest + u32(seq) + i64(coins) + i64(pool) + u32(0)
+        self.header = u32(version) + sha(b"the ledger before") + value + bytes(32) + digest + u32(seq) + i64(coins) + i64(pool) + u32(0)
         self.header += u64(0) + u32(base_fee) + u32(RESERVE) + u32(max_size) + bytes(128) + u32(0)
         self.hash, self.seq = sha(self.header), seq
         self.image = b"SLI1" + marked(self.header) + u64(len(self.file)) + self.file + 21 * u64(0)

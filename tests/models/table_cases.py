@@ -1,9 +1,11 @@
-"""Runs of `catchup` that close one ledger over the table of cases of sets in `set_cases.py`, which `run_cases.py` writes.
+"""Runs of `catchup` that close one ledger over the table of cases of sets in `set_cases.py` and `precondition_cases.py`,
+which `run_cases.py` writes.
 
 What is printed is worked out from what the table says by hand: the lines of transactions from their charges and outcomes, and the header
 after the close from the results, what the fee pool gets, and the entries that exist then.
 """
 
+import precondition_cases
 import set_cases as sets
 from case_tools import CASES, NETWORK, NO_FILES
 from entry_model import DEAD, ENTRY, HEADER, INIT, LIVE, Text, i64, key_of, many, rank_of_key, sha
@@ -15,7 +17,7 @@ def by_rank(entries):
     return {rank_of_key(key_of(value)): value for value in values}
 
 
-def changed(before, after, seq):
+def changed(before, after, seq, version):
     """The bucket of what a ledger changed: its new entries, its changed ones, and the keys of those that are gone."""
     rows = []
     for rank in sorted({*before, *after}):
@@ -24,14 +26,14 @@ def changed(before, after, seq):
             rows.append(row(DEAD, key_of(old)))
         elif old is None or {**new, "modified": old["modified"]} != old:
             rows.append(row(INIT if old is None else LIVE, {**new, "modified": seq}))
-    return Bucket(18, rows)
+    return Bucket(version, rows)
 
 
 def header_after(start, before, after, in_order, ends, made, value):
     """The header after a close."""
     header, seq = HEADER.read(Text(start.header)), start.seq + 1
     levels = Levels([read_bucket(start.file), *21 * [read_bucket(b"")]], start.seq)
-    levels.add(seq, changed(by_rank(before), by_rank(after), seq))
+    levels.add(seq, changed(by_rank(before), by_rank(after), seq, start.version))
     results = many([e.hash + i64(fee) + outcome + bytes(4) for e, (fee, outcome) in zip(in_order, ends)])
     return {
         **header, "previous": start.hash, "value": value, "seq": seq, "results": sha(results), "ids": header["ids"] + made,
@@ -54,7 +56,7 @@ def lines_of(start, before, listed, in_order, ends, after, made, time):
 
 def tables():
     sets.TABLE.clear()
-    for part in sets.PARTS:
+    for part in sets.PARTS + precondition_cases.PARTS:
         part()
     for name, start, before, listed, in_order, ends, after, made, missing, time in sets.TABLE:
         data = start.image + sets.marked(start.record(listed, time))

@@ -56,24 +56,24 @@ NETWORK = "Test SDF Network ; September 2015"
 SEQ = 630
 
 
-def image_of(files, coins, ids):
+def image_of(files, coins, ids, version=18):
     """An image of 22 files, and the hash of its header."""
     hashes = [model.sha(file) if file else bytes(32) for file in files]
     levels = model.sha(b"".join(model.sha(hashes[i] + hashes[i + 1]) for i in range(0, 22, 2)))
     header = dict(
-        version=18, previous=bytes(32), value={"set": bytes(32), "time": 1000, "upgrades": [], "ext": (0, None)}, results=bytes(32),
-        levels=levels, seq=SEQ, coins=coins, pool=0, inflation=0, ids=ids, base_fee=100, reserve=5_000_000, most=1000,
+        version=version, previous=bytes(32), value={"set": bytes(32), "time": 1000, "upgrades": [], "ext": (0, None)},
+        results=bytes(32), levels=levels, seq=SEQ, coins=coins, pool=0, inflation=0, ids=ids, base_fee=100, reserve=5_000_000, most=1000,
         skips={name: bytes(32) for name in "abcd"}, ext=(0, None),
     )
     encoded = model.HEADER.write(header)
     return b"SLI1" + model.marked(encoded) + b"".join(model.u64(len(file)) + file for file in files), model.sha(encoded)
 
 
-def image(entries, coins, ids=0):
+def image(entries, coins, ids=0, version=18):
     """An image of entries, half of them in the curr of the fifth level and half in its snap."""
     rows = sorted((model.row(model.INIT, entry) for entry in entries), key=lambda item: item[0])
-    halves = [model.Bucket(18, rows[half::2]).file for half in (0, 1)]
-    return image_of([b""] * 8 + halves + [b""] * 12, coins, ids)[0]
+    halves = [model.Bucket(version, rows[half::2]).file for half in (0, 1)]
+    return image_of([b""] * 8 + halves + [b""] * 12, coins, ids, version)[0]
 
 
 def accounts(count, flags):

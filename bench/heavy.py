@@ -1,7 +1,8 @@
 #!/usr/bin/env python3
 """Counts the instructions of `catchup` over inputs that ask for much: of opening an image, and of closing a record.
 
-    bench/heavy.py [--small] [--keep FOLDER] [--only NAME]... [--make] [--times] [--SIZE NUMBER]... [PROGRAM [OTHER]]
+    bench/heavy.py [--small] [--version 19] [--keep FOLDER] [--only NAME]... [--make] [--times] [--SIZE NUMBER]...
+        [PROGRAM [OTHER]]
 
 PROGRAM is the built program, crates/ledger/out/ledger of this repository where none is given. OTHER is another build,
 of an earlier state say, which is run over the same inputs. These are the inputs, with their sizes where no `--SIZE`,
@@ -24,6 +25,8 @@ transaction succeeds, and that as many offers are left as there should be. `--sm
 how many offers a path payment crosses. `--keep` has the inputs and what they print in a folder, and takes them from
 there as long as the sizes, this script, and the scripts and models that it uses are the same. `--only` is for some
 inputs, `--make` for making them and no more.
+
+`--version 19` has the same inputs under protocol 19: the images' headers and files are of that version.
 
 `--times` prints processor time and peak memory instead, for sizes over which counting takes too long: the least time and
 the greatest memory of three runs of one build. The ledger in Python, which takes hours there, then works out nothing: what
@@ -287,10 +290,15 @@ def end_of(ledger: Any) -> str:
     return f"end {ledger.header['seq']} {ledger.hash.hex()}\n"
 
 
-def worked_out(name: str, recipe: Recipe) -> tuple[bytes, bytes, str, str]:
-    """An image, its record, and what they have to print, by the ledger in Python."""
+def image_for(recipe: Recipe, version: int) -> bytes:
     coins = sum(map(lumens_of, recipe.entries)) + pools.lumens_in(recipe.entries)
-    data, record, lines = image(recipe.entries, coins, recipe.ids), b"", ""
+    data: bytes = image(recipe.entries, coins, recipe.ids, version)
+    return data
+
+
+def worked_out(name: str, recipe: Recipe, version: int) -> tuple[bytes, bytes, str, str]:
+    """An image, its record, and what they have to print, by the ledger in Python."""
+    data, record, lines = image_for(recipe, version), b"", ""
     ledger = model.ledger_of(model.sha(NETWORK.encode()), *model.cut_image(model.Text(data)))
     opening = end_of(ledger)
     if recipe.listed:
@@ -304,20 +312,19 @@ def worked_out(name: str, recipe: Recipe) -> tuple[bytes, bytes, str, str]:
     return data, record, opening, lines + end_of(ledger)
 
 
-def put_together(recipe: Recipe) -> tuple[bytes, bytes]:
+def put_together(recipe: Recipe, version: int) -> tuple[bytes, bytes]:
     """An image and its record."""
-    coins = sum(map(lumens_of, recipe.entries)) + pools.lumens_in(recipe.entries)
-    data = image(recipe.entries, coins, recipe.ids)
+    data = image_for(recipe, version)
     size = int.from_bytes(data[4:8], "big") & 0x7FFFFFFF
     previous = model.sha(data[8:8 + size])
     return data, model.marked(record_of(previous, recipe.listed)) if recipe.listed else b""
 
 
-def key_of(name: str, sizes: Sizes) -> str:
-    """What an input is made from: its name and sizes, this script, and the scripts and the models that it uses."""
+def key_of(name: str, sizes: Sizes, version: int) -> str:
+    """What an input is made from: its name, sizes and version, this script, and the scripts and models that it uses."""
     files = (getattr(module, "__file__", None) for module in sys.modules.values())
     sources = {os.path.abspath(path) for path in files if path}
-    digest = hashlib.sha256(json.dumps([name, sizes]).encode())
+    digest = hashlib.sha256(json.dumps([name, sizes, version]).encode())
     for path in sorted(path for path in sources if path.startswith(f"{TOP}/")):
         with open(path, "rb") as file:
             digest.update(hashlib.sha256(file.read()).digest())
@@ -329,9 +336,9 @@ def write(path: str, data: bytes) -> None:
         file.write(data)
 
 
-def made(name: str, sizes: Sizes, folder: str) -> Made:
+def made(name: str, sizes: Sizes, version: int, folder: str) -> Made:
     """An input from the folder, or a new one."""
-    key, notes, begun = key_of(name, sizes), f"{folder}/{name}.json", time.perf_counter()
+    key, notes, begun = key_of(name, sizes, version), f"{folder}/{name}.json", time.perf_counter()
     files = f"{folder}/{name}.image", f"{folder}/{name}.input"
     if os.path.exists(notes):
         with open(notes, encoding="ascii") as file:
@@ -340,7 +347,7 @@ def made(name: str, sizes: Sizes, folder: str) -> Made:
             return Made(*files, kept["opening"], kept["closing"], kept["transactions"])
         os.remove(notes)
     recipe = INPUTS[name](sizes)
-    data, record, opening, closing = worked_out(name, recipe)
+    data, record, opening, closing = worked_out(name, recipe, version)
     it = Made(*files, opening, closing, len(recipe.listed))
     write(it.image, data)
     write(it.input, data + record)
@@ -404,13 +411,13 @@ def table(builds: list[Build], inputs: dict[str, Made]) -> None:
         row(name, str(it.transactions), cells([build.measured(it) for build in builds]))
 
 
-def times(program: str, sizes: Sizes, names: list[str], folder: str) -> None:
+def times(program: str, sizes: Sizes, version: int, names: list[str], folder: str) -> None:
     """Processor time and peak memory of a build, of each image alone and with its record."""
     row("input", "transactions", ["image", "opening", "memory", "record", "closing", "memory"])
     source = f"{folder}/source"
     for name in names:
         recipe = INPUTS[name](sizes)
-        data, record = put_together(recipe)
+        data, record = put_together(recipe, version)
         write(source, data)
         opening, peak, _ = run([program, *CATCHUP], RUNS, folder, source)
         listed = [f"{len(data) / 1e6:.1f} MB", f"{opening:.2f} s", f"{peak / 1e3:.0f} MB"]
@@ -431,6 +438,7 @@ def words() -> argparse.Namespace:
     parser = argparse.ArgumentParser(description="Counts the instructions of opening images and of closing records.")
     parser.add_argument("programs", nargs="*", metavar="PROGRAM", help="the built program, and another build")
     parser.add_argument("--small", action="store_true", help=f"sizes divided by {SMALL}")
+    parser.add_argument("--version", type=int, choices=model.VERSIONS, default=model.VERSIONS[0], help="of the images")
     parser.add_argument("--keep", metavar="FOLDER", help="where inputs are kept")
     parser.add_argument("--only", action="append", choices=list(INPUTS), help="an input; all where none is named")
     parser.add_argument("--make", action="store_true", help="makes the inputs, and runs nothing")
@@ -462,10 +470,11 @@ def main() -> None:
         folder = given.keep or passing
         os.makedirs(folder, exist_ok=True)
         if given.times:
-            times(builds[0].program, given.sizes, given.only or list(INPUTS), passing)
+            times(builds[0].program, given.sizes, given.version, given.only or list(INPUTS), passing)
             return
         begun = time.perf_counter()
-        inputs = {name: made(name, given.sizes, folder) for name in INPUTS if not given.only or name in given.only}
+        names = [name for name in INPUTS if not given.only or name in given.only]
+        inputs = {name: made(name, given.sizes, given.version, folder) for name in names}
         print(f"inputs after {time.perf_counter() - begun:.1f} s", flush=True)
         if not given.make:
             table(builds, inputs)

@@ -176,7 +176,7 @@ def try_rows(top: str, tally: Tally) -> None:
             got = read_row(name, data)
             # what docs/FORMATS.md calls a wrong magic has no kind of its own
             is_so = got == expected or name == "start_image" and kind == "BadEnum" and got[1] == expected[1]
-            # a row of what protocol 19 reads otherwise
+            # a row of a record, of which the program has one form
             is_so = is_so or name != "start_image" and fault_of(earlier(type_of_row(name)), data) == expected
             detail = f"{os.path.basename(path)} {name}: {got}, not {expected}"
             tally.check("a row of a value or fault is as it says", is_so, detail)
@@ -305,7 +305,7 @@ def try_output(tally: Tally, name: str, case: cases.Case, seen: Read) -> None:
 
 
 def earlier_fault(data: bytes, start: int) -> Tuple[Optional[str], int]:
-    """The fault of the record at an offset, as protocol 18 reads it."""
+    """The fault of the record at an offset, as the program reads it."""
     size = int.from_bytes(data[start - 4:start], "big") & 0x7FFFFFFF
     return fault_of(earlier(xdr.RECORD), data[start:start + size])
 

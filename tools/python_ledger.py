@@ -2,7 +2,7 @@
 
 It is in tests/models, and is put on the path of modules here, so that there is one Python ledger and not two: the tests
 compare it with the program in each run. It shares no code with the program; its types are those of these tools' codec,
-as protocol 18 has them. Unproved.
+but for vouches. Unproved.
 """
 
 from __future__ import annotations

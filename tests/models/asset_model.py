@@ -1,4 +1,4 @@
-"""Issued assets of a ledger of protocol 18: trust lines and claimable balances, their ranges, and the operations on them, beside those
+"""Issued assets of the ledger in Python: trust lines and claimable balances, their ranges, and the operations on them, beside those
 of `ledger_model.py`. After CAP-0018, CAP-0023, CAP-0033, CAP-0035 and stellar-core.
 """
 

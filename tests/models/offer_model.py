@@ -1,4 +1,4 @@
-"""Offers of a ledger of protocol 18: their ranges, what they bind, and where. After CAP-0003 and OfferExchange of stellar-core."""
+"""Offers of the ledger in Python: their ranges, what they bind, and where. After CAP-0003 and OfferExchange of stellar-core."""
 
 from entry_model import GREATEST, account_key, is_asset, issuer_of, line_rank
 

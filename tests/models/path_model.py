@@ -1,4 +1,4 @@
-"""Path payments of a ledger of protocol 18, beside `ledger_model.py`: chains of hops, each entirely through a pool or a book. After
+"""Path payments of the ledger in Python, beside `ledger_model.py`: chains of hops, each entirely through a pool or a book. After
 CAP-0038, PathPaymentOpFrameBase and convertWithOffersAndPools of stellar-core.
 """
 

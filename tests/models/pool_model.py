@@ -1,4 +1,4 @@
-"""Liquidity pools of a ledger of protocol 18, and the shares that accounts have of them, beside `ledger_model.py`. After CAP-0038 and
+"""Liquidity pools of the ledger in Python, and the shares that accounts have of them, beside `ledger_model.py`. After CAP-0038 and
 LiquidityPoolDepositOpFrame, LiquidityPoolWithdrawOpFrame and ChangeTrustOpFrame of stellar-core.
 """
 

@@ -1,4 +1,4 @@
-"""Trades of a ledger of protocol 18: the operations on offers, beside those of `ledger_model.py`, and the offers that go where a line
+"""Trades of the ledger in Python: the operations on offers, beside those of `ledger_model.py`, and the offers that go where a line
 loses its authorisation. After CAP-0003 and CAP-0006, and OfferExchange, ManageOfferOpFrameBase and SponsorshipUtils of stellar-core.
 """
 

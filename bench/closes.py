@@ -62,8 +62,8 @@ def image_of(files, coins, ids, version=18):
     levels = model.sha(b"".join(model.sha(hashes[i] + hashes[i + 1]) for i in range(0, 22, 2)))
     header = dict(
         version=version, previous=bytes(32), value={"set": bytes(32), "time": 1000, "upgrades": [], "ext": (0, None)},
-        results=bytes(32), levels=levels, seq=SEQ, coins=coins, pool=0, inflation=0, ids=ids, base_fee=100, reserve=5_000_000, most=1000,
-        skips={name: bytes(32) for name in "abcd"}, ext=(0, None),
+        results=bytes(32), levels=levels, seq=SEQ, coins=coins, pool=0, inflation=0, ids=ids, base_fee=100,
+        reserve=5_000_000, most=1000, skips={name: bytes(32) for name in "abcd"}, ext=(0, None),
     )
     encoded = model.HEADER.write(header)
     return b"SLI1" + model.marked(encoded) + b"".join(model.u64(len(file)) + file for file in files), model.sha(encoded)

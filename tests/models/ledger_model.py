@@ -159,8 +159,8 @@ def create_account(frame, layer, source, op):
 
 
 def is_bad_signer(frame, source, signer):
-    """Whether SET_OPTIONS can't have a signer, also to remove it: the account's own key, a weight above 255, or a signed
-    payload that is empty or came before protocol 19."""
+    """Whether SET_OPTIONS can't have a signer, also to remove it: the account's own key, a weight above 255, or a
+    signed payload that is empty or came before protocol 19."""
     arm, held = signer["key"]
     is_bad_payload = arm == 3 and (frame.version < 19 or not held["payload"])
     return signer["key"] == (0, source) or signer["weight"] > 255 or is_bad_payload
@@ -345,8 +345,8 @@ class Signatures:
         return not keys or self.reach([{"key": key, "weight": 1} for key in keys], len(keys))
 
     def reach(self, signers, threshold):
-        """Whether those of some signers that signed have enough weight together, one of them at least. Only hashes sign:
-        Ed25519 keys and signed payloads never do."""
+        """Whether those of some signers that signed have enough weight together, one of them at least. Only hashes
+        sign: Ed25519 keys and signed payloads never do."""
         reached = 0
         for signer in signers:
             if signer["key"] == (1, self.digest):

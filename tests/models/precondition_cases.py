@@ -33,7 +33,8 @@ def asking(bounds=None, ledgers=None, least=None, age=0, gap=0, signers=()):
 def case(name, before, listed, expected, after, time=TIME, version=19, seq=SEQ, **fields):
     """A case under protocol 19, unless another version is given. What is charged is the sum."""
     charged = sum(fee for fee, _ in expected)
-    sets.case(f"protocol_19_{name}", before, listed, expected, charged, after, time=time, version=version, seq=seq, **fields)
+    sets.case(f"protocol_19_{name}", before, listed, expected, charged, after, time=time, version=version, seq=seq,
+              **fields)
 
 
 def after_fee(account, number=None, now=NOW, fee=FEE):
@@ -43,7 +44,8 @@ def after_fee(account, number=None, now=NOW, fee=FEE):
     return paid if number is None else paid.but(seq=number, dated=now)
 
 
-def one(name, end, *operations, number=8, used=True, account=OLD, signatures=None, times=None, time=TIME, seq=SEQ, fee=FEE, **asked):
+def one(name, end, *operations, number=8, used=True, account=OLD, signatures=None, times=None, time=TIME, seq=SEQ,
+        fee=FEE, **asked):
     """A case of one transaction of a's. `asked` are preconditions of the second form, `times` those of the first."""
     tx = Tx("a", number, list(operations or [PAY]), fee, times, asked=asking(**asked) if asked else None)
     signed = Signed(tx, by("a") if signatures is None else signatures)
@@ -73,18 +75,22 @@ def times_and_ledgers():
 def numbers():
     """Which sequence numbers follow that of the account, with a least one and without."""
     for name, number, least, end in [
-        ("the_next_number", 8, None, PAID), ("a_number_left_out", 9, None, BAD_SEQ), ("the_same_number", 7, None, BAD_SEQ),
-        ("a_greater_number_from_a_lower_one", 20, 5, PAID), ("a_greater_number_from_the_accounts", 20, 7, PAID),
-        ("a_greater_number_from_one_above_the_accounts", 20, 8, BAD_SEQ), ("the_next_number_from_the_accounts", 8, 7, PAID),
+        ("the_next_number", 8, None, PAID), ("a_number_left_out", 9, None, BAD_SEQ),
+        ("the_same_number", 7, None, BAD_SEQ), ("a_greater_number_from_a_lower_one", 20, 5, PAID),
+        ("a_greater_number_from_the_accounts", 20, 7, PAID),
+        ("a_greater_number_from_one_above_the_accounts", 20, 8, BAD_SEQ),
+        ("the_next_number_from_the_accounts", 8, 7, PAID),
         ("the_same_number_from_a_lower_one", 7, 5, BAD_SEQ), ("a_lower_number_from_a_lower_one", 6, 5, BAD_SEQ),
-        ("a_number_from_0", 8, 0, PAID), ("a_number_from_below_0", 8, -1, PAID), ("a_number_from_the_least", 8, LEAST, PAID),
+        ("a_number_from_0", 8, 0, PAID), ("a_number_from_below_0", 8, -1, PAID),
+        ("a_number_from_the_least", 8, LEAST, PAID),
         ("a_number_from_the_greatest", 20, GREATEST, BAD_SEQ), ("the_greatest_number_from_0", GREATEST, 0, PAID),
         ("a_number_below_0_from_the_least", -1, LEAST, BAD_SEQ),
     ]:
         one(name, end, number=number, used=end == PAID, **({"gap": 0} if least is None else {"least": least}))
     last = OLD.but(seq=GREATEST)
     one("no_number_after_the_greatest", BAD_SEQ, number=GREATEST, used=False, account=last, least=0)
-    # a new account's number is ledger 10's times 2^32; under protocol 19 no transaction has it, and there is one before it and after it
+    # a new account's number is ledger 10's times 2^32; under protocol 19 no transaction has it, and there is one before
+    # it and after it
     first = CLOSING << 32
     before, at = OLD.but(seq=first - 1), OLD.but(seq=first)
     one("the_number_of_a_new_account", BAD_SEQ, number=first, used=False, account=before)
@@ -93,16 +99,18 @@ def numbers():
     one("the_number_after_that_of_a_new_account", PAID, number=first + 1, account=at)
     one("past_the_number_of_a_new_account", PAID, number=first + 1, account=before, least=0)
     for name, ledger in [("before", 9), ("after", 11)]:
-        one(f"the_number_of_a_new_account_of_the_ledger_{name}", PAID, number=ledger << 32, account=OLD.but(seq=(ledger << 32) - 1))
+        one(f"the_number_of_a_new_account_of_the_ledger_{name}", PAID, number=ledger << 32,
+            account=OLD.but(seq=(ledger << 32) - 1))
     # before protocol 19 it is a number as any other
     former = before.but(dated=None)
-    case("the_number_of_a_new_account_before_it", [former], [sent("a", first, PAY)], [(100, PAID)], [after_fee(former, first, None)],
-         version=18)
+    case("the_number_of_a_new_account_before_it", [former], [sent("a", first, PAY)], [(100, PAID)],
+         [after_fee(former, first, None)], version=18)
 
 
 def ages():
     """How old the account's number has to be, in seconds and in ledgers. The number is used up all the same."""
-    for age, time, end in [(60, 1_059, BAD_MIN_SEQ_AGE_OR_GAP), (60, 1_060, PAID), (2**64 - 1, 1_060, BAD_MIN_SEQ_AGE_OR_GAP)]:
+    for age, time, end in [(60, 1_059, BAD_MIN_SEQ_AGE_OR_GAP), (60, 1_060, PAID),
+                           (2**64 - 1, 1_060, BAD_MIN_SEQ_AGE_OR_GAP)]:
         one(f"an_age_of_{age}_at_{time}", end, time=time, age=age)
     for gap, end in [(5, PAID), (6, BAD_MIN_SEQ_AGE_OR_GAP), (2**32 - 1, BAD_MIN_SEQ_AGE_OR_GAP)]:
         one(f"a_gap_of_{gap}_after_ledger_5", end, gap=gap)
@@ -120,15 +128,15 @@ def ages():
     first = sent("a", 8, PAY)
     for name, asked, end in [("no_gap", {"gap": 0}, PAID), ("a_gap_of_1", {"gap": 1}, BAD_MIN_SEQ_AGE_OR_GAP),
                              ("an_age_of_1", {"age": 1}, BAD_MIN_SEQ_AGE_OR_GAP)]:
-        case(f"a_second_transaction_with_{name}", [OLD], [first, sent("a", 9, PAY, asked=asking(**asked))], [(100, PAID), (100, end)],
-             [after_fee(OLD, 9, fee=200)], order=[0, 1])
+        case(f"a_second_transaction_with_{name}", [OLD], [first, sent("a", 9, PAY, asked=asking(**asked))],
+             [(100, PAID), (100, end)], [after_fee(OLD, 9, fee=200)], order=[0, 1])
     # also where it failed for its age, after which the next number follows
     young = sent("a", 8, PAY, asked=asking(age=61))
-    case("the_number_after_one_that_was_too_young", [OLD], [young, sent("a", 9, PAY)], [(100, BAD_MIN_SEQ_AGE_OR_GAP), (100, PAID)],
-         [after_fee(OLD, 9, fee=200)], order=[0, 1])
+    case("the_number_after_one_that_was_too_young", [OLD], [young, sent("a", 9, PAY)],
+         [(100, BAD_MIN_SEQ_AGE_OR_GAP), (100, PAID)], [after_fee(OLD, 9, fee=200)], order=[0, 1])
     # a transaction that used no number up leaves what the account says
-    case("the_age_after_a_bad_number", [OLD], [sent("a", 8, PAY, asked=asking(gap=5)), sent("a", 7, PAY)], [(100, PAID), (100, BAD_SEQ)],
-         [after_fee(OLD, 8, fee=200)], order=[1, 0])
+    case("the_age_after_a_bad_number", [OLD], [sent("a", 8, PAY, asked=asking(gap=5)), sent("a", 7, PAY)],
+         [(100, PAID), (100, BAD_SEQ)], [after_fee(OLD, 8, fee=200)], order=[1, 0])
 
 
 def extra_signers():
@@ -158,18 +166,22 @@ def extra_signers():
     # a weight of 1 each, whatever the account's thresholds are
     heavy = OLD.but(signers=[hash_x(secret_of("a"), 200), hash_x(b"one", 55)], thresholds=(0, 255, 255, 255))
     asks("an_extra_signer_beside_great_thresholds", [wanted["one"]], [a, first], PAID, account=heavy)
-    asks("an_extra_signer_that_the_account_has_too", [wanted["one"]], [a], BAD_AUTH, account=heavy.but(thresholds=(0, 0, 0, 0)))
+    asks("an_extra_signer_that_the_account_has_too", [wanted["one"]], [a], BAD_AUTH,
+         account=heavy.but(thresholds=(0, 0, 0, 0)))
     # keys and signed payloads never sign, nor does the hash of another transaction
     for name, key_, signature in [
         ("an_ed25519_key", encoded_key((0, sets.key("k"), 1)), sets.signature(sets.key("k")[-4:], b"\x5a" * 64)),
-        ("a_signed_payload", encoded_key(signed_payload("k", b"load")), sets.signature(bytes(x ^ y for x, y in zip(b"kkkk", b"load")), b"\x5a" * 64)),
-        ("a_signed_payload_of_one_byte", encoded_key(signed_payload("k", b"x")), sets.signature(b"\x13kkk", b"\x5a" * 64)),
+        ("a_signed_payload", encoded_key(signed_payload("k", b"load")),
+         sets.signature(bytes(x ^ y for x, y in zip(b"kkkk", b"load")), b"\x5a" * 64)),
+        ("a_signed_payload_of_one_byte", encoded_key(signed_payload("k", b"x")),
+         sets.signature(b"\x13kkk", b"\x5a" * 64)),
         ("another_transactions_hash", encoded_key(preauth(sent("b", 1, NOTHING).hash)), first),
     ]:
         asks(f"{name}_as_an_extra_signer", [key_], [a, signature], BAD_AUTH)
     # where an operation's signatures fail, that they were all used isn't asked
     tx = sent("a", 8, payment("a", 1, source="b"), signatures=[a, first], asked=asking(signers=[wanted["one"]]))
-    case("an_extra_signer_and_an_operation_without_a_signature", [OLD, B], [tx], [(100, failed(OP_BAD_AUTH))], [after_fee(OLD, 8), B])
+    case("an_extra_signer_and_an_operation_without_a_signature", [OLD, B], [tx], [(100, failed(OP_BAD_AUTH))],
+         [after_fee(OLD, 8), B])
     # the list is of the transaction: an operation's source has to sign by itself
     b = B.but(signers=[ONE])
     case("an_extra_signer_that_signs_for_an_operation", [OLD, b], [tx], [(100, PAID)],
@@ -180,17 +192,19 @@ def malformed():
     """Extra signers of whom two are equal, or a payload is empty. No number is used up."""
     other = encoded_key(preauth(ONE[1]))
     one_, two = encoded_key(ONE), encoded_key(TWO)
-    empty, payloads = encoded_key(signed_payload("k", b"")), [encoded_key(signed_payload("k", text)) for text in (b"x", b"x\0", b"y" * 64)]
+    empty, *payloads = (encoded_key(signed_payload("k", text)) for text in (b"", b"x", b"x\0", b"y" * 64))
     signed = [*by("a"), by_secret(b"one")]
     for name, keys in [
         ("two_equal_extra_signers", [one_, one_]), ("two_equal_payloads", [payloads[0], payloads[0]]),
-        ("an_empty_payload", [empty]), ("an_empty_payload_first", [empty, one_]), ("an_empty_payload_last", [one_, empty]),
+        ("an_empty_payload", [empty]), ("an_empty_payload_first", [empty, one_]),
+        ("an_empty_payload_last", [one_, empty]),
         ("two_empty_payloads", [empty, empty]), ("two_equal_payloads_of_64_bytes", [payloads[2]] * 2),
     ]:
         one(f"{name}", MALFORMED, used=False, signers=keys, signatures=signed)
     for name, keys in [
         ("a_hash_of_both_kinds", [other, one_]), ("a_payload_and_it_with_a_zero", payloads[:2]),
-        ("payloads_of_two_keys", [payloads[0], encoded_key(signed_payload("l", b"x"))]), ("a_payload_and_its_key", [payloads[0], encoded_key((0, sets.key("k"), 1))]),
+        ("payloads_of_two_keys", [payloads[0], encoded_key(signed_payload("l", b"x"))]),
+        ("a_payload_and_its_key", [payloads[0], encoded_key((0, sets.key("k"), 1))]),
     ]:
         one(f"{name}_as_extra_signers", BAD_AUTH, signers=keys, signatures=signed)
     one("two_extra_signers_that_differ", PAID, signers=[one_, two], signatures=[*signed, by_secret(b"two")])
@@ -214,7 +228,8 @@ def in_order():
     one("the_age_before_signatures", BAD_MIN_SEQ_AGE_OR_GAP, age=61, signatures=[])
     one("the_age_before_the_balance", BAD_MIN_SEQ_AGE_OR_GAP, account=poor, age=61)
     one("extra_signers_before_the_balance", BAD_AUTH, account=poor, signers=[encoded_key(ONE)], signatures=a)
-    one("the_balance_before_signatures_that_arent_used", INSUFFICIENT_BALANCE, account=poor, signatures=[*a, by_secret(b"one")], gap=5)
+    one("the_balance_before_signatures_that_arent_used", INSUFFICIENT_BALANCE, account=poor,
+        signatures=[*a, by_secret(b"one")], gap=5)
     # three reserves are enough: what the account says of its number takes none
     one("three_reserves", PAID, account=SILENT.but(balance=15_000_100))
     # the first version is not supported still, and preconditions of the second form are not before protocol 19
@@ -235,8 +250,8 @@ def preauthorised():
         tx = Tx("a", number, [PAY, bump], 200, asked=asking(**asked))
         account = OLD if version == 19 else SILENT
         a, b = (e.but(signers=e.fields["signers"] + [preauth(tx.hash)]) for e in (account, B))
-        case(name, [a, b], [Signed(tx, list(signatures))], [(200, end)], [after_fee(account, number if used else None, fee=200), B],
-             version=version)
+        case(name, [a, b], [Signed(tx, list(signatures))], [(200, end)],
+             [after_fee(account, number if used else None, fee=200), B], version=version)
 
     same = [encoded_key(ONE)] * 2
     run("preauthorised_and_not_supported", NOT_SUPPORTED, used=False, version=18)
@@ -249,8 +264,8 @@ def preauthorised():
     # it counts for both accounts, and the extra signer has to sign beside it
     tx = Tx("a", 8, [PAY, bump], 200, asked=asking(signers=same[:1]))
     a, b = (e.but(signers=e.fields["signers"] + [preauth(tx.hash)]) for e in (OLD, B))
-    case("preauthorised_with_an_extra_signer", [a, b], [Signed(tx, [by_secret(b"one")])], [(200, ok(ran(PAYMENT, 0), BUMPED))],
-         [after_fee(OLD, 8, fee=200), B.but(dated=NOW)])
+    case("preauthorised_with_an_extra_signer", [a, b], [Signed(tx, [by_secret(b"one")])],
+         [(200, ok(ran(PAYMENT, 0), BUMPED))], [after_fee(OLD, 8, fee=200), B.but(dated=NOW)])
 
 
 def bumps():
@@ -258,10 +273,12 @@ def bumps():
     b = B.but(seq=7)
     for name, account, to, left in [
         ("an_account_without_extensions", b, 9, b.but(seq=9, dated=NOW)), ("to_a_lower_number", b, 3, b.but(dated=NOW)),
-        ("to_the_same_number", b, 7, b.but(dated=NOW)), ("with_liabilities_alone", b.but(bound=(0, 0)), 9, b.but(seq=9, dated=NOW)),
+        ("to_the_same_number", b, 7, b.but(dated=NOW)),
+        ("with_liabilities_alone", b.but(bound=(0, 0)), 9, b.but(seq=9, dated=NOW)),
         ("with_sponsorships", b.but(counts=(0, 0)), 9, b.but(seq=9, dated=NOW)),
         ("that_said_so_before", b.but(dated=(5, 1_000)), 0, b.but(dated=NOW)),
-        ("without_signers", b.but(signers=[]), 9, None), ("to_the_greatest_number", b, GREATEST, b.but(seq=GREATEST, dated=NOW)),
+        ("without_signers", b.but(signers=[]), 9, None),
+        ("to_the_greatest_number", b, GREATEST, b.but(seq=GREATEST, dated=NOW)),
     ]:
         tx = sent("a", 8, bump_sequence(to, source="b"), signers="ab")
         end, kept = (failed(OP_BAD_AUTH), account) if left is None else (ok(BUMPED), left)
@@ -270,19 +287,22 @@ def bumps():
     below = sent("a", 8, bump_sequence(-1, source="b"), signers="ab")
     case("a_bump_below_0", [OLD, b], [below], [(100, failed(ran(BUMP, -1)))], [after_fee(OLD, 8), b])
     undone = sent("a", 8, bump_sequence(9, source="b"), payment("z", 5), fee=200, signers="ab")
-    case("a_bump_that_is_undone", [OLD, b], [undone], [(200, failed(BUMPED, ran(PAYMENT, -5)))], [after_fee(OLD, 8, fee=200), b])
+    case("a_bump_that_is_undone", [OLD, b], [undone], [(200, failed(BUMPED, ran(PAYMENT, -5)))],
+         [after_fee(OLD, 8, fee=200), b])
     # a's number is bumped by its own transaction, and the next one has to wait
-    own = [sent("a", 8, bump_sequence(20)), sent("a", 21, PAY, asked=asking(gap=1)), sent("a", 22, PAY, asked=asking(gap=0))]
-    case("a_number_after_a_bump", [OLD], own, [(100, ok(BUMPED)), (100, BAD_MIN_SEQ_AGE_OR_GAP), (100, PAID)], [after_fee(OLD, 22, fee=300)],
-         order=[0, 1, 2])
+    own = [sent("a", 8, bump_sequence(20)), sent("a", 21, PAY, asked=asking(gap=1)),
+           sent("a", 22, PAY, asked=asking(gap=0))]
+    case("a_number_after_a_bump", [OLD], own, [(100, ok(BUMPED)), (100, BAD_MIN_SEQ_AGE_OR_GAP), (100, PAID)],
+         [after_fee(OLD, 22, fee=300)], order=[0, 1, 2])
     # an operation of a's transaction makes b's number young where it comes before b's own transaction
     other = sent("a", 8, bump_sequence(0, source="b"), signers="ab")
     start = sets.Start([OLD, b], seq=SEQ, time=TIME, version=19)
     waiting = [sent("b", 8, payment("b", 1), asked=asking(gap=1), memo=u32(2) + u64(number)) for number in range(20)]
-    for name, end, order in [("before_its_transaction", BAD_MIN_SEQ_AGE_OR_GAP, [1, 0]), ("after_its_transaction", PAID, [0, 1])]:
+    for name, end, order in [("before_its_transaction", BAD_MIN_SEQ_AGE_OR_GAP, [1, 0]),
+                             ("after_its_transaction", PAID, [0, 1])]:
         tx = next(tx for tx in waiting if start.apply_order([tx, other])[0] is (tx, other)[order[0]])
-        case(f"a_bump_by_another_{name}", [OLD, b], [tx, other], [(100, end), (100, ok(BUMPED))], [after_fee(OLD, 8), after_fee(b, 8)],
-             order=order)
+        case(f"a_bump_by_another_{name}", [OLD, b], [tx, other], [(100, end), (100, ok(BUMPED))],
+             [after_fee(OLD, 8), after_fee(b, 8)], order=order)
 
 
 def payload_signers():
@@ -293,9 +313,11 @@ def payload_signers():
     def sets_signer(name, signer, number, *left, account=OLD):
         end = ok(ran(OPTIONS, 0)) if number == 0 else failed(ran(OPTIONS, number))
         signers = list(left) if number == 0 else account.fields["signers"]
-        case(name, [account], [sent("a", 8, set_options(signer=signer))], [(100, end)], [after_fee(account, 8).but(signers=signers)])
+        case(name, [account], [sent("a", 8, set_options(signer=signer))], [(100, end)],
+             [after_fee(account, 8).but(signers=signers)])
 
-    for name, text in [("a_payload_of_one_byte", b"x"), ("a_payload_of_64_bytes", b"y" * 64), ("a_payload_of_zeros", bytes(4))]:
+    for name, text in [("a_payload_of_one_byte", b"x"), ("a_payload_of_64_bytes", b"y" * 64),
+                       ("a_payload_of_zeros", bytes(4))]:
         sets_signer(f"{name}_as_a_signer", signed_payload("k", text), 0, own, signed_payload("k", text))
     sets_signer("a_payload_of_the_own_key_as_a_signer", signed_payload("a", b"x"), 0, own, signed_payload("a", b"x"))
     sets_signer("the_own_key_as_a_signer", (0, sets.key("a"), 1), -8)
@@ -307,7 +329,8 @@ def payload_signers():
     sets_signer("a_payload_of_weight_0_that_isnt_there", signed_payload("k", b"x", 0), 0, own)
     with_payload = OLD.but(signers=[own, signed_payload("k", b"x", 3)])
     sets_signer("a_payload_that_is_removed", signed_payload("k", b"x", 0), 0, own, account=with_payload)
-    sets_signer("a_payload_that_gets_another_weight", signed_payload("k", b"x", 9), 0, own, signed_payload("k", b"x", 9), account=with_payload)
+    sets_signer("a_payload_that_gets_another_weight", signed_payload("k", b"x", 9), 0, own,
+                signed_payload("k", b"x", 9), account=with_payload)
     # by the kind of the key first, then by the key, then by the payload's bytes and not by its length
     others = [signed_payload("k", text) for text in (b"\0\0", b"\1", b"\1\0", b"\2")]
     for index, signer in enumerate(others):
@@ -327,19 +350,20 @@ def payload_signers():
     # a payload never signs, whatever its weight, and its hint is that of its key and of the payload's last bytes
     alone = OLD.but(signers=[signed_payload("k", b"load", 255)])
     hint = bytes(x ^ y for x, y in zip(b"kkkk", b"load"))
-    case("a_payload_alone_as_a_signer", [alone], [sent("a", 8, PAY, signatures=[sets.signature(hint, b"\x5a" * 64)])], [(100, BAD_AUTH)],
-         [after_fee(alone, 8)])
+    case("a_payload_alone_as_a_signer", [alone], [sent("a", 8, PAY, signatures=[sets.signature(hint, b"\x5a" * 64)])],
+         [(100, BAD_AUTH)], [after_fee(alone, 8)])
     # it counts as a subentry, and goes with its account
     case("a_merge_of_an_account_with_a_payload", [with_payload, B], [sent("a", 8, sets.account_merge("b"))],
          [(100, ok(ran(MERGE, 0, 999_999_900)))], [B.but(balance=1_999_999_900)])
 
 
 def fee_bumps():
-    """Fee bumps of transactions with preconditions: the inner one is checked as any other but for its fee and balance."""
+    """Fee bumps of transactions with preconditions: the inner one is checked as any but for its fee and balance."""
     one_ = encoded_key(ONE)
     signed = [*by("a"), by_secret(b"one")]
     for name, end, used, number, signatures, asked in [
-        ("that_passes", PAID, True, 20, signed, dict(bounds=(1_060, 1_060), ledgers=(10, 11), least=7, age=60, gap=5, signers=[one_])),
+        ("that_passes", PAID, True, 20, signed,
+         dict(bounds=(1_060, 1_060), ledgers=(10, 11), least=7, age=60, gap=5, signers=[one_])),
         ("that_is_too_young", BAD_MIN_SEQ_AGE_OR_GAP, True, 8, signed[:1], dict(age=61)),
         ("that_is_malformed", MALFORMED, False, 8, signed[:1], dict(signers=[one_, one_])),
         ("that_is_late", TOO_LATE, False, 8, signed[:1], dict(ledgers=(0, 10))),
@@ -353,11 +377,12 @@ def fee_bumps():
              [left, B.but(balance=999_999_800)])
     # an extra signer doesn't sign for the fee bump, and a signature of the fee bump not for the extra signer
     tx = sent("a", 8, PAY, signatures=by("a"), asked=asking(signers=[one_]))
-    case("a_fee_bump_with_the_extra_signers_signature", [OLD, B], [bumped("b", 200, tx, signatures=[*by("b"), by_secret(b"one")])],
+    case("a_fee_bump_with_the_extra_signers_signature", [OLD, B],
+         [bumped("b", 200, tx, signatures=[*by("b"), by_secret(b"one")])],
          [(200, BAD_AUTH_EXTRA)], [OLD, B.but(balance=999_999_800)])
     gone = sent("z", 8, PAY, asked=asking(least=0))
-    case("a_fee_bump_of_an_account_that_isnt_there", [B], [bumped("b", 200, gone)], [(200, inner(-13, gone, NO_ACCOUNT))],
-         [B.but(balance=999_999_800)])
+    case("a_fee_bump_of_an_account_that_isnt_there", [B], [bumped("b", 200, gone)],
+         [(200, inner(-13, gone, NO_ACCOUNT))], [B.but(balance=999_999_800)])
     former = sent("a", 8, PAY, asked=asking())
     case("a_fee_bump_before_it", [SILENT, B], [bumped("b", 200, former)], [(200, inner(-13, former, NOT_SUPPORTED))],
          [SILENT, B.but(balance=999_999_800)], version=18)
@@ -374,9 +399,11 @@ def accounts():
     # a queue is in the order of numbers, with those left out
     far = sent("a", 20, PAY, asked=asking(least=0))
     near = sent("a", 9, PAY, asked=asking(least=0))
-    case("a_queue_with_numbers_left_out", [OLD], [far, near], [(100, PAID), (100, PAID)], [after_fee(OLD, 20, fee=200)], order=[1, 0])
+    case("a_queue_with_numbers_left_out", [OLD], [far, near], [(100, PAID), (100, PAID)], [after_fee(OLD, 20, fee=200)],
+         order=[1, 0])
     next_one = sent("a", 10, PAY)
-    case("a_queue_after_a_number_left_out", [OLD], [next_one, near], [(100, PAID), (100, PAID)], [after_fee(OLD, 10, fee=200)], order=[1, 0])
+    case("a_queue_after_a_number_left_out", [OLD], [next_one, near], [(100, PAID), (100, PAID)],
+         [after_fee(OLD, 10, fee=200)], order=[1, 0])
     # a failed transaction uses its number up, and so does one with an open sponsorship
     fails = sent("a", 8, payment("z", 5))
     case("a_failed_transaction", [OLD], [fails], [(100, failed(ran(PAYMENT, -5)))], [after_fee(OLD, 8)])
@@ -388,20 +415,26 @@ def accounts():
     # who is paid says nothing, and an account that is merged and made again says nothing either
     case("a_payment", [OLD, B], [sent("a", 8, payment("b", 5))], [(100, ok(ran(PAYMENT, 0)))],
          [after_fee(OLD, 8).but(balance=999_999_895), B.but(balance=1_000_000_005)])
-    make = sent("a", 8, sets.account_merge("a", source="b"), sets.create_account("b", 20_000_000), fee=200, signers="ab")
+    make = sent("a", 8, sets.account_merge("a", source="b"), sets.create_account("b", 20_000_000), fee=200,
+                signers="ab")
     case("an_account_that_is_merged_and_made_again", [OLD, B.but(dated=(5, 1_000))], [make],
          [(200, ok(ran(MERGE, 0, 1_000_000_000), ran(sets.CREATE, 0)))],
-         [after_fee(OLD, 8, fee=200).but(balance=1_979_999_800), Account("b", 20_000_000, seq=CLOSING << 32, signers=[], thresholds=(1, 0, 0, 0))])
+         [after_fee(OLD, 8, fee=200).but(balance=1_979_999_800),
+          Account("b", 20_000_000, seq=CLOSING << 32, signers=[], thresholds=(1, 0, 0, 0))])
     # counts of sponsorships stay beside it
-    begin, put, end = sets.begin_sponsoring("b"), sets.manage_data(b"x", b"yes", source="b"), sets.end_sponsoring(source="b")
-    case("a_sponsorship", [OLD, B], [sent("a", 8, begin, put, end, fee=300, signers="ab")],
+    put = sets.manage_data(b"x", b"yes", source="b")
+    sandwich = [sets.begin_sponsoring("b"), put, sets.end_sponsoring(source="b")]
+    case("a_sponsorship", [OLD, B], [sent("a", 8, *sandwich, fee=300, signers="ab")],
          [(300, ok(ran(BEGIN, 0), ran(sets.DATA, 0), ran(END, 0)))],
-         [after_fee(OLD, 8, fee=300).but(counts=(0, 1)), B.but(data=1, counts=(1, 0)), sets.Data("b", b"x", b"yes", sponsor="a")])
+         [after_fee(OLD, 8, fee=300).but(counts=(0, 1)), B.but(data=1, counts=(1, 0)),
+          sets.Data("b", b"x", b"yes", sponsor="a")])
     # a set of the first form alone, at the greatest time
-    case("the_greatest_time", [OLD], [sent("a", 8, PAY, asked=asking(age=2**64 - 1_001, bounds=(2**64 - 1, 2**64 - 1)))],
+    case("the_greatest_time", [OLD], [sent("a", 8, PAY, asked=asking(age=2**64 - 1_001,
+                                                                     bounds=(2**64 - 1, 2**64 - 1)))],
          [(100, PAID)], [after_fee(OLD, 8, (CLOSING, 2**64 - 1))], time=2**64 - 1)
 
 
 PARTS = (
-    times_and_ledgers, numbers, ages, extra_signers, malformed, in_order, preauthorised, bumps, payload_signers, fee_bumps, accounts,
+    times_and_ledgers, numbers, ages, extra_signers, malformed, in_order, preauthorised, bumps, payload_signers,
+    fee_bumps, accounts,
 )

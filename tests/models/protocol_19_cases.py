@@ -1,6 +1,6 @@
-"""Cases of protocol 19 beside those of sets (`precondition_cases.py`), which `run_cases.py` writes: the upgrade from 18,
-accounts and stores that go on after it, images of both versions, and records with what protocol 19 brought. Each says by
-hand how it ends, and what is left where that isn't printed.
+"""Cases of protocol 19 beside those of sets (`precondition_cases.py`), which `run_cases.py` writes: the upgrade from
+18, accounts and stores that go on after it, images of both versions, and records with what protocol 19 brought. Each
+says by hand how it ends, and what is left where that isn't printed.
 """
 
 from ledger_model import INIT, i32, marked, u32
@@ -54,7 +54,8 @@ def upgrades():
     assert [header[name] for name in ("version", "base_fee", "most", "reserve")] == [19, 200, 50, 4_999_999]
     assert header["ext"] == (1, {"flags": 7, "ext": (0, None)})
     # the fee of the set after it is that of the upgrade
-    story.close(sent("a", 1, NOTHING, fee=199), sent("b", 1, NOTHING, fee=200), expected=[sets.INSUFFICIENT_FEE, sets.ok(sets.BUMPED)])
+    story.close(sent("a", 1, NOTHING, fee=199), sent("b", 1, NOTHING, fee=200),
+                expected=[sets.INSUFFICIENT_FEE, sets.ok(sets.BUMPED)])
     assert (said(story, "a"), said(story, "b")) == (None, (7, 1010))
     case("an upgrade with all others", story, "end 7", 2)
     story = Story(later).close(upgrades=[FEE, SIZE, upgrade(4, 5_000_000), FLAGS])
@@ -63,20 +64,23 @@ def upgrades():
     case("an empty set after it", Story(later).close(), "end 6", 1)
     for name, start, asked, end in [
         ("after the fee", legal, [FEE, TO_19], "BadUpgrade 1"), ("twice", legal, [TO_19, TO_19], "BadUpgrade 1"),
-        ("after the fee, from 19", later, [FEE, TO_19], "BadUpgrade 1"), ("twice, from 19", later, [TO_19, TO_19], "BadUpgrade 1"),
-        ("before the fee, from 19", later, [TO_19, FEE], "UpgradeOutOfProfile 0"), ("from 19", later, [TO_19], "UpgradeOutOfProfile 0"),
+        ("after the fee, from 19", later, [FEE, TO_19], "BadUpgrade 1"),
+        ("twice, from 19", later, [TO_19, TO_19], "BadUpgrade 1"),
+        ("before the fee, from 19", later, [TO_19, FEE], "UpgradeOutOfProfile 0"),
+        ("from 19", later, [TO_19], "UpgradeOutOfProfile 0"),
         ("before a greater reserve", legal, [TO_19, upgrade(4, 5_000_001)], "UpgradeOutOfProfile 1"),
         ("before flags 8", legal, [TO_19, upgrade(5, 8)], "BadUpgrade 1"),
         ("four bytes after it", legal, [TO_19 + bytes(4)], "BadUpgrade 0"),
     ]:
         case(f"an upgrade {name}", Story(start).refused(upgrades=asked), f"refused 6 {end}")
-    case("an upgrade and once more", Story(legal).close(upgrades=[TO_19]).refused(upgrades=[TO_19]), "refused 7 UpgradeOutOfProfile 0", 1)
+    case("an upgrade and once more", Story(legal).close(upgrades=[TO_19]).refused(upgrades=[TO_19]),
+         "refused 7 UpgradeOutOfProfile 0", 1)
     for version in (0, 17, 18, 20, 2**32 - 1):
         for name, start in [("18", legal), ("19", later)]:
             story = Story(start).refused(upgrades=[upgrade(1, version)])
             case(f"an upgrade from {name} to {version}", story, "refused 6 UpgradeOutOfProfile 0")
-    case("an upgrade to 20, and a greater reserve", Story(legal).refused(upgrades=[upgrade(1, 20), upgrade(4, 5_000_001)]),
-         "refused 6 UpgradeOutOfProfile 0")
+    case("an upgrade to 20, and a greater reserve",
+         Story(legal).refused(upgrades=[upgrade(1, 20), upgrade(4, 5_000_001)]), "refused 6 UpgradeOutOfProfile 0")
 
 
 def levels():
@@ -90,9 +94,11 @@ def levels():
     assert [curr[0].version, snap[0].version, curr[1].version] == [19, 19, 19]
     case("an upgrade whose version goes down the levels", story, "end 10", 6)
     # a bucket of version 19 before the upgrade, and one of 18 after it
-    early = Story(image([A, B], {0: bucket((INIT, A), version=19), 1: bucket((INIT, B))}, seq=4)).close(sent("a", 1, NOTHING))
+    pay = sent("a", 1, NOTHING)
+    early = Story(image([A, B], {0: bucket((INIT, A), version=19), 1: bucket((INIT, B))}, seq=4)).close(pay)
     case("buckets of version 19 before it", early.close(upgrades=[TO_19]).close(), "end 7", 3)
-    late = Story(image([A, B], {0: bucket((INIT, A)), 1: bucket((INIT, B), version=17)}, seq=4, version=19)).close(sent("a", 1, NOTHING))
+    files = {0: bucket((INIT, A)), 1: bucket((INIT, B), version=17)}
+    late = Story(image([A, B], files, seq=4, version=19)).close(pay)
     case("buckets of versions 17 and 18 after it", late.close().close(), "end 7", 3)
 
 
@@ -100,7 +106,7 @@ def levels():
 
 
 def going_on():
-    """Accounts of protocol 18 under 19: each says something of its sequence number once a transaction or a bump of it sets that."""
+    """Accounts of protocol 18 under 19: each says something of its sequence number once that is set."""
     plain, bound = A, with_liabilities(B)
     counted = with_counts(entry(Account("c", 100 * LUMEN)), sponsored=1, sponsors="d")
     payer = with_counts(entry(Account("d", 100 * LUMEN)), sponsoring=1)
@@ -109,17 +115,19 @@ def going_on():
     assert said(story, "c") is None
     # each age and gap counts from 0: ledger 7 closes at 1010
     story.close(
-        sent("a", 1, NOTHING, asked=asking(gap=7)), sent("b", 1, NOTHING, asked=asking(gap=8)), sent("c", 2, NOTHING, asked=asking(age=1_010)),
+        sent("a", 1, NOTHING, asked=asking(gap=7)), sent("b", 1, NOTHING, asked=asking(gap=8)),
+        sent("c", 2, NOTHING, asked=asking(age=1_010)),
         sent("d", 1, NOTHING, asked=asking(age=1_011)),
         expected=[sets.ok(sets.BUMPED), sets.BAD_MIN_SEQ_AGE_OR_GAP, sets.ok(sets.BUMPED), sets.BAD_MIN_SEQ_AGE_OR_GAP],
     )
     assert [said(story, name) for name in "abcd"] == [(7, 1010)] * 4
     # extensions that were there keep what they say
-    assert [(second(story.account(name))["sponsored"], second(story.account(name))["sponsoring"]) for name in "abcd"] == [(0, 0), (0, 0), (1, 0), (0, 1)]
-    assert second(story.account("c"))["sponsors"] == [(0, key("d"))] and second(story.account("a"))["sponsors"] == [None]
+    assert [story.counts(name)[1:] for name in "abcd"] == [(0, 0), (0, 0), (1, 0), (0, 1)]
+    assert [second(story.account(name))["sponsors"] for name in "ac"] == [[None], [(0, key("d"))]]
     # from now on from that ledger and time: ledger 8 closes at 1015
     story.close(
-        sent("a", 2, NOTHING, asked=asking(gap=1)), sent("b", 2, NOTHING, asked=asking(gap=2)), sent("c", 3, NOTHING, asked=asking(age=5)),
+        sent("a", 2, NOTHING, asked=asking(gap=1)), sent("b", 2, NOTHING, asked=asking(gap=2)),
+        sent("c", 3, NOTHING, asked=asking(age=5)),
         sent("d", 2, NOTHING, asked=asking(age=6)),
         expected=[sets.ok(sets.BUMPED), sets.BAD_MIN_SEQ_AGE_OR_GAP, sets.ok(sets.BUMPED), sets.BAD_MIN_SEQ_AGE_OR_GAP],
     )
@@ -173,51 +181,61 @@ def images():
         case(f"an image of version {version}", Story(image([A], version=version)).close(pay), "end 6", 1)
     # its header is of ledger 5, which closed at 1000
     for name, dated, is_legal in [
-        ("ledger 5 at 1000", (5, 1000), True), ("ledger 6", (6, 1000), False), ("ledger 5 at 1001", (5, 1001), False), ("ledger 0 at 0", (0, 0), True),
+        ("ledger 5 at 1000", (5, 1000), True), ("ledger 6", (6, 1000), False),
+        ("ledger 5 at 1001", (5, 1001), False), ("ledger 0 at 0", (0, 0), True),
         ("the greatest ledger", (2**32 - 1, 0), False), ("the greatest time", (0, 2**64 - 1), False),
     ]:
         value = with_counts(A, third=dated)
         case(f"an account whose number is of {name}, before it", image([value]), "10 bad image rule 7")
-        case(f"an account whose number is of {name}", *((Story(image([value], version=19)).close(pay), "end 6", 1) if is_legal else
-                                                         (image([value], version=19), "10 bad image rule 7")))
+        later = image([value], version=19)
+        ended = (Story(later).close(pay), "end 6", 1) if is_legal else (later, "10 bad image rule 7")
+        case(f"an account whose number is of {name}", *ended)
     own = {"key": (2, key("a")), "weight": 1}
 
     def payloads(*rows):
-        return entry(Account("a", 0), subs=len(rows), signers=[{"key": (3, {"key": key(name), "payload": text}), "weight": 1} for name, text in rows])
+        return entry(Account("a", 0), subs=len(rows),
+                     signers=[{"key": (3, {"key": key(name), "payload": text}), "weight": 1} for name, text in rows])
 
     for name, rows, is_legal in [
-        ("a payload of one byte", [("b", b"x")], True), ("a payload of 64 bytes", [("b", b"y" * 64)], True), ("an empty payload", [("b", b"")], False),
-        ("an empty payload and another", [("b", b""), ("b", b"x")], False), ("a payload of its own key", [("a", b"x")], True),
-        ("payloads in the order of their bytes", [("b", b"\0\0"), ("b", b"\1")], True), ("payloads in the order of their lengths", [("b", b"\1"), ("b", b"\0\0")], False),
-        ("a payload and it with a zero", [("b", b"x"), ("b", b"x\0")], True), ("a payload with a zero and without", [("b", b"x\0"), ("b", b"x")], False),
-        ("a payload twice", [("b", b"x"), ("b", b"x")], False), ("payloads in the order of their keys", [("b", b"z"), ("c", b"x")], True),
+        ("a payload of one byte", [("b", b"x")], True), ("a payload of 64 bytes", [("b", b"y" * 64)], True),
+        ("an empty payload", [("b", b"")], False),
+        ("an empty payload and another", [("b", b""), ("b", b"x")], False),
+        ("a payload of its own key", [("a", b"x")], True),
+        ("payloads in the order of their bytes", [("b", b"\0\0"), ("b", b"\1")], True),
+        ("payloads in the order of their lengths", [("b", b"\1"), ("b", b"\0\0")], False),
+        ("a payload and it with a zero", [("b", b"x"), ("b", b"x\0")], True),
+        ("a payload with a zero and without", [("b", b"x\0"), ("b", b"x")], False),
+        ("a payload twice", [("b", b"x"), ("b", b"x")], False),
+        ("payloads in the order of their keys", [("b", b"z"), ("c", b"x")], True),
         ("payloads out of the order of their keys", [("c", b"x"), ("b", b"z")], False),
     ]:
         value = payloads(*rows)
         case(f"an account with {name}, before it", image([value]), "10 bad image rule 7")
-        case(f"an account with {name}", image([value], version=19), *(("end 5", 0) if is_legal else ("10 bad image rule 7",)))
+        case(f"an account with {name}", image([value], version=19),
+             *(("end 5", 0) if is_legal else ("10 bad image rule 7",)))
     behind = payloads(("b", b"x"))
-    first, last = ({**behind, "body": (0, {**behind["body"][1], "subs": 2, "signers": rows})} for rows in (
-        [own, *behind["body"][1]["signers"]], [*behind["body"][1]["signers"], own]))
+    signers = behind["body"][1]["signers"]
+    first, last = (entry(Account("a", 0), subs=2, signers=rows) for rows in ([own, *signers], [*signers, own]))
     case("an account with a payload behind a hash", image([first], version=19), "end 5", 0)
     case("an account with a payload before a hash", image([last], version=19), "10 bad image rule 7")
     # what an older bucket has, which is changed by a newer one, is not judged
     old = with_counts(A, third=(6, 1001))
-    case("an account whose number was of ledger 6 in an older bucket", image([A], {0: bucket((0, A)), 2: bucket((INIT, old))}), "end 5", 0)
+    case("an account whose number was of ledger 6 in an older bucket",
+         image([A], {0: bucket((0, A)), 2: bucket((INIT, old))}), "end 5", 0)
     # rule 2 comes before rule 3, and rule 7 before rule 8
     case("version 20 and no base fee", image([A], version=20, base_fee=0), "10 bad image rule 2")
     case("version 19 and no base fee", image([A], version=19, base_fee=0), "10 bad image rule 3")
-    case("an account whose number is of ledger 6, and whose sponsor isn't there", image([sponsored(with_counts(A, third=(6, 0)), "z")], version=19),
-         "10 bad image rule 7")
-    case("an account that says of its number, and whose sponsor isn't there", image([sponsored(with_counts(A, third=(5, 0)), "z")], version=19),
-         "10 bad image rule 8")
+    case("an account whose number is of ledger 6, and whose sponsor isn't there",
+         image([sponsored(with_counts(A, third=(6, 0)), "z")], version=19), "10 bad image rule 7")
+    case("an account that says of its number, and whose sponsor isn't there",
+         image([sponsored(with_counts(A, third=(5, 0)), "z")], version=19), "10 bad image rule 8")
 
 
 # ---- records
 
 
 def records():
-    """Preconditions of the second form that don't read, in a transaction that begins at 44 of the record: they begin at 92 with their number."""
+    """Preconditions of the second form that don't read. They begin at 92 of the record."""
     legal = image([A, B], version=19)
 
     def bad(name, at, data, end, envelope):
@@ -237,7 +255,8 @@ def records():
     bad("an extra signer of type 4", 124, u32(4), "124 BadEnum", loaded)
     bad("a payload of 65 bytes", 160, u32(65), "160 TooLong", loaded)
     bad("a payload that isn't filled up with zeros", 165, b"\1", "165 Padding", loaded)
-    everything = asking((1, 2**64 - 1), (1, 2**32 - 1), 0, 5, 5, [sets.encoded_key(signed_payload("k", b"y" * 64)), signers[0]])
+    everything = asking((1, 2**64 - 1), (1, 2**32 - 1), 0, 5, 5,
+                        [sets.encoded_key(signed_payload("k", b"y" * 64)), signers[0]])
     story = Story(legal).close(sent("a", 1, NOTHING, asked=everything), expected=[sets.BAD_AUTH])
     case("a record with all preconditions", story, "end 6", 1)
     cut = Story(legal)
@@ -269,12 +288,14 @@ def kept_stores():
     stores.shows("an image of version 19", rolled, ["1 records 0", f"{200 * LUMEN} 300", "2"])
     stores.runs("an image of version 19 that the store made", part(3, 4), rolled, "end 64", (1, 1), 1)
     stores.runs("an upgrade and all that follows it", part(0, 4), made, "end 64", (1, 1), 4)
-    stores.runs("a second upgrade", input_after(upgraded, upgrades=[TO_19]), upgraded, "refused 63 UpgradeOutOfProfile 0", closes=0)
-    later = stores.makes("an image of version 19", image([with_counts(A, third=(5, 1000))], version=19), stores.files(), "", (0, 0))
+    stores.runs("a second upgrade", input_after(upgraded, upgrades=[TO_19]), upgraded,
+                "refused 63 UpgradeOutOfProfile 0", closes=0)
+    later = stores.makes("an image of version 19", image([with_counts(A, third=(5, 1000))], version=19), stores.files(),
+                         "", (0, 0))
     stores.runs("an image of version 19", b"", later, "end 5", closes=0)
     stores.makes("an image of version 20", image([A], version=20), stores.files(), "10 bad image rule 2")
-    stores.makes("an account that says of its number, of version 18", image([with_counts(A, third=(5, 1000))]), stores.files(),
-                 "10 bad image rule 7")
+    stores.makes("an account that says of its number, of version 18", image([with_counts(A, third=(5, 1000))]),
+                 stores.files(), "10 bad image rule 7")
 
 
 def input_after(volume, **changes):

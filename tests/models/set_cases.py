@@ -113,11 +113,11 @@ def by(*names):
 
 
 class Account:
-    """An account. It has one hash-x signer of its own secret, weight 1, unless signers are given. `dated` are the ledger and the time in
-    which its sequence number was set, where it says so."""
+    """An account. It has one hash-x signer of its own secret, weight 1, unless signers are given. `dated` are the
+    ledger and the time in which its sequence number was set, where it says so."""
 
-    def __init__(self, name, balance, seq=0, signers=None, thresholds=(0, 1, 1, 1), domain=b"", data=0, counts=None, flags=0, bound=None,
-                 dated=None):
+    def __init__(self, name, balance, seq=0, signers=None, thresholds=(0, 1, 1, 1), domain=b"", data=0, counts=None,
+                 flags=0, bound=None, dated=None):
         self.fields = dict(name=name, balance=balance, seq=seq, thresholds=thresholds, domain=domain, data=data, counts=counts, flags=flags)
         self.fields.update(bound=bound, dated=dated)
         self.fields["signers"] = [hash_x(secret_of(name))] if signers is None else signers
@@ -574,7 +574,8 @@ class Start:
         self.file = b"".join(map(marked, items)) if before else b""
         digest = sha(sha(sha(self.file) + bytes(32) if before else bytes(64)) + 10 * sha(bytes(64)))
         value = bytes(32) + u64(time - 5) + u32(0) + u32(0)
-        self.header = u32(version) + sha(b"the ledger before") + value + bytes(32) + digest + u32(seq) + i64(coins) + i64(pool) + u32(0)
+        self.header = u32(version) + sha(b"the ledger before") + value + bytes(32) + digest
+        self.header += u32(seq) + i64(coins) + i64(pool) + u32(0)
         self.header += u64(0) + u32(base_fee) + u32(RESERVE) + u32(max_size) + bytes(128) + u32(0)
         self.hash, self.seq = sha(self.header), seq
         self.image = b"SLI1" + marked(self.header) + u64(len(self.file)) + self.file + 21 * u64(0)

@@ -1,5 +1,5 @@
-"""Runs of `catchup` that close one ledger over the table of cases of sets in `set_cases.py` and `precondition_cases.py`,
-which `run_cases.py` writes.
+"""Runs of `catchup` that close one ledger over the table of cases of sets in `set_cases.py` and
+`precondition_cases.py`, which `run_cases.py` writes.
 
 What is printed is worked out from what the table says by hand: the lines of transactions from their charges and outcomes, and the header
 after the close from the results, what the fee pool gets, and the entries that exist then.

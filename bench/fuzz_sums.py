@@ -191,7 +191,7 @@ def repair_sums(parts: Parts) -> None:
         ids = max([header["ids"], *(kept.body(rank)["offer"] for rank in kept.ranks(2))])
         header.update(coins=lumens(kept) + header["pool"], ids=ids)
         files, data = kept.files(parts.files), model.HEADER.write(header)
-    except (model.Wrong, model.BadImage, OverflowError, IndexError, KeyError):
+    except (model.Wrong, model.BadImage, ValueError, IndexError, KeyError):
         # an item that doesn't read, or a sum that its field can't hold
         return
     parts.files, parts.header[0] = files, data

@@ -288,6 +288,11 @@ def kept_stores():
     stores.shows("an image of version 19", rolled, ["1 records 0", f"{200 * LUMEN} 300", "2"])
     stores.runs("an image of version 19 that the store made", part(3, 4), rolled, "end 64", (1, 1), 1)
     stores.runs("an upgrade and all that follows it", part(0, 4), made, "end 64", (1, 1), 4)
+    # one of format 1 goes on to the next epoch before its first record, and to another one after ledger 63
+    former = stores.file_of_image(0, stores.ON_TEST, stores.start_of(story), form=1)
+    older = stores.files(image0=former, journal0=stores.journal_file(lines[:2]))
+    stores.runs("a store of format 1 after an upgrade in its journal", part(2, 4), older, "end 64", (2, 1), 2)
+    stores.shows("a store of format 1 after an upgrade in its journal", older, ["0 records 2", f"{200 * LUMEN} 200", "2"])
     stores.runs("a second upgrade", input_after(upgraded, upgrades=[TO_19]), upgraded,
                 "refused 63 UpgradeOutOfProfile 0", closes=0)
     later = stores.makes("an image of version 19", image([with_counts(A, third=(5, 1000))], version=19), stores.files(),

@@ -76,22 +76,22 @@ def image(entries, coins, ids=0, version=18):
     return image_of([b""] * 8 + halves + [b""] * 12, coins, ids, version)[0]
 
 
-def accounts(count, flags):
+def accounts(count, flags, version=18):
     """An image of so many accounts with these flags."""
     entries = [model.ENTRY.read(model.Text(sets.Account(number, BALANCE, flags=flags).xdr())) for number in range(count)]
-    return image(entries, count * BALANCE)
+    return image(entries, count * BALANCE, version=version)
 
 
-def offers(sellers, each, takers):
+def offers(sellers, each, takers, version=18):
     """An image of so many sellers with so many offers each, and of so many who have none."""
     entries, coins = market(sellers, each, takers)
-    return image(entries, coins, sellers * each)
+    return image(entries, coins, sellers * each, version)
 
 
-def everything(sellers, each, takers):
+def everything(sellers, each, takers, version=18):
     """An image of so many sellers with so many offers each, of takers, and of ten pools."""
     entries, coins = world(sellers, each, takers)
-    return image(entries, coins, sellers * each)
+    return image(entries, coins, sellers * each, version)
 
 
 def pools(made):
@@ -257,15 +257,15 @@ def report(name, count, what, size, done, opening, peak, closing, longest):
     )
 
 
-def given(count, mix):
+def given(count, mix, version=18):
     """The image of a mix, and who makes its transactions."""
     if mix == OFFER_MIX:
-        return offers(count // 20, 20, TAKERS), Taker(count)
+        return offers(count // 20, 20, TAKERS, version), Taker(count)
     if mix == WHOLE_MIX:
-        return everything(count // 20, 20, TAKERS), Doer()
+        return everything(count // 20, 20, TAKERS, version), Doer()
     if mix == "accounts, assets":
-        return accounts(count, CLAWING), Holder(count, SENDERS)
-    return accounts(count, 0), Sender(count, count // 2)
+        return accounts(count, CLAWING, version), Holder(count, SENDERS)
+    return accounts(count, 0, version), Sender(count, count // 2)
 
 
 ASSET_MIX, ACCOUNT_MIX, OFFER_MIX, WHOLE_MIX = "accounts, assets", "accounts, accounts", "offers", "offers, all operations"

@@ -136,7 +136,7 @@ class Fuzzer:
             return
         by = self.answers(run.trial)
         is_silent = by[MODEL] is None
-        self.tally.add(run, first_said(list(by.values())), is_silent, [] if is_silent else WatchedLedger.results)
+        self.tally.add(run, first_said(list(by.values())), is_silent, [] if is_silent else WatchedLedger.noted)
         differs = difference(run.trial, by)
         if differs is not None:
             self.differs(number, run, differs, by)

@@ -144,11 +144,11 @@ class Program:
 class WatchedLedger(model.Ledger):
     """The Python ledger, of which the results of transactions are noted."""
 
-    results: List[bytes] = []
+    noted: List[bytes] = []
 
     def close(self, data: bytes) -> str:
         lines = super().close(data)
-        self.results.extend(self.outcomes.values())
+        self.noted.extend(self.outcomes.values())
         return lines
 
 
@@ -178,7 +178,7 @@ def model_answers(trial: Trial) -> Optional[List[Answer]]:
     """What the Python ledger answers to a trial; None where it takes too long, so that it says nothing."""
     found: List[Answer] = []
     files = trial.files
-    WatchedLedger.results.clear()
+    WatchedLedger.noted.clear()
     try:
         with Limit(LIMIT):
             for step in trial.steps:

@@ -1,5 +1,5 @@
 """Numbers at which the rules of an input's own ledger change: balances, what is left of them and of limits, numbers of
-accounts, close times.
+accounts and their ages, close times.
 
 Mutations take them, and their neighbours, for numbers of 64 bits, since a bound that is compared exactly is hardly met
 by chance. Python 3.9 or later and its standard library.
@@ -17,10 +17,13 @@ from stellar_xdr import CLOSE_RECORD, LEDGER_HEADER
 from xdr import XdrFault, read_entire, write
 
 
-def of_entry(entry: Dict[str, Any], reserve: int) -> Iterator[int]:
+def of_entry(entry: Dict[str, Any], reserve: int, seq: int, closes: List[int]) -> Iterator[int]:
+    """Such numbers of an entry, in a ledger after which records close at some times."""
     kind, body = entry["body"]
     if kind == 0:
-        yield from (body["balance"], body["seq"] + 1)
+        said = entries.third(body)
+        yield from (body["balance"], body["seq"] + 1, seq + 1 - said["ledger"])
+        yield from (time - said["time"] for time in closes)
         yield from (entries.available(body, reserve) - count * reserve for count in (0, 1, 2))
     elif kind == 1:
         owed = entries.liabilities(body)
@@ -48,7 +51,8 @@ def times(parts: Parts) -> List[int]:
 
 def edges(rng: Random, parts: Parts, most: int) -> List[int]:
     """Such numbers, of some entries of an image."""
-    found = times(parts)
+    closes = times(parts)
+    found = list(closes)
     try:
         header = entries.read_entire(entries.HEADER, parts.header[0])
     except entries.Wrong:
@@ -62,7 +66,7 @@ def edges(rng: Random, parts: Parts, most: int) -> List[int]:
         except entries.Wrong:
             continue
         if arm in (entries.LIVE, entries.INIT):
-            found += of_entry(value, reserve)
+            found += of_entry(value, reserve, header["seq"], closes)
     return found
 
 

@@ -172,6 +172,19 @@ def set_counts(kept: Entries) -> None:
         kept.set_body(entries.account_key(name), account if new == said else model.with_second(account, new))
 
 
+def set_dates(kept: Entries, header: Entry) -> None:
+    """Has accounts say nothing of their sequence numbers that is later than the header, or under protocol 18."""
+    latest = {"ledger": header["seq"], "time": header["value"]["time"]}
+    for rank in kept.ranks(0):
+        account = kept.body(rank)
+        said = model.second(account)
+        arm, dated = said["ext"]
+        if arm:
+            dated = {**dated, **{name: min(dated[name], latest[name]) for name in latest}}
+            new = (3, dated) if header["version"] >= 19 else (0, None)
+            kept.set_body(rank, model.with_second(account, {**said, "ext": new}))
+
+
 def lumens(kept: Entries) -> int:
     total = sum(kept.body(rank)["balance"] for rank in kept.ranks(0))
     total += sum(kept.body(rank)["amount"] for rank in kept.ranks(4) if kept.body(rank)["asset"] == model.assets.NATIVE)
@@ -188,6 +201,7 @@ def repair_sums(parts: Parts) -> None:
         set_liabilities(kept)
         set_pools(kept)
         set_counts(kept)
+        set_dates(kept, header)
         ids = max([header["ids"], *(kept.body(rank)["offer"] for rank in kept.ranks(2))])
         header.update(coins=lumens(kept) + header["pool"], ids=ids)
         files, data = kept.files(parts.files), model.HEADER.write(header)

@@ -272,12 +272,13 @@ def bumps():
     """BUMP_SEQUENCE says in which ledger and when, also where the number stays."""
     b = B.but(seq=7)
     for name, account, to, left in [
-        ("an_account_without_extensions", b, 9, b.but(seq=9, dated=NOW)), ("to_a_lower_number", b, 3, b.but(dated=NOW)),
+        ("of_an_account_without_extensions", b, 9, b.but(seq=9, dated=NOW)),
+        ("to_a_lower_number", b, 3, b.but(dated=NOW)),
         ("to_the_same_number", b, 7, b.but(dated=NOW)),
-        ("with_liabilities_alone", b.but(bound=(0, 0)), 9, b.but(seq=9, dated=NOW)),
-        ("with_sponsorships", b.but(counts=(0, 0)), 9, b.but(seq=9, dated=NOW)),
-        ("that_said_so_before", b.but(dated=(5, 1_000)), 0, b.but(dated=NOW)),
-        ("without_signers", b.but(signers=[]), 9, None),
+        ("of_an_account_with_liabilities_alone", b.but(bound=(0, 0)), 9, b.but(seq=9, dated=NOW)),
+        ("of_an_account_with_sponsorships", b.but(counts=(0, 0)), 9, b.but(seq=9, dated=NOW)),
+        ("of_an_account_that_said_so_before", b.but(dated=(5, 1_000)), 0, b.but(dated=NOW)),
+        ("of_an_account_without_signers", b.but(signers=[]), 9, None),
         ("to_the_greatest_number", b, GREATEST, b.but(seq=GREATEST, dated=NOW)),
     ]:
         tx = sent("a", 8, bump_sequence(to, source="b"), signers="ab")

@@ -1,6 +1,8 @@
 #!/usr/bin/env python3
-"""Makes cases of runs that come from elsewhere: from a program that shares nothing with this one. Cases of `init` and `run` that came
-before stores had format 2 have their images written in it: their bytes stay, with their hash.
+"""Makes cases of runs that come from elsewhere: from a program that shares nothing with this one. Cases of `init` and
+`run` that came before stores had format 2 have their images written in it: their bytes stay, with their hash. One case,
+`apart-hostile-42-all-0-closed`, came before protocol 19 and has an image of that version, which was refused then: what
+it must print now is the hash of its header.
 
     apart_cases.py FOLDER NAME      writes cases/apart-NAME.case, and names it as the last of those that came from elsewhere
 

@@ -7,7 +7,7 @@ use Rattle.close_rules.proofs.ledger_types_proofs.Lists.{all_insert, all_remove}
 use Rattle.close_rules.specs.State.{IsEncoded}
 use Rattle.close_rules.specs.entry_slots.AccountExtensions.{is_nothing, liabilities_in, second_in, sponsorship_in}
 use Rattle.close_rules.specs.entry_slots.AccountExtensions.{with_account_liabilities, with_liabilities_in}
-use Rattle.close_rules.specs.entry_slots.AccountExtensions.{sponsorship_of, third_in, with_seq_num, with_sponsorship}
+use Rattle.close_rules.specs.entry_slots.AccountExtensions.{sponsorship_of, with_seq_num, with_sponsorship}
 use Rattle.close_rules.specs.ledger_types.declared.account.AccountEntry.{AccountEntry}
 use Rattle.close_rules.specs.ledger_types.declared.account.AccountEntryExtensionV1.{AccountEntryExtensionV1}
 use Rattle.close_rules.specs.ledger_types.declared.account.AccountEntryExtensionV2.{AccountEntryExtensionV2}

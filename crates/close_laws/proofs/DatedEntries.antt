@@ -1,11 +1,10 @@
 -- That accounts are dated, as an invariant of maps: what sets a sequence number records the ledger that closes and its
 -- time, all else leaves the third extensions of accounts, and operations give accounts signers of their version alone.
-use Rattle.bucket_levels.specs.entry_map.EntryMap.{EntryMap}
 use Rattle.close_laws.proofs.ThirdExtensions.{liable_third, sponsors_third, sponsorship_third}
 use Rattle.close_rules.proofs.entry_sums_proofs.Lookups.{erase_each, put_each}
 use Rattle.close_rules.proofs.ledger_types_proofs.Booleans.{if_either}
 use Rattle.close_rules.proofs.ledger_types_proofs.Lists.{all_insert, all_remove}
-use Rattle.close_rules.specs.entry_slots.AccountExtensions.{second_in, sponsorship_of, with_account_liabilities}
+use Rattle.close_rules.specs.entry_slots.AccountExtensions.{second_in, with_account_liabilities}
 use Rattle.close_rules.specs.entry_slots.AccountExtensions.{with_seq_num}
 use Rattle.close_rules.specs.entry_sums.Sums.{EachEntry}
 use Rattle.close_rules.specs.ledger_types.declared.account.AccountEntry.{AccountEntry}
@@ -24,7 +23,7 @@ use Rattle.close_rules.specs.sponsor_rules.declared.count.Count.{Count}
 use Rattle.op_form.proofs.Steps.{anything}
 use Rattle.op_form.proofs.Walks.{Logic}
 use Rattle.sponsor_rules.proofs.Entries.{FitsBody, Invariant, Kinds}
-use Rattle.std.proofs.Common.{insert, slice_set, subst, sym}
+use Rattle.std.proofs.Common.{insert, slice_set, subst}
 use Rattle.std.proofs.lemmas.Bool.{ltb-false}
 use Rattle.std.proofs.lemmas.List.Elements.{All-set}
 use Rattle.std.specs.List.{remove}

@@ -3,7 +3,7 @@ use Rattle.bucket_levels.specs.entry_map.EntryMap.{EntryMap}
 use Rattle.close_laws.proofs.DatedEntries.{dating}
 use Rattle.close_laws.proofs.NextLegal.{upgraded_from}
 use Rattle.close_laws.proofs.Prelude.{SetsConserve, ap, applied_in, arith, finished, get, ltb-false}
-use Rattle.close_laws.proofs.Prelude.{natural_positive_from_unequal, refl, setting_in, subst, sym, upgraded_header, ◌∙◌}
+use Rattle.close_laws.proofs.Prelude.{natural_positive_from_unequal, refl, setting_in, subst, sym, upgraded_header}
 use Rattle.close_laws.proofs.SetsKeep.{Admits, set_keeps}
 use Rattle.close_laws.proofs.Unmarked.{AreMapsAlike, existed, next_alike}
 use Rattle.close_laws.proofs.Unrefused.{either_false, later_time}
@@ -105,21 +105,21 @@ set_dated setting set seq close_time m number time dated =
 
 -- a ledger's version, number and close time, and those of a later one
 record IsLater (version seq close_time version_after seq_after close_time_after : ℕ) : Type 0 where
-  version : version ≤ version_after
-  number : seq ≤ seq_after
-  time : close_time ≤ close_time_after
+  versions : version ≤ version_after
+  numbers : seq ≤ seq_after
+  times : close_time ≤ close_time_after
 
 module _ (version seq close_time version_after seq_after close_time_after : ℕ)
     (later : IsLater version seq close_time version_after seq_after close_time_after) where
   from_later : dated_from ≤ version → dated_from ≤ version_after
-  from_later from = let le = later.version in omega arith
+  from_later from = let le = later.versions in omega arith
 
   third_later : (third : Option AccountEntryExtensionV3) → IsThirdDated version seq close_time third
       → IsThirdDated version_after seq_after close_time_after third
   third_later None dated = tt
   third_later (Some third) dated = (
     from_later dated.0,
-    (omega (arith, later.number, dated.1.0), omega (arith, later.time, dated.1.1)),
+    (omega (arith, later.numbers, dated.1.0), omega (arith, later.times, dated.1.1)),
   )
 
   key_later : (key : SignerKey) → IsKeyDated version key → IsKeyDated version_after key
@@ -170,9 +170,9 @@ next_dated conserve s closing after list_hash can closed =
     let close_time = closing.scp_value.close_time in
     let before = each_later version s.header.ledger_seq s.header.scp_value.close_time version seq close_time
     (record {
-      version = no_less version version refl;
-      number = one_more s.header.ledger_seq;
-      time = later_time s closing can.unrefused;
+      versions = no_less version version refl;
+      numbers = one_more s.header.ledger_seq;
+      times = later_time s closing can.unrefused;
     })
     s.entries can.state.dated in
     let done = alike_dated version seq close_time worked after
@@ -181,9 +181,9 @@ next_dated conserve s closing after list_hash can closed =
     (no_less close_time close_time refl) before) in
     each_later version seq close_time next.ledger_version next.ledger_seq next.scp_value.close_time
     (record {
-      version = from.version;
-      number = no_less seq next.ledger_seq (sym from.counts.ledger_seq);
-      time = no_less close_time next.scp_value.close_time
+      versions = from.version;
+      numbers = no_less seq next.ledger_seq (sym from.counts.ledger_seq);
+      times = no_less close_time next.scp_value.close_time
           (sym (ap (λ (value : StellarValue). value.close_time) from.counts.scp_value));
     })
     after done

@@ -1,5 +1,5 @@
 -- Pools are short.
-use Rattle.close_laws.proofs.Prelude.{ℤ, pos, ◌≤ℤ◌, PoolParams, LiquidityPoolEntry, i32, constant, pool_fields}
+use Rattle.close_laws.proofs.Prelude.{pos, ◌≤ℤ◌, PoolParams, LiquidityPoolEntry, i32, constant, pool_fields}
 use Rattle.close_laws.proofs.Prelude.{liquidity_pool_entry, IsEncoded}
 use Rattle.close_rules.specs.xdr_entries.Basic as basic
 use Rattle.close_laws.proofs.Bytes.{ArePoolBytes}

@@ -1,6 +1,6 @@
 -- The image of a ledger's state can be written, and represents that state.
 use Rattle.close_laws.proofs.Prelude as prelude
-use prelude.{◌≡◌, ℕ, zero, suc, ◌+◌, ◌-◌, ◌*◌, ◌≤◌, List, [], ◌∷◌, ◌++◌, length, Some, None, refl, sym, ap, ◌∙◌, subst}
+use prelude.{◌≡◌, ℕ, zero, suc, ◌+◌, ◌-◌, ◌*◌, ◌≤◌, List, [], ◌∷◌, length, Some, None, refl, sym, ap, ◌∙◌, subst}
 use prelude.{arith, append-nil, flat_map, LedgerHeader, mark, start_of, constant, StartImage, ledger_header}
 use prelude.{ledger_header_laws, EntryMap, IsHeaderInRange, IsLegal, file_of, Pair, file_total, pair_size, ClosingState}
 use prelude.{IsClosingState, IsEncoded, max_file_total, IsFirstBroken, entry_rules, header_in, AreFieldsInRange}

@@ -13,7 +13,6 @@ use Rattle.close_rules.specs.ledger_types.declared.asset.PoolParams.{PoolParams}
 use Rattle.close_rules.specs.ledger_types.declared.asset.TrustLineAsset.{TrustLineAsset}
 use Rattle.close_rules.specs.ledger_types.declared.claim_atom.ClaimAtom.{ClaimAtom}
 use Rattle.close_rules.specs.ledger_types.declared.ids.Hash.{Hash}
-use Rattle.close_rules.specs.ledger_types.declared.key.LedgerKey.TheVariants.{Account, Offer}
 use Rattle.close_rules.specs.ledger_types.declared.offer.OfferEntry.{OfferEntry}
 use Rattle.close_rules.specs.op_types.declared.operation_result.OperationResult.{OperationResult}
 use Rattle.close_rules.specs.op_types.declared.operation_result.OperationResultTr.{OperationResultTr}

@@ -1,0 +1,13 @@
+pub mod Added
+pub mod Chain
+pub mod Encoded
+pub mod Entries
+pub mod EntryLaws
+pub mod Facts
+pub mod Judging
+pub mod Laws
+pub mod Made
+pub mod Middle
+pub mod Records
+pub mod Screening
+pub mod Walk

@@ -1,0 +1,10 @@
+mod Considered
+mod CostsPaid
+mod EncodingLaws
+mod FirstInvalid
+mod Kept
+mod Limits
+mod Order
+mod Positions
+mod Prelude
+mod Steps

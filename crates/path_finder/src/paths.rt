@@ -1,0 +1,80 @@
+//! What a path costs, and which one costs the least.
+
+ghost use Rattle.std.specs.Prelude.{◌≡◌, ◌+◌, ◌^◌, ◌<◌, ◌≤ℤ◌, pos, length, IfOk, OnOk};
+ghost use Rattle.std.specs.List.{IsDistinct};
+ghost use Rattle.trade_cross.specs.Crossable.{IsCrossable};
+ghost use Rattle.op_payment.specs.Paths.{is_same_asset};
+ghost use Rattle.path_finder.specs.Cheapest.{IsCheapestPath};
+ghost use Rattle.path_finder.specs.Costs as costs;
+ghost use Rattle.path_finder.specs.Query.{IsJudged, UnlessNoMemory, candidates_of};
+
+use crate::candidates::distinct;
+use crate::cost::cost_of;
+use crate::query::{Found, PathFault, PathQuery, bad_index};
+use crate::search::search;
+use entry_map::{Base, Entries};
+use ledger_types::Asset;
+use sponsor_rules::Ctx;
+
+/// How many distinct candidates a query may have.
+const MAX_CANDIDATES: usize = 12;
+
+/// The distinct candidates of a query, if it can be answered.
+fn accepted(query: &PathQuery) -> Result<Vec<Asset>, PathFault>
+    requires { length query.now.candidates + 3 < 2 ^ 32 }
+    ensures judged { IsJudged result query.now }
+    ensures candidates { IfOk result (λ kept. kept.items ≡ candidates_of query.now) }
+    ensures once { IfOk result (λ kept. IsDistinct is_same_asset kept.items) }
+    ensures amount { OnOk result (pos 0 ≤ℤ query.now.amount) }
+{
+    if let Some(index) = bad_index(query) {
+        return Err(PathFault::BadQuery { index });
+    }
+    let candidates = distinct(query.candidates.allocator(), query.candidates.as_slice())?;
+    if candidates.len() > MAX_CANDIDATES {
+        return Err(PathFault::TooMany {
+            given: candidates.len() as u32,
+        });
+    }
+    Ok(candidates)
+}
+
+/// What a path costs, and none where it has no cost: how much of `send` PATH_PAYMENT_STRICT_RECEIVE would take along it
+/// so that `amount` of `dest` arrives, with 1000 crossings for the path, whatever the source and the destination hold.
+/// The path is any list of assets. The map is as it was, but where memory was refused.
+pub fn path_cost<B: Base>(
+    entries: &mut Entries<'_, B>,
+    ctx: &Ctx,
+    query: &PathQuery,
+    path: &[Asset],
+) -> Result<Option<i64>, PathFault>
+    requires crossable { IsCrossable entries.old.current }
+    requires source { ctx.now.op_source ≡ query.now.source }
+    requires few { length query.now.candidates + 3 < 2 ^ 32 }
+    ensures judged { IsJudged result query.now }
+    ensures cost { IfOk result (λ cost. cost ≡ costs.cost_of ctx.now query.now entries.old.current path.now) }
+    ensures map { UnlessNoMemory result (entries.new ≡ entries.old) }
+{
+    let _candidates = accepted(query)?;
+    Ok(cost_of(entries, ctx, query, path)?)
+}
+
+/// The cheapest of all paths of at most two distinct candidates, and none where no path has a cost. Of paths that cost
+/// the same it is the shortest, and then the one whose assets, from the first on, are earlier candidates. The map is as
+/// it was, but where memory was refused.
+pub fn cheapest<B: Base>(
+    entries: &mut Entries<'_, B>,
+    ctx: &Ctx,
+    query: &PathQuery,
+) -> Result<Option<Found>, PathFault>
+    requires crossable { IsCrossable entries.old.current }
+    requires source { ctx.now.op_source ≡ query.now.source }
+    requires few { length query.now.candidates + 3 < 2 ^ 32 }
+    ensures judged { IsJudged result query.now }
+    ensures cheapest { IfOk result (
+        IsCheapestPath (costs.cost_of ctx.now query.now entries.old.current) (candidates_of query.now)) }
+    ensures map { UnlessNoMemory result (entries.new ≡ entries.old) }
+{
+    let candidates = accepted(query)?;
+    Ok(search(entries, ctx, query, candidates.as_slice())?)
+}

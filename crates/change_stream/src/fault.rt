@@ -10,7 +10,7 @@ use std::alloc::AllocError;
 pub enum StreamFault {
     /// The change at this index is the first that doesn't fit the entries that exist.
     Mismatch { index: usize },
-    /// Memory was refused.
+    /// Memory was refused: the entries may only be dropped.
     NoMemory,
 }
 

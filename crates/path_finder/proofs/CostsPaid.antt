@@ -8,10 +8,16 @@ use Rattle.op_payment.specs.declared.carried.Carried.{Carried as CarriedOfCall}
 use Rattle.op_payment.specs.declared.hop_fault.HopFault.{HopFault}
 use Rattle.path_finder.specs.declared.query.PathQuery.{PathQuery}
 unfoldable use Rattle.path_finder.specs.Costs.{amount_needed, context_for, cost_of}
-use Rattle.path_finder.proofs.Prelude.{◌≡◌, ap, sym, subst, ◌∙◌, List, Asset, Result, Ok, Err, Some, None}
+use Rattle.path_finder.proofs.Prelude.{◌≡◌, refl, ap, sym, subst, ◌∙◌, List, Asset, Result, Ok, Err, Some, None}
 
 own_context : (ctx : Ctx) (query : PathQuery) → ctx.op_source ≡ query.source → ctx ≡ context_for ctx query
 own_context ctx query same = λ k. record ctx { op_source = same k }
+
+-- a cost is asked in the context in which the query's source is the source of the operation
+pub same_costs : (ctx : Ctx) (query : PathQuery) (m : Undo) → cost_of (context_for ctx query) query m.current
+    ≡ cost_of ctx query m.current
+unfolding cost_of
+same_costs ctx query m = refl
 
 module _ (ctx : Ctx) (query : PathQuery) (path : List Asset) (old new : Undo)
     (same : ctx.op_source ≡ query.source) where

@@ -5,12 +5,13 @@
 
 PROGRAM is the built program, crates/ledger/out/ledger of this repository where none is given.
 
-It runs `catchup`, `init`, `run`, and `run` beside two workers, over an image and three records, those in examples/, once for each call for
-memory that the run makes of the C library. A library that is loaded before that one counts the calls and refuses one of them. Each run has
-to answer 8, report `no memory`, and write a prefix of the text that the ledger in Python in tests/models gives; or, where the directory of
-the store is refused memory, 6 with `disk fault`; or it passes over the refusal, and answers 0 with all of the text. After `init` and `run`
-the store is opened again, by a `run` without input: after 8 and 0 at the last ledger whose `closed` line was written, after 6 there or one
-further on. An `init` that answered 8 has made no store, and one that answered 6 may have.
+It runs `catchup`, `init`, `run`, `run` beside one and beside two workers, and `show`, over an image and three records, those in
+examples/; `run` over a store of format 1 too, which it brings over first; and `sample`. Each runs once for each call for memory that it
+makes of the C library. A library that is loaded before that one counts the calls and refuses one of them. Each run has to answer 8,
+report `no memory`, and write a prefix of the text that the ledger in Python in tests/models gives; or, where the directory of the store
+is refused memory, 6 with `disk fault`; or it passes over the refusal, and answers 0 with all of the text. After `init`, `run` and `show`
+the store is opened again, by a `run` without input: after 8 and 0 at the last ledger whose `closed` line was written, after 6 there or
+one further on. An `init` that answered 8 has made no store, and one that answered 6 may have.
 
 Beside workers the calls of all threads count, so which of them is refused differs from run to run. Then the calls of the workers alone
 count: a job whose merge is refused memory is given back, so each of these runs has to answer 0 with all of the text.
@@ -29,10 +30,13 @@ import tempfile
 
 from measuring import TOP, built, stop
 
-sys.path.insert(0, f"{TOP}/tests/models")
+sys.path[:0] = [f"{TOP}/tests", f"{TOP}/tests/models"]
+from cases import read_case  # noqa: E402
+from harness import FILES, NETWORK, files_in, lay_out  # noqa: E402
 from ledger_model import catchup  # noqa: E402
+from stops import in_format_1  # noqa: E402
+from store_model import show  # noqa: E402
 
-NETWORK = "Test SDF Network ; September 2015"
 
 def content(path):
     with open(path, "rb") as file:
@@ -119,15 +123,24 @@ def commands(program, folder):
     closed = [line.split()[1:3] for line in text.splitlines() if line.startswith("closed ")]
     start = catchup(NETWORK, image)[0]
     ends = [start.encode(), *(f"end {seq} {digest}\n".encode() for seq, digest in closed)]
-    made = f"{folder}/made"
+    made, old = f"{folder}/made", f"{folder}/old"
     os.mkdir(made)
+    os.mkdir(old)
     subprocess.run([program, "init", "--network", NETWORK], input=image, check=True, cwd=made)
+    store = files_in(made)
+    lay_out(old, in_format_1(store))
+    sample = read_case("samples-3-ledgers-of-seed-1")
+    shown = show([store.get(name, b"") for name in FILES])[0].encode()
     return [
         Command(program, ["catchup", "--network", NETWORK], image + records, text.encode(), None, None),
         Command(program, ["init", "--network", NETWORK], image, b"", None, [b"", ends[0]]),
         Command(program, ["run"], records, text.encode(), f"{made}/ledger-store", ends),
+        Command(program, ["run"], records, text.encode(), f"{old}/ledger-store", ends),
+        Command(program, ["run", "--workers", "1"], records, text.encode(), f"{made}/ledger-store", ends),
         Command(program, ["run", "--workers", "2"], records, text.encode(), f"{made}/ledger-store", ends),
         Command(program, ["run", "--workers", "2"], records, text.encode(), f"{made}/ledger-store", ends, True),
+        Command(program, ["show"], b"", shown, f"{made}/ledger-store", ends[:1]),
+        Command(program, [word.decode() for word in sample.words], b"", sample.output, None, None),
     ]
 
 

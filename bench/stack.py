@@ -5,7 +5,7 @@
 
 PROGRAM is the built program, crates/ledger/out/ledger of this repository where none is given. `catchup` is run over each input with the
 limit of the stack that a system sets, 8 MB, and then with smaller ones, as `ulimit -s` sets them, until the least one is found with which
-it prints the same text with status 0 three times, in steps of 4 kB. The environment is empty, since it lies on the stack too. What the
+it prints the same text with the same status three times, in steps of 4 kB. The environment is empty, since it lies on the stack too. What the
 system puts there moves by up to 8 kB from run to run. The inputs:
 
     payment      one payment after a small image
@@ -13,12 +13,16 @@ system puts there moves by up to 8 kB from run to run. The inputs:
     four levels  a claimable balance for ten claimants with predicates of four levels, the deepest that may be created
     32 levels    the same with predicates of 32 levels, the deepest that is read; the operation fails
     both         50 transactions of 100 operations with ten predicates of 32 levels each
+    33 levels    the same with predicates of 33 levels: the record is refused
+    2 million    the same with a predicate of two million levels
+    balance      an image of a claimable balance with a predicate of 32 levels, which breaks a rule
+    of 2 million the same with a predicate of two million levels
     payments     the longest record: as many payments as fit into 16 MB
     deep levels  ten records of payments that commit merges of the levels, of 20 MB (--megabytes)
     beside       the same by `run --workers 2`
     offers       an image of 100,000 offers in 20 books (--offers)
 
-Exit status: 0, or 2 where a run with 8 MB fails. Linux, Python 3.9 or later and its standard library.
+Exit status: 0, or 2 where a run with 8 MB ends otherwise than it should. Linux, Python 3.9 or later and its standard library.
 """
 
 import argparse
@@ -34,19 +38,22 @@ from measuring import TOP, built, stop
 sys.path.insert(0, f"{TOP}/tests/models")
 import deep_levels as deep  # noqa: E402
 import set_cases as sets  # noqa: E402
-from case_tools import predicate  # noqa: E402
+from case_tools import META_18, claimable, image, key, raw  # noqa: E402
 from closes import CATCHUP, NETWORK, image_of  # noqa: E402
 from large import FIRST, after_small, offers, payments, sent  # noqa: E402
+from ledger_model import ENTRY, INIT, i32, sha, u32  # noqa: E402
 
 USUAL, STEP, TIMES = 8192, 4, 3
+# levels of a predicate that isn't read
+DEEP = 2_000_000
 PARTS = {(3, 0): 0.05, (3, 1): 0.05, (4, 0): 0.15, (4, 1): 0.15, (5, 0): 0.35, (5, 1): 0.25}
 
 
 class Trial:
     """A command over an input, in a folder that is made anew where there is a store."""
 
-    def __init__(self, program, words, source, store=None):
-        self.program, self.words, self.source, self.store = program, words, source, store
+    def __init__(self, program, words, source, store=None, status=0):
+        self.program, self.words, self.source, self.store, self.status = program, words, source, store, status
 
     def run(self, limit):
         """The status and the text with so many kB of stack."""
@@ -63,7 +70,7 @@ class Trial:
     def least(self):
         """The least stack in kB."""
         expected = self.run(USUAL)
-        if expected[0]:
+        if expected[0] != self.status:
             stop(f"status {expected[0]} after {expected[1][-200:]!r}")
         low, high = 0, USUAL // STEP
         while high - low > 1:
@@ -77,9 +84,19 @@ class Trial:
 # ---- inputs
 
 
-def claims(transactions, each, levels):
-    """So many transactions, in turn by the accounts, with so many operations for ten claimants each."""
-    claimants = [(number, predicate(levels)) for number in range(10)]
+def predicate(levels):
+    return (u32(3) + u32(1)) * (levels - 1) + u32(0)
+
+
+def balance(levels):
+    """An image of a claimable balance whose predicate has so many levels."""
+    encoded = ENTRY.write(claimable(sha(b"id"))).replace(key("b") + u32(0), key("b") + predicate(levels))
+    return image(files={0: raw(META_18, i32(INIT) + encoded)})
+
+
+def claims(transactions, each, levels, claimants=10):
+    """So many transactions, in turn by the accounts, with so many operations for ten claimants or fewer each."""
+    claimants = [(number, predicate(levels)) for number in range(claimants)]
     operations = [sets.create_claimable(1, claimants)] * each
     return [sent(number, *operations) for number in range(transactions)]
 
@@ -128,6 +145,11 @@ def main():
             ("32 levels", claims(1, 1, 32)), ("both", claims(50, 100, 32)), ("payments", payments()),
         ]:
             row(name, Trial(program, CATCHUP, kept(after_small(listed))))
+        for name, refused, status in [
+            ("33 levels", after_small(claims(1, 1, 33)), 3), ("2 million", after_small(claims(1, 1, DEEP, 1)), 3),
+            ("balance", balance(32), 10), ("of 2 million", balance(DEEP), 10),
+        ]:
+            row(name, Trial(program, CATCHUP, kept(refused), status=status))
         data, previous = deep.image_of(FIRST, PARTS, given.megabytes * 1_000_000)
         records = deep_records(program, data, previous)
         row("deep levels", Trial(program, CATCHUP, kept(data + records)))

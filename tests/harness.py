@@ -132,7 +132,8 @@ def unsynced(notes: bytes) -> List[str]:
 
 
 def after_power_loss(begun: Store, notes: bytes, fill: int) -> Store:
-    """A store that loses power after what was noted: each byte that was written, cut or added since the last sync of its file is `fill`."""
+    """A store that loses power after what was noted: each byte that was written, cut or added since the last sync of its
+    file is `fill`, also by a call that failed."""
     now = {name: bytearray(begun.get(name, b"")) for name in FILES}
     pending: Dict[str, set] = collections.defaultdict(set)
     for kind, file, offset, data in notes_of(notes):
@@ -148,6 +149,8 @@ def after_power_loss(begun: Store, notes: bytes, fill: int) -> Store:
             pending[name].update(range(min(offset, len(held)), max(offset, len(held))))
             del held[offset:]
             held.extend(bytes(offset - len(held)))
+        elif kind == "u":
+            pending[name].update(range(offset, len(held)))
         else:
             pending[name].clear()
     for name, offsets in pending.items():

@@ -39,6 +39,7 @@ import cases
 import crate_list
 import documents
 import generated
+import hostile
 import locks
 import stops
 import store_bytes
@@ -90,7 +91,7 @@ def built(name: str, words: List[str]) -> str:
 
 def jobs_of(program: Program) -> List[Job]:
     """What is to be tried of a program, longest first."""
-    modules = (beside, stops, store_bytes, locks, adopting, words)
+    modules = (beside, stops, store_bytes, locks, adopting, hostile, words)
     parts = [(module.check, (program, part)) for module in modules for part in module.PARTS]
     parts += [(bridge_made.check_program, (program, part)) for part in bridge_made.PARTS]
     return parts + [(cases.check, (program, name)) for name in cases.names()]

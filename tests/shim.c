@@ -3,9 +3,11 @@
  *
  *   FAIL_FROM=N    each call on the files of `ledger-store` fails from the N-th on
  *   FAIL_AT=N      the N-th call on them fails, and no other
+ *   CHANGES_ALONE=1  of these calls only writes, cuts and syncs count and fail
  *   NOTES=PATH     writes, cuts and syncs of these files, and threads that are started, are appended to this file, as
  *                  a letter (w, t, s, p or m), the number of the file (1 to 4), and offset and count in the machine's
- *                  order of bytes, before the bytes that were written
+ *                  order of bytes, before the bytes that were written. A write that fails is noted too, since it may
+ *                  have written all the same, and a cut that fails by the letter u
  *   IN_FAIL=N      the N-th read of standard input fails
  *   OUT_FAIL=N     the N-th write to standard output fails
  *   OUT_ROOM=N     standard output takes N bytes, and then none
@@ -76,13 +78,18 @@ static int store_file(int descriptor) {
 }
 
 /* Counts a call on the store, and answers whether it is to fail. */
-static int fails(void) {
+static int fails_as(int is_change) {
+    if (!is_change && setting("CHANGES_ALONE") > 0) return 0;
     long number = __sync_add_and_fetch(&calls, 1), from = setting("FAIL_FROM");
     if ((from > 0 && number >= from) || number == setting("FAIL_AT")) {
         errno = EIO;
         return 1;
     }
     return 0;
+}
+
+static int fails(void) {
+    return fails_as(0);
 }
 
 static void note(char kind, int file, uint64_t offset, const void *bytes, uint64_t count) {
@@ -201,8 +208,12 @@ ssize_t write(int descriptor, const void *bytes, size_t count) {
     }
     int file = store_file(descriptor);
     if (file) {
-        if (fails()) return -1;
         uint64_t offset = seek(descriptor, 0, SEEK_CUR);
+        if (fails_as(1)) {
+            note('w', file, offset, bytes, count);
+            errno = EIO;
+            return -1;
+        }
         ssize_t done = real(descriptor, bytes, count);
         if (done > 0) note('w', file, offset, bytes, done);
         return done;
@@ -228,7 +239,11 @@ ssize_t write(int descriptor, const void *bytes, size_t count) {
 int ftruncate(int descriptor, off_t size) {
     static int (*real)(int, off_t);
     if (!real) real = dlsym(RTLD_NEXT, "ftruncate");
-    if (store_file(descriptor) && fails()) return -1;
+    if (store_file(descriptor) && fails_as(1)) {
+        note('u', store_file(descriptor), size, 0, 0);
+        errno = EIO;
+        return -1;
+    }
     int done = real(descriptor, size);
     if (!done && store_file(descriptor)) note('t', store_file(descriptor), size, 0, 0);
     return done;
@@ -237,7 +252,7 @@ int ftruncate(int descriptor, off_t size) {
 int fsync(int descriptor) {
     static int (*real)(int);
     if (!real) real = dlsym(RTLD_NEXT, "fsync");
-    if (store_file(descriptor) && fails()) return -1;
+    if (store_file(descriptor) && fails_as(1)) return -1;
     int done = real(descriptor);
     if (!done && store_file(descriptor)) note('s', store_file(descriptor), 0, 0, 0);
     return done;

@@ -1,21 +1,24 @@
 """Runs that are stopped, lose power, or whose calls fail.
 
-A run closes the ledgers 62, 63 and 64 over a store that `init` made at ledger 61, and the store goes on to its next epoch after
-ledger 63. It is stopped at each of its calls on the files of the store, and each call fails alone. What a loss of power leaves is
-worked out from what was written, cut and synced: each byte that is pending is 0, 1, which opens a gate, or 7. After it the records
-that follow are run, up to ledger 66, and must give the text of a run that was never stopped.
+A run closes the ledgers 62, 63 and 64 over a store that `init` made at ledger 61, and the store goes on to its next
+epoch after ledger 63. It is stopped at each of its calls on the files of the store, and each call fails alone. What a
+loss of power leaves is worked out from what was written, cut and synced: each byte that is pending is 0, 1, which opens
+a gate, or 7. After it the records that follow are run, up to ledger 66, and must give the text of a run that was never
+stopped. All this also beside workers.
 
-A run over a store of format 1, which it brings over first, is stopped likewise.
+Of its 21 writes, cuts and syncs, all from some number on fail: then the ledger at which the store opens is said by
+hand, in `REOPENED`. A run over a store of format 1, which it brings over first, is stopped at each call likewise.
 
-Then each read of an input and each write of an output fails, for `init`, `run` and `catchup`. The records, and what is printed for
-them, are in `stories/stopped`; `models/stopped_story.py` writes them.
+Then each read of an input and each write of an output fails, for all commands that have them. The records, and what is
+printed for them, are in `stories/stopped`; `models/stopped_story.py` writes them.
 """
 
 from __future__ import annotations
 
-from typing import Dict, List, Optional, Tuple
+from typing import Dict, Iterator, List, NamedTuple, Optional, Tuple
 
-from harness import NETWORK, Program, Ran, Store, Tally, after_power_loss, read
+from cases import read_case
+from harness import NETWORK, Program, Ran, Store, Tally, after_power_loss, notes_of, read
 
 FIRST, CLOSES, ALL = 61, 3, 5
 FILLS = (0, 1, 7)
@@ -24,6 +27,14 @@ ENOUGH = 400
 INIT = ["init", "--network", NETWORK]
 CATCHUP = ["catchup", "--network", NETWORK]
 RUN = ["run"]
+BESIDE = [["run", "--workers", "1"], ["run", "--workers", "2"]]
+# For so many writes, cuts and syncs that were done before all others failed, and more: the ledger at which the store
+# opens where the bytes that were pending are 0 or 7, and where they are 1. An append writes the record and a closed
+# gate, syncs, opens the gate before the record and syncs: the first four calls, the next four, and the last four. After
+# the second one the move to the next epoch closes the gate of its image and syncs; cuts that file, writes it, cuts its
+# journal, writes a closed gate there and syncs; and opens the image's gate and syncs.
+REOPENED = {0: (61, 61), 2: (61, 62), 4: (62, 62), 6: (62, 63), 8: (63, 63), 19: (63, 64), 21: (64, 64)}
+CHANGES = 21
 READ_FAULT, WRITE_FAULT, DISK_FAULT, MISSING = (4, b"read fault\n"), (5, b"write fault\n"), (6, b"disk fault\n"), (11, b"missing\n")
 DONE = (0, b"")
 
@@ -41,7 +52,9 @@ class Story:
         self.lines = [of_story(f"lines.{seq}") for seq in range(FIRST + 1, FIRST + ALL + 1)]
         self.ends = [of_story(f"end.{seq}") for seq in range(FIRST, FIRST + ALL + 1)]
         self.store = program.run(INIT, self.image).store
+        # by the files of a store that was tried: after how many closes it opens, and after how many it also goes on
         self.opened: Dict[tuple, Optional[int]] = {}
+        self.resumed: Dict[tuple, Optional[int]] = {}
         self.program = program
 
     def given(self, first: int, last: int) -> bytes:
@@ -58,8 +71,12 @@ class Story:
 
     def opens_at(self, store: Store) -> Optional[int]:
         """After how many closes a store opens, or None where it doesn't."""
-        ran = self.program.run(RUN, b"", store)
-        return self.ends.index(ran.out) if (ran.status, ran.err) == DONE and ran.out in self.ends else None
+        key = tuple(sorted(store.items()))
+        if key not in self.opened:
+            ran = self.program.run(RUN, b"", store)
+            is_open = ended(ran) == DONE and ran.out in self.ends
+            self.opened[key] = self.ends.index(ran.out) if is_open else None
+        return self.opened[key]
 
     def goes_on(self, store: Store, count: int) -> bool:
         """Whether the remaining records give what they give in a run that was never stopped."""
@@ -67,12 +84,12 @@ class Story:
         return (ran.status, ran.err, ran.out) == (*DONE, self.text(count, ALL))
 
     def resumes_at(self, store: Store) -> Optional[int]:
-        """After how many closes a store opens and goes on as if never stopped, or None; stores that were tried are kept in mind."""
+        """After how many closes a store opens and goes on as if never stopped, or None where it doesn't."""
         key = tuple(sorted(store.items()))
-        if key not in self.opened:
+        if key not in self.resumed:
             at = self.opens_at(store)
-            self.opened[key] = at if at is not None and self.goes_on(store, at) else None
-        return self.opened[key]
+            self.resumed[key] = at if at is not None and self.goes_on(store, at) else None
+        return self.resumed[key]
 
 
 def ended(ran: Ran) -> Tuple[int, bytes]:
@@ -94,6 +111,46 @@ def check_runs(story: Story, tally: Tally) -> None:
     """Stops the run at each call on its store, and fails each call alone."""
     for fault, what in (("FAIL_FROM", "a run that is stopped"), ("FAIL_AT", "a run of which a call fails")):
         check_stops(story, tally, story.store, fault, what)
+
+
+def check_runs_beside(story: Story, tally: Tally) -> None:
+    """The same of a run beside workers."""
+    for words in BESIDE:
+        for fault, what in (("FAIL_FROM", "that is stopped"), ("FAIL_AT", "of which a call fails")):
+            check_stops(story, tally, story.store, fault, f"a run beside workers {what}", words=words)
+
+
+def changes(notes: bytes) -> Iterator[int]:
+    """The numbers of the C library's calls with which each write, cut or sync begins. A sync has one of each file."""
+    before = ""
+    for number, (kind, _, _, _) in enumerate((note for note in notes_of(notes) if note[0] in "wts"), 1):
+        if (before, kind) != ("s", "s"):
+            yield number
+        before = kind
+
+
+def check_reopened(story: Story, tally: Tally) -> None:
+    """Lets so many writes, cuts and syncs of a run be done, and all others fail."""
+    opening = story.program.run(RUN, b"", story.store, FAIL_AT=0).notes
+    for words in (RUN, *BESIDE):
+        notes = story.program.run(words, story.given(0, CLOSES), story.store, FAIL_AT=0).notes
+        first = sum(kind in "wts" for kind, _, _, _ in notes_of(opening))
+        calls = [call for call in changes(notes) if call > first]
+        tally.check("a run of three closes makes 21 writes, cuts and syncs", len(calls) == CHANGES, (words, len(calls)))
+        for done, call in enumerate([*calls, ENOUGH]):
+            ran = story.program.run(words, story.given(0, CLOSES), story.store, FAIL_FROM=call, CHANGES_ALONE=1)
+            check_reopened_after(story, tally, ran, done)
+
+
+def check_reopened_after(story: Story, tally: Tally, ran: Ran, done: int) -> None:
+    """Compares the ledger at which a store opens after a run of which so many writes, cuts and syncs were done."""
+    expected = REOPENED[max(bound for bound in REOPENED if bound <= done)]
+    count, status = story.printed(ran.out), DONE if done == CHANGES else DISK_FAULT
+    for fill in FILLS:
+        at = story.resumes_at(after_power_loss(story.store, ran.notes, fill))
+        holds = ended(ran) == status and at is not None and FIRST + at == expected[fill == 1]
+        what = "a run of which so many writes, cuts and syncs were done opens at the ledger that is said"
+        tally.check(what, holds and count is not None and count <= at, (done, fill, ended(ran), at, count))
 
 
 def check_runs_over(story: Story, tally: Tally) -> None:
@@ -125,10 +182,12 @@ def check_old_shows(story: Story, tally: Tally) -> None:
     tally.check("a broken store of format 1 stays as it was", ran.status == 7 and ran.store == broken, ended(ran))
 
 
-def check_stops(story: Story, tally: Tally, begun: Store, fault: str, what: str, kept: int = 0) -> None:
+def check_stops(
+    story: Story, tally: Tally, begun: Store, fault: str, what: str, kept: int = 0, words: List[str] = RUN,
+) -> None:
     """Stops a run at each of its calls on the store, which begins with so many records kept."""
     for call in range(1, ENOUGH):
-        ran = story.program.run(RUN, story.given(kept, CLOSES), begun, **{fault: call})
+        ran = story.program.run(words, story.given(kept, CLOSES), begun, **{fault: call})
         count, done = story.printed(ran.out, kept), ended(ran) == DONE
         tally.check(f"{what} ends with a disk fault, or is done", done or ended(ran) == DISK_FAULT, ended(ran))
         tally.check(f"{what} prints complete closes", count is not None, ran.out)
@@ -177,57 +236,121 @@ def check_making(story: Story, tally: Tally, begun: Store, fault: str, what: str
 
 def check_openings(story: Story, tally: Tally) -> None:
     """Fails each call that opens the store; the input isn't read where the opening failed, nor anything written."""
-    for words in (RUN, ["show"]):
-        for call in range(1, ENOUGH):
-            ran = story.program.run(words, b"", story.store, FAIL_AT=call)
-            if ended(ran) == DONE:
-                break
-            holds = ended(ran) == DISK_FAULT and ran.store == story.store
-            tally.check("an opening of which a call fails leaves the store as it was", holds, (words, call, ended(ran)))
+    stores = [("", story.store), (" of format 1", in_format_1(story.store))]
+    for words in (RUN, *BESIDE, ["show"]):
+        for form, begun in stores:
+            # where a store of format 1 has opened, a run goes on to the next epoch: that is no opening
+            opening = story.program.run(["show"], b"", begun, FAIL_AT=0).notes
+            for call in range(1, ENOUGH):
+                ran = story.program.run(words, story.given(0, 1), begun, FAIL_AT=call)
+                if len(ran.notes) > len(opening) or ended(ran) == DONE:
+                    break
+                holds = ended(ran) == DISK_FAULT and ran.store == begun and not ran.out
+                what = f"an opening{form} of which a call fails leaves the store as it was, and prints nothing"
+                tally.check(what, holds, (words, call, ended(ran), ran.out))
 
 
-Command = Tuple[str, List[str], Store, bytes, int]
+class Command(NamedTuple):
+    """What is run over streams that fail. Its records come after so many bytes of the input."""
+
+    name: str
+    words: List[str]
+    begun: Store
+    given: bytes
+    ahead: int = 0
+
+    @property
+    def keeps(self) -> bool:
+        return self.words[0] == "run"
 
 
 def commands(story: Story) -> List[Command]:
-    """What is run over streams that fail: a name, words, the store before, the input, and how many bytes come before the records."""
     records = story.given(0, CLOSES)
     return [
-        ("init", INIT, {}, story.image, 0), ("run", RUN, story.store, records, 0),
-        ("catchup", CATCHUP, {}, story.image + records, len(story.image)),
+        Command("init", INIT, {}, story.image), Command("run", RUN, story.store, records),
+        *(Command("run beside workers", words, story.store, records) for words in BESIDE),
+        Command("catchup", CATCHUP, {}, story.image + records, len(story.image)),
     ]
 
 
 def check_reads(story: Story, tally: Tally) -> None:
     """Fails each read of an input of one byte a read, up to the one that finds its end."""
-    for name, words, begun, given, ahead in commands(story):
-        bounds = [ahead + len(story.given(0, count)) for count in range(CLOSES + 1)]
-        for number in range(1, len(given) + 2):
-            ran = story.program.run(words, given, begun, IN_FAIL=number, ONE_BYTE=1)
-            count = 0 if name == "init" else max((index for index, bound in enumerate(bounds) if bound < number), default=0)
-            holds = ended(ran) == READ_FAULT and ran.out == b"".join(story.lines[:count])
-            if name == "init":
-                holds = holds and not ran.store
-            if name == "run":
-                holds = holds and story.opens_at(ran.store) == count
-            tally.check(f"{name}: a read that fails leaves the lines of the complete records before it", holds, (number, ended(ran)))
+    for command in commands(story):
+        bounds = [command.ahead + len(story.given(0, count)) for count in range(CLOSES + 1)]
+        for number in range(1, len(command.given) + 2):
+            ran = story.program.run(command.words, command.given, command.begun, IN_FAIL=number, ONE_BYTE=1)
+            is_init = command.words == INIT
+            count = 0 if is_init else max((index for index, bound in enumerate(bounds) if bound < number), default=0)
+            check_read(story, tally, command, ran, count, number)
+
+
+def check_read(story: Story, tally: Tally, command: Command, ran: Ran, count: int, number: int) -> None:
+    """What is left where a read failed after so many complete records."""
+    holds = ended(ran) == READ_FAULT and ran.out == b"".join(story.lines[:count])
+    holds = holds and (not ran.store or command.keeps) and (not command.keeps or story.opens_at(ran.store) == count)
+    what = f"{command.name}: a read that fails leaves the lines of the complete records before it"
+    tally.check(what, holds, (number, ended(ran)))
+
+
+def check_long_reads(story: Story, tally: Tally) -> None:
+    """Fails each read of an input whose reads take what they ask for."""
+    for command in commands(story):
+        for number in range(1, ENOUGH):
+            ran = story.program.run(command.words, command.given, command.begun, IN_FAIL=number)
+            if ended(ran) == DONE:
+                break
+            count = story.printed(ran.out)
+            is_whole = count is not None and ran.out == b"".join(story.lines[:count])
+            what = f"{command.name}: a long read that fails leaves complete closes"
+            if tally.check(what, is_whole, (number, ended(ran))):
+                check_read(story, tally, command, ran, count, number)
 
 
 def check_writes(story: Story, tally: Tally) -> None:
     """Fails each write of an output of one byte a write; and has the output take so many bytes and then none."""
     entire = story.text(0, CLOSES)
     starts = [len(b"".join(story.lines[:count])) for count in range(CLOSES + 1)]
-    for name, words, begun, given, _ in commands(story)[1:]:
+    for command in commands(story)[1:]:
         for length in range(len(entire)):
             # the close whose lines are being written is kept by then
             kept = min(sum(start <= length for start in starts), CLOSES)
             for faults in ({"OUT_FAIL": length + 1, "ONE_BYTE": 1}, {"OUT_ROOM": length}):
-                ran = story.program.run(words, given, begun, **faults)
+                ran = story.program.run(command.words, command.given, command.begun, **faults)
                 holds = ended(ran) == WRITE_FAULT and ran.out == entire[:length]
-                if name == "run":
+                if command.keeps:
                     holds = holds and story.opens_at(ran.store) == kept
-                what = f"{name}: a write that fails or takes nothing leaves a prefix of the text"
+                what = f"{command.name}: a write that fails or takes nothing leaves a prefix of the text"
                 tally.check(what, holds, (length, ended(ran), faults))
+
+
+def check_long_writes(story: Story, tally: Tally) -> None:
+    """Fails each write of an output whose writes take what they are given, also those of `show` and `sample`."""
+    text = story.text(0, CLOSES)
+    listed = [(command.name, command.words, command.begun, command.given, text) for command in commands(story)[1:]]
+    for name in ("stores-show-a-store-with-three-records", "samples-3-ledgers-of-seed-1"):
+        case = read_case(name)
+        listed.append((case.words[0].decode(), case.words, case.before, case.given, case.output))
+    for name, words, begun, given, entire in listed:
+        what = f"{name}: a long write that fails leaves a prefix of the text"
+        for number in range(1, ENOUGH):
+            ran = story.program.run(words, given, begun, OUT_FAIL=number)
+            if ended(ran) == DONE:
+                break
+            is_prefix = entire.startswith(ran.out) and ran.out != entire
+            tally.check(what, ended(ran) == WRITE_FAULT and is_prefix, (number, ended(ran), ran.out))
+        tally.check(what, number > 1 and ran.out == entire, number)
+
+
+def check_other_writes(story: Story, tally: Tally) -> None:
+    """The same of `show` and `sample` at one byte a write, and where the output takes so many bytes and then none."""
+    for name in ("stores-show-a-store-with-three-records", "samples-3-ledgers-of-seed-1"):
+        case = read_case(name)
+        for length in range(len(case.output)):
+            for faults in ({"OUT_FAIL": length + 1, "ONE_BYTE": 1}, {"OUT_ROOM": length}):
+                ran = story.program.run(case.words, case.given, case.before, **faults)
+                holds = ended(ran) == WRITE_FAULT and ran.out == case.output[:length]
+                what = f"{case.words[0].decode()}: a write that fails or takes nothing leaves a prefix of the text"
+                tally.check(what, holds and ran.store == case.before, (length, ended(ran), faults))
 
 
 def check_ends(story: Story, tally: Tally) -> None:
@@ -238,7 +361,10 @@ def check_ends(story: Story, tally: Tally) -> None:
         tally.check("an end that standard error doesn't take is a write fault", holds, (words, ran.status, ran.err))
 
 
-PARTS = (check_runs, check_runs_over, check_migrations, check_old_shows, check_makings, check_openings, check_reads, check_writes, check_ends)
+PARTS = (
+    check_runs, check_runs_beside, check_reopened, check_runs_over, check_migrations, check_old_shows, check_makings,
+    check_openings, check_reads, check_long_reads, check_writes, check_long_writes, check_other_writes, check_ends,
+)
 
 
 def check(program: Program, part) -> Tally:

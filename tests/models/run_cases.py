@@ -238,6 +238,9 @@ def bad_records():
     deepest, deeper = (sets.create_claimable(1, [("b", predicate(levels))]) for levels in (32, 33))
     bad("a predicate of 33 levels", lambda story: story.record(sent("a", 1, deeper)), "BadXdr 424 TooDeep")
     bad("a predicate of 32 levels", lambda story: story.record(sent("z", 1, deepest)), "FeeSourceMissing 0")
+    # such a predicate reads, and no balance may have it
+    story = Story(legal).run("a", (deepest, sets.ran(14, -1)))
+    case("a record: a predicate of 32 levels, of which the operation is malformed", story, "end 6", 1)
 
 
 def terms():

@@ -50,10 +50,9 @@ def rows_of(path: str) -> int:
 def table() -> Iterator[str]:
     yield "| what | where | count |"
     yield "|---|---|---|"
-    for path in sorted(glob.glob(f"{TOP}/crates/definition_rows/proofs/*.antt")):
-        count, name = rows_of(path), os.path.basename(path)[:-len(".antt")]
-        if count and name not in HELPERS:
-            yield f"| rows | `definition_rows/proofs/{name}.antt` | {count} |"
+    paths = glob.glob(f"{TOP}/crates/definition_rows/proofs/*.antt")
+    count = sum(rows_of(path) for path in paths if os.path.basename(path)[:-len(".antt")] not in HELPERS)
+    yield f"| rows that the checker evaluates | `definition_rows/proofs` | {count} |"
     lines = text_of(f"{TOP}/crates/probe/stdout").splitlines()
     yield f"| lines that the probe has to answer | `probe/stdout` | {len(lines)} |"
     for command, count in sorted(cases_by_command().items()):

@@ -126,7 +126,7 @@ def above_accepted(found: List[Ran]) -> List[Tuple[int, Ran]]:
         listed = [ran for ran in found if ran.command in commands]
         accepted = sorted((ran.size, ran.peak) for ran in listed if ran.status == 0)
         sizes, most = [size for size, _ in accepted], list(accumulate((peak for _, peak in accepted), max))
-        refused = [ran for ran in listed if ran.status]
+        refused = [ran for ran in listed if ran.status and sizes]
         above += [(ran.peak - most[max(0, bisect_right(sizes, ran.size) - 1)], ran) for ran in refused]
     return above
 

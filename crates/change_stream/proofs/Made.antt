@@ -5,8 +5,8 @@ use Rattle.change_stream.proofs.Prelude.{EntryMap, Equal, IfSome, IsChangeOf, Is
 use Rattle.change_stream.proofs.Prelude.{LedgerKey, Less, List, None, Option, Removed, Some, Updated, [], ap, arith}
 use Rattle.change_stream.proofs.Prelude.{cons_option, creation, eq_by_cmp, false, filter_map, get, get_or, inl, inr}
 use Rattle.change_stream.proofs.Prelude.{is_lt, key_cmp, key_in, key_of, keys_total, length, map, refl, removal_in}
-use Rattle.change_stream.proofs.Prelude.{subst, sym, update_in, ◌++◌, ◌+◌, ◌<◌, ◌∙◌, ◌∷◌, ◌≡◌, ◌≢◌, ◌⊎◌}
-use Rattle.std.proofs.Common.{option_map, rules}
+use Rattle.change_stream.proofs.Prelude.{rules, subst, sym, update_in, ◌++◌, ◌+◌, ◌<◌, ◌∙◌, ◌∷◌, ◌≡◌, ◌≢◌, ◌⊎◌}
+use Rattle.std.proofs.Common.{option_map}
 use Rattle.std.proofs.lemmas.List.{get_or-map, length-map, map-append}
 use Rattle.std.proofs.lemmas.List.Elements.{All-cons, All-contains}
 use Rattle.std.proofs.lemmas.List.Sorted.{Contains-permutation, IsPermutation-map, IsPermutation-sym}

@@ -1,7 +1,7 @@
 -- Names that several proofs of this crate use.
 pub use Rattle.std.proofs.Common.{All, Contains, IfSome, List, None, Option, Some, [], ap, append-nil, append_assoc}
-pub use Rattle.std.proofs.Common.{arith, false, get_or, inl, inr, length, map, option_to_list, refl, subst, suc, sym}
-pub use Rattle.std.proofs.Common.{take, true, zero, ℕ, ◌++◌, ◌+◌, ◌<◌, ◌∙◌, ◌∷◌, ◌≡◌, ◌≢◌, ◌≤◌, ◌⊎◌}
+pub use Rattle.std.proofs.Common.{arith, false, get_or, inl, inr, length, map, option_to_list, refl, rules, subst, suc}
+pub use Rattle.std.proofs.Common.{sym, take, true, zero, ℕ, ◌++◌, ◌+◌, ◌<◌, ◌∙◌, ◌∷◌, ◌≡◌, ◌≢◌, ◌≤◌, ◌⊎◌}
 pub use Rattle.std.proofs.lemmas.List.{take_all, take_more}
 pub use Rattle.std.proofs.lemmas.List.Elements.{Contains-append_cases, Contains-append_left, Contains-append_right}
 pub use Rattle.std.specs.FinMap.{get, same_map}

@@ -3,11 +3,10 @@
 ghost use Rattle.std.specs.Prelude.{◌≡◌, IfOk};
 ghost use Rattle.change_stream.specs.Changes as spec;
 
-use ledger_types::LedgerEntry;
+use ledger_types::{LedgerEntry, LedgerKey};
 use std::alloc::{AllocError, Global};
 
 /// What happened to the entry under one key.
-#[derive(Drop)]
 pub enum Change {
     /// An entry was put where there was none.
     Created {
@@ -22,6 +21,32 @@ pub enum Change {
     Removed {
         before: LedgerEntry,
     },
+}
+
+impl Drop for Change {
+    fn drop(self) {
+        match self {
+            Change::Created { after } => drop(after),
+            Change::Updated { before, after } => {
+                drop(before);
+                drop(after);
+            }
+            Change::Removed { before } => drop(before),
+        }
+    }
+}
+
+impl Change {
+    /// The key of the entries.
+    pub(crate) fn key(&self) -> Result<LedgerKey, AllocError>
+        ensures { IfOk result (λ key. key ≡ spec.key_in self.now) }
+    {
+        match self {
+            Change::Created { after } => after.key(),
+            Change::Updated { before, after: _ } => before.key(),
+            Change::Removed { before } => before.key(),
+        }
+    }
 }
 
 /// The change that undoes a change.

@@ -1,7 +1,9 @@
 //! Making changes of a batch.
 
-ghost use Rattle.std.specs.Prelude.{◌≡◌, ◌++◌, IfOk, OnOk, map, option_to_list};
+ghost use Rattle.std.specs.Prelude.{◌≡◌, ◌++◌, [], ◌∷◌, IfOk, OnOk, map, option_to_list};
+ghost use Rattle.std.specs.FinMap.{get};
 ghost use Rattle.std.specs.List.{filter_map};
+ghost use Rattle.ledger_types.specs.Keys.{key_of};
 ghost use Rattle.entry_map.specs.EntryMap.{IsKeyed};
 ghost use Rattle.change_stream.specs.Changes.{IsBatchOver, AreChangesOf};
 ghost use Rattle.change_stream.specs.Making as spec;
@@ -12,15 +14,21 @@ use entry_map::{Base, Batch};
 use ledger_types::{LedgerEntry, LedgerKey};
 use std::alloc::{AllocError, Global};
 
-/// The creation of an entry.
-fn creation(after: &LedgerEntry) -> Result<KeyedChange, AllocError>
-    ensures { IfOk result (λ change. change ≡ spec.creation after.now) }
+/// Adds a change beside its key.
+fn add(keyed: &mut Vec<KeyedChange>, change: Change) -> Result<(), AllocError>
+    ensures { OnOk result (keyed.new.items ≡ keyed.old.items ++ spec.keyed change ∷ []) }
 {
-    let key = after.key()?;
-    let change = Change::Created {
-        after: after.copy()?,
-    };
-    Ok(KeyedChange { key, change })
+    let key = change.key()?;
+    keyed.push(KeyedChange { key, change })?;
+    Ok(())
+}
+
+/// Adds the creation of an entry.
+fn add_creation(keyed: &mut Vec<KeyedChange>, after: &LedgerEntry) -> Result<(), AllocError>
+    ensures { OnOk result (keyed.new.items ≡ keyed.old.items ++ spec.creation after.now ∷ []) }
+{
+    let after = after.copy()?;
+    add(keyed, Change::Created { after })
 }
 
 /// Adds the creations of entries.
@@ -28,10 +36,18 @@ fn add_creations(keyed: &mut Vec<KeyedChange>, init: &[LedgerEntry]) -> Result<(
     ensures { OnOk result (keyed.new.items ≡ keyed.old.items ++ map spec.creation init.now) }
 {
     for after in init {
-        let change = creation(after)?;
-        keyed.push(change)?;
+        add_creation(keyed, after)?;
     }
     Ok(())
+}
+
+/// The base's entry with the key of an entry.
+fn entry_before<B: Base>(base: &B, after: &LedgerEntry) -> Result<Option<LedgerEntry>, AllocError>
+    ensures found { IfOk result (λ before. before ≡ get (B.entries base.now) (key_of after.now)) }
+    ensures keyed { IfOk result (λ _. IsKeyed (B.entries base.now)) }
+{
+    let key = after.key()?;
+    base.find(&key)
 }
 
 /// Adds the update to an entry of the base's entry with its key, if the base has one.
@@ -44,16 +60,11 @@ fn add_update<B: Base>(
         ≡ keyed.old.items ++ option_to_list (spec.update_in (B.entries base.now) after.now)) }
     ensures keyed { OnOk result (IsKeyed (B.entries base.now)) }
 {
-    let key = after.key()?;
-    match base.find(&key)? {
+    match entry_before(base, after)? {
         None => Ok(()),
         Some(before) => {
-            let change = Change::Updated {
-                before,
-                after: after.copy()?,
-            };
-            keyed.push(KeyedChange { key, change })?;
-            Ok(())
+            let after = after.copy()?;
+            add(keyed, Change::Updated { before, after })
         }
     }
 }
@@ -86,12 +97,7 @@ fn add_removal<B: Base>(
 {
     match base.find(key)? {
         None => Ok(()),
-        Some(before) => {
-            let key = key.copy()?;
-            let change = Change::Removed { before };
-            keyed.push(KeyedChange { key, change })?;
-            Ok(())
-        }
+        Some(before) => add(keyed, Change::Removed { before }),
     }
 }
 

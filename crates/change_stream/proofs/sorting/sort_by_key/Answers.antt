@@ -1,5 +1,4 @@
-use Rattle.change_stream.proofs.Prelude.{KeyedChange, is_lt, key_cmp, keys_total}
-use Rattle.std.proofs.Common.{rules}
+use Rattle.change_stream.proofs.Prelude.{KeyedChange, is_lt, key_cmp, keys_total, rules}
 use Rattle.std.proofs.lemmas.List.Sorted.{answers_always, ranks_by}
 use Rattle.change_stream.proofs.sorting.sort_by_key.Goals as goal
 

@@ -7,6 +7,7 @@ ghost use Rattle.ledger_types.specs.Keys.{key_of};
 ghost use Rattle.entry_map.specs.EntryMap.{IsKeyed};
 ghost use Rattle.change_stream.specs.Changes.{IsBatchOver, AreChangesOf};
 ghost use Rattle.change_stream.specs.Making as spec;
+ghost use Rattle.change_stream.specs.declared.change.Change.TheVariants.{Updated};
 
 use crate::change::Change;
 use crate::sorting::{KeyedChange, sorted_changes};
@@ -50,6 +51,18 @@ fn entry_before<B: Base>(base: &B, after: &LedgerEntry) -> Result<Option<LedgerE
     base.find(&key)
 }
 
+/// Adds the update of an entry to another one.
+fn add_changed(
+    keyed: &mut Vec<KeyedChange>,
+    before: LedgerEntry,
+    after: &LedgerEntry,
+) -> Result<(), AllocError>
+    ensures { OnOk result (keyed.new.items ≡ keyed.old.items ++ spec.keyed (Updated before after.now) ∷ []) }
+{
+    let after = after.copy()?;
+    add(keyed, Change::Updated { before, after })
+}
+
 /// Adds the update to an entry of the base's entry with its key, if the base has one.
 fn add_update<B: Base>(
     keyed: &mut Vec<KeyedChange>,
@@ -62,10 +75,7 @@ fn add_update<B: Base>(
 {
     match entry_before(base, after)? {
         None => Ok(()),
-        Some(before) => {
-            let after = after.copy()?;
-            add(keyed, Change::Updated { before, after })
-        }
+        Some(before) => add_changed(keyed, before, after),
     }
 }
 

@@ -12,10 +12,27 @@ use std::alloc::{AllocError, Global};
 use std::cmp::Ordering;
 
 /// A change beside its key, so that the key isn't made at each comparison.
-#[derive(Drop)]
 pub(crate) struct KeyedChange {
     pub(crate) key: LedgerKey,
     pub(crate) change: Change,
+}
+
+impl Drop for KeyedChange {
+    fn drop(self) {
+        let KeyedChange { key, change } = self;
+        drop(key);
+        drop(change);
+    }
+}
+
+impl KeyedChange {
+    /// The change alone.
+    fn into_change(self) -> Change
+        ensures { result ≡ self.change }
+    {
+        let KeyedChange { key: _, change } = self;
+        change
+    }
 }
 
 /// The order of the keys of two changes.
@@ -40,8 +57,7 @@ fn without_keys(alloc: Global, keyed: Vec<KeyedChange>) -> Result<Vec<Change>, A
 {
     let mut changes = Vec::with_capacity(alloc, keyed.len())?;
     for item in keyed {
-        let KeyedChange { key: _, change } = item;
-        changes.push(change)?;
+        changes.push(item.into_change())?;
     }
     Ok(changes)
 }

@@ -51,7 +51,8 @@ module _ (h : History) (before : Hash) (first : ℕ) (headers : List HeaderFact)
 -- ---- reading the files
 
 pub screened_of : (read : Position → Reading XdrFault RecordFact) (file slice : List ℕ)
-    (heads slice_heads : List HeaderFact) (sorted slice_sorted : List ℕ) (s : Screened) → slice ≡ file → slice_heads ≡ heads → slice_sorted ≡ sorted
+    (heads slice_heads : List HeaderFact) (sorted slice_sorted : List ℕ) (s : Screened)
+    → slice ≡ file → slice_heads ≡ heads → slice_sorted ≡ sorted
     → AreNumbersOf sorted slice_heads
     → ((hs : List HeaderFact) → AreNumbersOf slice_sorted hs → IsScreenedFile read slice hs s)
     → IsScreenedFile read file heads s

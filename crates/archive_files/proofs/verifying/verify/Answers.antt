@@ -24,7 +24,8 @@ pub judge-requires-clause-count : goal.judge-requires-clause-count
 judge-requires-clause-count c =
     let few = few_records ledger_header_history_entry header_fact c.in-Ok.headers.items c.as_slice.result.now
     c.in-Ok.ensures.facts in
-    let len : length c.as_slice.result.now ≡ length c.args.history.now.headers = ap (λ l. length l) c.as_slice.ensures in
+    let len : length c.as_slice.result.now ≡ length c.args.history.now.headers =
+    ap (λ l. length l) c.as_slice.ensures in
     let same : length c.as_slice-7.result.now ≡ length c.in-Ok.headers.items =
     ap (λ l. length l) c.as_slice-7.ensures.value in
     omega (arith, few, len, same, c.requires)

@@ -10,7 +10,8 @@ loop-key-preserved g c =
     record {
       items = filtered_more c.args.dead.now c.loop-key.key-index c.key-item.result c.args.keyed.now.items now next
           c.loop-key-test.true (removal_in base) c.loop-key.invariant.items
-          (subst (λ x. next ≡ now ++ option_to_list (removal_in base x)) c.key-item.is c.in_ok-add_removal.ensures.items);
+          (subst (λ x. next ≡ now ++ option_to_list (removal_in base x)) c.key-item.is
+          c.in_ok-add_removal.ensures.items);
       keyed = inr c.in_ok-add_removal.ensures.keyed;
     }
 

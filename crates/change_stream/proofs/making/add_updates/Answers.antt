@@ -10,7 +10,8 @@ loop-after-preserved g c =
     record {
       items = filtered_more c.args.live.now c.loop-after.after-index c.after-item.result c.args.keyed.now.items now next
           c.loop-after-test.true (update_in base) c.loop-after.invariant.items
-          (subst (λ x. next ≡ now ++ option_to_list (update_in base x)) c.after-item.is c.in_ok-add_update.ensures.items);
+          (subst (λ x. next ≡ now ++ option_to_list (update_in base x)) c.after-item.is
+          c.in_ok-add_update.ensures.items);
       keyed = inr c.in_ok-add_update.ensures.keyed;
     }
 

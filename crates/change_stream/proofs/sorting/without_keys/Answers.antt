@@ -20,5 +20,6 @@ pub returns : goal.returns
 returns c =
     let done = c.loop-item.yielded in
     let none : into_iter_items c.loop-item.item-iterator ≡ [] = grind (arith, common_steps, c.in-None.ensures.steps) in
-    let all : done ≡ c.args.keyed.items = sym (ap (λ l. done ++ l) none ∙ append-nil done) ∙ c.loop-item.invariant.left in
+    let all : done ≡ c.args.keyed.items =
+    sym (ap (λ l. done ++ l) none ∙ append-nil done) ∙ c.loop-item.invariant.left in
     c.loop-item.invariant.made ∙ ap (map (λ (k : KeyedChange). k.change)) all

@@ -59,7 +59,8 @@ int_le_false x y test = grind (arith, ints)
 greater : (least : Option ℤ) (last n : ℤ) → last ≢ greatest_i64 → checks.is_bad_seq_after least last n ≡ false
     → (last <ℤ n) × (last ≤ℤ greatest_i64 → n ≤ℤ greatest_i64)
 greater None last n apart good =
-    next_is_greater last n greatest_i64 apart (int_eq_true n (last +ℤ pos 1) (not_false (int_eq n (last +ℤ pos 1)) good))
+    next_is_greater last n greatest_i64 apart
+    (int_eq_true n (last +ℤ pos 1) (not_false (int_eq n (last +ℤ pos 1)) good))
 greater (Some least) last n apart good =
     let parts = neither (int_lt last least || int_le n last) (int_lt greatest_i64 n) good in
     let first = neither (int_lt last least) (int_le n last) parts.0 in

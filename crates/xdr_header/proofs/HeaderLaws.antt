@@ -1,10 +1,9 @@
--- The laws of the formats of headers, values and records.
+-- The laws of the formats of headers and values.
 use Rattle.xdr_header.proofs.Prelude.{pos, refl, arith, Laws, written, u32_laws, u64_laws, i64_laws, var_laws, ◌&◌}
 use Rattle.xdr_header.proofs.Prelude.{struct_laws, entire_laws, closed_laws, tag_laws, list_laws, times_laws, arm_laws}
 use Rattle.xdr_header.proofs.Prelude.{found, union_laws, extension_laws, var}
 use Rattle.xdr_core.proofs.Unions.{IsFound}
 use Rattle.xdr_entries.proofs.BasicLaws.{hash_laws, account_id_laws}
-use Rattle.xdr_tx.proofs.TransactionLaws.{transaction_set_laws}
 use Rattle.ledger_types.specs.declared.header.LedgerUpgrade.{LedgerUpgrade}
 use Rattle.ledger_types.specs.declared.header.LedgerUpgrade.TheVariants as upgrade
 use Rattle.xdr_header.specs.Header.{value_signature_fields, ledger_close_value_signature, value_fields, stellar_value}
@@ -12,7 +11,6 @@ use Rattle.xdr_header.specs.Header.{upgrade_version, upgrade_base_fee, upgrade_m
 use Rattle.xdr_header.specs.Header.{upgrade_flags, upgrade_arms, upgrade_part, ledger_upgrade, header_v1_fields}
 use Rattle.xdr_header.specs.Header.{ledger_header_extension_v1, limits_fields, limits, counts_fields, counts}
 use Rattle.xdr_header.specs.Header.{header_fields, ledger_header}
-use Rattle.xdr_header.specs.Records.{record_fields, close_record}
 
 pub ledger_close_value_signature_laws : Laws ledger_close_value_signature
 unfolding ledger_close_value_signature
@@ -70,11 +68,6 @@ pub ledger_header_laws : Laws ledger_header
 unfolding ledger_header
 ledger_header_laws = struct_laws header_fields
     (u32_laws & hash_laws & entire_laws stellar_value_laws & hash_laws & hash_laws & counts_laws)
-
-pub close_record_laws : Laws close_record
-unfolding close_record
-close_record_laws =
-    struct_laws record_fields (u32_laws & entire_laws transaction_set_laws & entire_laws stellar_value_laws)
 
 -- what its writer goes by
 pub ruleset extension_written = (written, ledger_header_extension_v1_laws)

@@ -1,3 +1,4 @@
 pub mod Header
+pub mod Vouches
 pub mod Records
 pub mod Image

@@ -10,8 +10,9 @@ pub mod laws;
 mod record;
 mod starting;
 mod value;
+mod vouch;
 
-pub use closing::{read_close_record, write_close_record};
+pub use closing::{FORM_2, read_close_record, write_close_record};
 pub use header::{
     read_ledger_header, read_ledger_header_extension_v1, write_ledger_header,
     write_ledger_header_extension_v1,
@@ -23,3 +24,4 @@ pub use value::{
     read_ledger_close_value_signature, read_ledger_upgrade, read_stellar_value,
     write_ledger_close_value_signature, write_ledger_upgrade, write_stellar_value,
 };
+pub use vouch::{VouchFormat, read_vouch, write_vouch};

@@ -19,7 +19,7 @@ use Rattle.close_laws.proofs.ShortEntries.{u64_of}
 
 pub set_encoded : (closing : CloseRecord) → IsEncoded close_record closing → IsEncoded transaction_set closing.tx_set
 unfolding close_record
-set_encoded closing encoded = record { within = encoded.within.1.0; sized = encoded.sized.1.0 }
+set_encoded closing encoded = record { within = encoded.within.1.1.0; sized = encoded.sized.1.0 }
 
 value_time : (value : StellarValue) → stellar_value.sized value → value.close_time < 18446744073709551616
 unfolding stellar_value
@@ -29,7 +29,7 @@ value_time value sized = u64_of value.close_time sized.1.0
 pub time_fits : (closing : CloseRecord) → IsEncoded close_record closing
     → closing.scp_value.close_time < 18446744073709551616
 unfolding close_record
-time_fits closing encoded = value_time closing.scp_value encoded.sized.1.1
+time_fits closing encoded = value_time closing.scp_value encoded.sized.1.1.0
 
 txs_encoded : (set : TransactionSet) → IsEncoded transaction_set set
     → IsEncoded (list_of 4294967295 transaction_envelope) set.txs

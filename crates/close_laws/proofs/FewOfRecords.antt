@@ -3,7 +3,9 @@ use Rattle.close_laws.proofs.Prelude.{◌≡◌, ℕ, ◌≤◌, List, [], ◌�
 use Rattle.close_laws.proofs.Prelude.{length-append, XdrFault, IsBytes, u32, Position, Reading, start_of, ◌>>=◌}
 use Rattle.close_laws.proofs.Prelude.{transaction_set, CloseRecord, stellar_value, close_record, close_record_laws}
 use Rattle.close_laws.proofs.Prelude.{ended_by, ended, record_in}
+use Rattle.close_rules.specs.xdr_header.Records.{record_head, vouches_if}
 use Rattle.close_rules.proofs.tx_apply_proofs.FewOperations.{few_transactions}
+use Rattle.std.specs.Prelude.{is_some}
 
 -- ---- the bytes of a record are its encoding
 
@@ -39,8 +41,9 @@ middle first part last = omega (arith, length-append first (part ++ last), lengt
 set_len : (closing : CloseRecord)
     → length (transaction_set.encoding closing.tx_set) ≤ length (close_record.encoding closing)
 unfolding close_record
-set_len closing = middle (u32.encoding closing.ledger_seq) (transaction_set.encoding closing.tx_set)
-    (stellar_value.encoding closing.scp_value)
+set_len closing = middle (record_head.encoding (closing.ledger_seq, is_some closing.vouches))
+    (transaction_set.encoding closing.tx_set)
+    (stellar_value.encoding closing.scp_value ++ (vouches_if (is_some closing.vouches)).encoding closing.vouches)
 
 pub record_few : {most : ℕ} (bytes : List ℕ) (closing : CloseRecord) → IsBytes bytes → record_in bytes ≡ Ok closing
     → length bytes ≤ most → length closing.tx_set.txs ≤ most

@@ -61,7 +61,7 @@ read_fits bytes encoded = reading_fits bytes (ledger_upgrade.read (start_of byte
 
 value_encoded : (closing : CloseRecord) → IsEncoded close_record closing → IsEncoded stellar_value closing.scp_value
 unfolding close_record
-value_encoded closing encoded = record { within = encoded.within.1.1; sized = encoded.sized.1.1 }
+value_encoded closing encoded = record { within = encoded.within.1.1.1.0; sized = encoded.sized.1.1.0 }
 
 upgrades_encoded : (value : StellarValue) → IsEncoded stellar_value value
     → IsEncoded (list_of 6 (var 128)) value.upgrades

@@ -38,8 +38,8 @@ pub use Rattle.close_rules.proofs.ledger_types_proofs.Arithmetic.{natural_positi
 pub use Rattle.close_rules.proofs.ledger_types_proofs.KeyOrdering.{keys_exact, keys_total}
 pub use Rattle.close_rules.proofs.tx_apply_proofs.Conserving.{all_at}
 pub use Rattle.close_rules.proofs.tx_apply_proofs.Placed.{as_many, same_inside}
-pub use Rattle.close_rules.proofs.xdr_header_proofs.HeaderLaws.{close_record_laws, ledger_header_laws}
-pub use Rattle.close_rules.proofs.xdr_header_proofs.HeaderLaws.{ledger_upgrade_laws}
+pub use Rattle.close_rules.proofs.xdr_header_proofs.HeaderLaws.{ledger_header_laws, ledger_upgrade_laws}
+pub use Rattle.close_rules.proofs.xdr_header_proofs.RecordLaws.{close_record_laws}
 pub use Rattle.close_rules.specs.Close.{IsClose, IsClosed, PreparedClose, applied_in, filled_header, setting_in}
 pub use Rattle.close_rules.specs.Close.{upgraded_header}
 pub use Rattle.close_rules.specs.EntryRules.{IsFirstBroken, entry_rules}

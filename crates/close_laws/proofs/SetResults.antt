@@ -372,12 +372,16 @@ unfolding envelope_applied
 envelope_answers laws setting id_pool (envelope.V0 signed) m few may = plain_outcome outcome.NotSupported not_supported
 envelope_answers laws setting id_pool (envelope.V1 signed) m few may =
     plain_outcome _ (transaction_plain laws true setting.header.base_fee (ctx_in setting id_pool (envelope.V1 signed))
-    (signed_hash_of setting.network (envelope.V1 signed)) (all_held signed.signatures) signed.tx m few
+    (signed_hash_of setting.network (envelope.V1 signed))
+    (all_held (signed_hash_of setting.network (envelope.V1 signed)) setting.vouches signed.signatures) signed.tx m few
     (begun_v1 setting id_pool signed m may))
 envelope_answers laws setting id_pool (envelope.FeeBump signed) m few may =
     bump_answers laws setting.header.base_fee (ctx_in setting id_pool (envelope.FeeBump signed))
-    (bump.signed_by (signed_hash_of setting.network (envelope.FeeBump signed)) (all_held signed.signatures)
-    (transaction_hash_of setting.network signed.tx.inner_tx.tx) (all_held signed.tx.inner_tx.signatures)) signed.tx
+    (bump.signed_by (signed_hash_of setting.network (envelope.FeeBump signed))
+    (all_held (signed_hash_of setting.network (envelope.FeeBump signed)) setting.vouches signed.signatures)
+    (transaction_hash_of setting.network signed.tx.inner_tx.tx)
+    (all_held (transaction_hash_of setting.network signed.tx.inner_tx.tx) setting.vouches
+    signed.tx.inner_tx.signatures)) signed.tx
     (hash_len _) few m (begun_bump setting id_pool signed m may)
 
 signed_hash_len : (network : Hash) (entire : TransactionEnvelope) → hash.within (signed_hash_of network entire)

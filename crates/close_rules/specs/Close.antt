@@ -14,7 +14,8 @@ use Rattle.bucket_levels.specs.Step.{IsStep}
 use Rattle.bucket_levels.specs.Hash.{list_hash}
 use Rattle.header_chain.specs.Upgrades.{upgrade_in, all_upgraded}
 use Rattle.header_chain.specs.SkipList.{finished}
-use Rattle.tx_apply.specs.Set.{Setting, setting_of, DoneSet, set_done, fee_pool_after}
+use Rattle.header_chain.specs.xdr_header.Records.{vouches_in}
+use Rattle.tx_apply.specs.Set.{Setting, DoneSet, set_done, fee_pool_after}
 use Rattle.close_rules.specs.declared.close_fault.CloseFault.{CloseFault}
 use Rattle.close_rules.specs.declared.close_fault.CloseFault.TheVariants as fault
 use Rattle.bucket_levels.specs.Size.{file_total}
@@ -29,7 +30,12 @@ pub record PreparedClose : Type 0 where
 -- ---- the set
 
 abbrev pub setting_in : ClosingState → CloseRecord → Setting
-setting_in s closing = setting_of s.network s.header closing.scp_value.close_time
+setting_in s closing = record {
+  network = s.network;
+  header = s.header;
+  close_time = closing.scp_value.close_time;
+  vouches = vouches_in closing.vouches;
+}
 
 -- what the set of a record does to the entries of a state
 abbrev pub applied_in : ClosingState → CloseRecord → DoneSet

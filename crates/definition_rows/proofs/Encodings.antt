@@ -10,7 +10,8 @@ use Rattle.xdr_entries.proofs.KeyLaws.{ledger_key_laws, bucket_entry_laws}
 use Rattle.xdr_tx.proofs.BodyLaws.{operation_laws}
 use Rattle.xdr_tx.proofs.TransactionLaws.{memo_laws, transaction_envelope_laws, transaction_set_laws}
 use Rattle.xdr_results.proofs.TransactionLaws.{transaction_result_set_laws}
-use Rattle.xdr_header.proofs.HeaderLaws.{ledger_header_laws, ledger_upgrade_laws, stellar_value_laws, close_record_laws}
+use Rattle.xdr_header.proofs.HeaderLaws.{ledger_header_laws, ledger_upgrade_laws, stellar_value_laws}
+use Rattle.xdr_header.proofs.RecordLaws.{close_record_laws}
 use Rattle.xdr_header.proofs.ImageLaws.{start_image_laws}
 use Rattle.definition_rows.proofs.Readings.{has_value, BeginsWithEncoding, encoded}
 

@@ -30,7 +30,7 @@ use prelude.{operation_result, inner_transaction_outcome, inner_transaction_resu
 use prelude.{transaction_outcome, transaction_result, transaction_result_pair, transaction_result_set}
 use prelude.{ledger_close_value_signature, stellar_value, ledger_upgrade, ledger_header_extension_v1, limits, counts}
 use prelude.{ledger_header, close_record, file, files, start_image, sha256, first_words, schedule, rounds, compress}
-use prelude.{hash_after, digest_bytes}
+use prelude.{hash_after, digest_bytes, vouch}
 
 -- the formats of RFC 4506, and those that are made of others
 unfoldable pub core_formats : ⊤
@@ -78,7 +78,7 @@ results_formats = tt
 -- headers, upgrades, close records and start images
 unfoldable pub headers_formats : ⊤
 unfolding transactions_formats ledger_close_value_signature stellar_value ledger_upgrade ledger_header_extension_v1
-    limits counts ledger_header close_record file files start_image
+    limits counts ledger_header vouch close_record file files start_image
 headers_formats = tt
 
 -- SHA-256

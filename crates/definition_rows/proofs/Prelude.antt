@@ -58,6 +58,7 @@ unfoldable pub use Rattle.xdr_header.specs.Header.{counts, ledger_close_value_si
 unfoldable pub use Rattle.xdr_header.specs.Header.{ledger_header_extension_v1, ledger_upgrade, limits, stellar_value}
 unfoldable pub use Rattle.xdr_header.specs.Image.{file, files, start_image}
 unfoldable pub use Rattle.xdr_header.specs.Records.{close_record}
+unfoldable pub use Rattle.xdr_header.specs.Vouches.{vouch}
 unfoldable pub use Rattle.xdr_results.specs.Answers.{account_merge_result, allow_trust_result}
 unfoldable pub use Rattle.xdr_results.specs.Answers.{begin_sponsoring_future_reserves_result, bump_sequence_result}
 unfoldable pub use Rattle.xdr_results.specs.Answers.{change_trust_result, claim_atom, claim_claimable_balance_result}

@@ -226,7 +226,7 @@ upgraded_by s closing (Err wrong) none is =
 pub upgrades_few : (closing : CloseRecord) → IsEncoded close_record closing
     → length closing.scp_value.upgrades < 4294967296
 unfolding close_record stellar_value list
-upgrades_few closing encoded = omega (arith, encoded.within.1.1.1.1.0.0)
+upgrades_few closing encoded = omega (arith, encoded.within.1.1.1.0.1.1.0.0)
 
 -- no fault of a record is one of its bytes
 pub of_bytes : (s : ClosingState) (closing : CloseRecord) (at : ℕ) (kind : XdrKind)

@@ -9,7 +9,7 @@ ghost use Rattle.ledger_close.specs.Answers as answer;
 ghost use Rattle.ledger_close.specs.Worked as spec;
 
 use crate::ledger::Ledger;
-use close_laws::tx_apply::{SetDone, SetFault, apply_set_in_order};
+use close_laws::tx_apply::{SetDone, SetFault, Setting, VouchIndex, apply_set_in_order};
 use close_rules::CloseFault;
 use entry_map::{Batch, Entries};
 use entry_table::EntryTable;
@@ -45,15 +45,14 @@ impl Ledger {
     {
         let alloc = closing.tx_set.txs.allocator();
         let mut entries = Entries::new(alloc, &self.entries)?;
-        let close_time = closing.scp_value.close_time;
-        let done = match apply_set_in_order(
-            &mut entries,
-            &self.header,
-            close_time,
-            &self.network,
-            &closing.tx_set,
-            order,
-        ) {
+        let vouches = VouchIndex::new(alloc, closing.vouched())?;
+        let setting = Setting {
+            network: &self.network,
+            header: &self.header,
+            close_time: closing.scp_value.close_time,
+            vouches: &vouches,
+        };
+        let done = match apply_set_in_order(&mut entries, &setting, &closing.tx_set, order) {
             Ok(done) => done,
             Err(fault) => return Err(fault_of(fault)),
         };

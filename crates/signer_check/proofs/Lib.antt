@@ -1,5 +1,8 @@
 pub mod Needs
-pub mod Own
 pub mod Indices
 pub mod Turns
+pub mod Uses
+pub mod KindsCounted
+pub mod Grouped
+pub mod Own
 mod Prelude

@@ -11,7 +11,7 @@ pub use Rattle.ledger_types.specs.declared.signer.Signer.{Signer}
 pub use Rattle.ledger_types.specs.declared.signer.SignerKey.TheVariants.{Ed25519}
 pub use Rattle.signer_check.specs.Progress.{left_after, left_of, missing_after, missing_with}
 pub use Rattle.signer_check.specs.Weight.{Counted, Match, after, counted, counted_by_hash, held, is_authorised}
-pub use Rattle.signer_check.specs.Weight.{matches_key, signers_of, weight_of}
+pub use Rattle.signer_check.specs.Weight.{matches_key, used_by, weight_of}
 unfoldable pub use Rattle.signer_check.specs.Weight.{counted_by_signatures, first_match, reaches, until_reached}
 unfoldable pub use Rattle.signer_check.specs.Weight.{used_at, used_for}
 pub use Rattle.signer_check.specs.declared.held.HeldSignature.{HeldSignature}

@@ -1,3 +1,4 @@
 pub mod Checks
 pub mod Progress
 pub mod Weight
+pub mod Groups

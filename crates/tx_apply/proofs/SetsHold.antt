@@ -166,9 +166,14 @@ module _ (v : Invariant) where
         (record { 0 = signed.tx.source_account_ed25519 }) signed.tx.operations m holds
     envelope_holds setting id_pool (envelope.V1 signed) m begun =
         transaction_holds true setting.header.base_fee (ctx_in setting id_pool (envelope.V1 signed))
-        (signed_hash_of setting.network (envelope.V1 signed)) (all_held signed.signatures) signed.tx m begun
+        (signed_hash_of setting.network (envelope.V1 signed))
+        (all_held (signed_hash_of setting.network (envelope.V1 signed)) setting.vouches signed.signatures) signed.tx m
+        begun
     envelope_holds setting id_pool (envelope.FeeBump signed) m begun =
         bump_holds setting.header.base_fee (ctx_in setting id_pool (envelope.FeeBump signed))
-        (bump.signed_by (signed_hash_of setting.network (envelope.FeeBump signed)) (all_held signed.signatures)
-        (transaction_hash_of setting.network signed.tx.inner_tx.tx) (all_held signed.tx.inner_tx.signatures)) signed.tx
+        (bump.signed_by (signed_hash_of setting.network (envelope.FeeBump signed))
+        (all_held (signed_hash_of setting.network (envelope.FeeBump signed)) setting.vouches signed.signatures)
+        (transaction_hash_of setting.network signed.tx.inner_tx.tx)
+        (all_held (transaction_hash_of setting.network signed.tx.inner_tx.tx) setting.vouches
+        signed.tx.inner_tx.signatures)) signed.tx
         m begun

@@ -107,10 +107,15 @@ module _ (laws : TransactionLaws) where
       signed.tx m settled
   envelope_sound setting id_pool (envelope.V1 signed) m settled seq fit =
       transaction_sound true setting.header.base_fee (ctx_in setting id_pool (envelope.V1 signed))
-      (signed_hash_of setting.network (envelope.V1 signed)) (all_held signed.signatures) signed.tx m settled refl seq
+      (signed_hash_of setting.network (envelope.V1 signed))
+      (all_held (signed_hash_of setting.network (envelope.V1 signed)) setting.vouches signed.signatures) signed.tx m
+      settled refl seq
       fit
   envelope_sound setting id_pool (envelope.FeeBump signed) m settled seq fit =
       bump_sound setting.header.base_fee (ctx_in setting id_pool (envelope.FeeBump signed))
-      (bump.signed_by (signed_hash_of setting.network (envelope.FeeBump signed)) (all_held signed.signatures)
-      (transaction_hash_of setting.network signed.tx.inner_tx.tx) (all_held signed.tx.inner_tx.signatures)) signed.tx
+      (bump.signed_by (signed_hash_of setting.network (envelope.FeeBump signed))
+      (all_held (signed_hash_of setting.network (envelope.FeeBump signed)) setting.vouches signed.signatures)
+      (transaction_hash_of setting.network signed.tx.inner_tx.tx)
+      (all_held (transaction_hash_of setting.network signed.tx.inner_tx.tx) setting.vouches
+      signed.tx.inner_tx.signatures)) signed.tx
       refl seq fit m settled

@@ -15,7 +15,9 @@ use Rattle.op_types.specs.declared.transaction_result.TransactionOutcome.{Transa
 use Rattle.op_types.specs.declared.transaction_result.TransactionResultPair.{TransactionResultPair}
 use Rattle.entry_map.specs.EntryMap.{EntryMap}
 use Rattle.entry_map.specs.Undo.{Undo, with_current}
+use Rattle.op_types.specs.declared.vouch.Vouch.{Vouch}
 use Rattle.tx_apply.specs.declared.set.SetDone.{SetDone}
+use Rattle.tx_apply.specs.declared.setting.Setting.{Setting as SettingOfCall}
 use Rattle.tx_apply.specs.declared.fault.SetFault.{SetFault}
 use Rattle.tx_apply.specs.declared.fault.SetFault.TheVariants as fault
 use Rattle.entry_slots.specs.Accounts.{account_at}
@@ -36,14 +38,21 @@ use Rattle.tx_apply.specs.Fees.{FeesTaken, fees_taken, sum_of}
 
 -- ---- what a set closes over
 
--- the network, the header of the ledger before, and the time at which the set closes
+-- the network, the header of the ledger before, the time at which the set closes, and what is vouched for
 pub record Setting : Type 0 where
   pub network : Hash
   pub header : LedgerHeader
   pub close_time : ℕ
+  pub vouches : List Vouch
 
-abbrev pub setting_of : Hash → LedgerHeader → ℕ → Setting
-setting_of network header close_time = record { network = network; header = header; close_time = close_time }
+-- the setting that calls are given
+abbrev pub setting_of : SettingOfCall → Setting
+setting_of setting = record {
+  network = setting.network.now;
+  header = setting.header.now;
+  close_time = setting.close_time;
+  vouches = setting.vouches.now;
+}
 
 -- the context of a transaction before its operations
 abbrev pub ctx_in : Setting → (id_pool : ℕ) → TransactionEnvelope → Ctx
@@ -51,32 +60,32 @@ ctx_in setting id_pool entire = ctx_of setting.header setting.close_time id_pool
 
 -- ---- one envelope
 
--- signatures before any check
-abbrev pub all_held : List DecoratedSignature → List HeldSignature
-all_held signatures = map held signatures
+-- signatures over a hash, before any check
+abbrev pub all_held : Hash → List Vouch → List DecoratedSignature → List HeldSignature
+all_held hash vouches signatures = map (held hash vouches) signatures
 
-abbrev pub v1_applied : (base_fee : ℕ) → Ctx → Hash → TransactionV1Envelope → EntryMap → Applied
-v1_applied base_fee ctx hash signed m =
-    transaction_applied true base_fee ctx hash (all_held signed.signatures) signed.tx m
+abbrev pub v1_applied : Setting → Ctx → Hash → TransactionV1Envelope → EntryMap → Applied
+v1_applied setting ctx hash signed m =
+    transaction_applied true setting.header.base_fee ctx hash (all_held hash setting.vouches signed.signatures)
+    signed.tx m
 
-abbrev pub fee_bump_applied : (network : Hash) → (base_fee : ℕ) → Ctx → Hash → FeeBumpTransactionEnvelope → EntryMap
-    → Applied
-fee_bump_applied network base_fee ctx hash signed m =
-    bump_applied base_fee ctx
-    (signed_by hash (all_held signed.signatures) (transaction_hash_of network signed.tx.inner_tx.tx)
-    (all_held signed.tx.inner_tx.signatures)) signed.tx m
+abbrev pub fee_bump_applied : Setting → Ctx → Hash → FeeBumpTransactionEnvelope → EntryMap → Applied
+fee_bump_applied setting ctx hash signed m =
+    let inner = transaction_hash_of setting.network signed.tx.inner_tx.tx in
+    bump_applied setting.header.base_fee ctx
+    (signed_by hash (all_held hash setting.vouches signed.signatures) inner
+    (all_held inner setting.vouches signed.tx.inner_tx.signatures)) signed.tx m
 
 -- by the kind of the envelope, with the hash that its signatures are made over
-abbrev pub envelope_by : (network : Hash) → (base_fee : ℕ) → Ctx → Hash → TransactionEnvelope → EntryMap → Applied
-envelope_by network base_fee ctx hash (envelope.V0 signed) m = v0_applied ctx hash signed.tx m
-envelope_by network base_fee ctx hash (envelope.V1 signed) m = v1_applied base_fee ctx hash signed m
-envelope_by network base_fee ctx hash (envelope.FeeBump signed) m = fee_bump_applied network base_fee ctx hash signed m
+abbrev pub envelope_by : Setting → Ctx → Hash → TransactionEnvelope → EntryMap → Applied
+envelope_by setting ctx hash (envelope.V0 signed) m = v0_applied ctx hash signed.tx m
+envelope_by setting ctx hash (envelope.V1 signed) m = v1_applied setting ctx hash signed m
+envelope_by setting ctx hash (envelope.FeeBump signed) m = fee_bump_applied setting ctx hash signed m
 
 -- one transaction, over the entries and ids that those before it left
 unfoldable pub envelope_applied : Setting → (id_pool : ℕ) → TransactionEnvelope → EntryMap → Applied
 envelope_applied setting id_pool entire m =
-    envelope_by setting.network setting.header.base_fee (ctx_in setting id_pool entire)
-    (signed_hash_of setting.network entire) entire m
+    envelope_by setting (ctx_in setting id_pool entire) (signed_hash_of setting.network entire) entire m
 
 -- ---- all of them
 

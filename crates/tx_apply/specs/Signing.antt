@@ -13,7 +13,7 @@ use Rattle.op_types.specs.declared.operation_result.OperationResult.TheVariants.
 use Rattle.entry_map.specs.EntryMap.{EntryMap}
 use Rattle.entry_slots.specs.Accounts.{account_at}
 use Rattle.signer_check.specs.declared.held.HeldSignature.{HeldSignature}
-use Rattle.signer_check.specs.Weight.{succeeds, after_check}
+use Rattle.signer_check.specs.Weight.{succeeds, after_check, lone_succeeds, after_lone}
 use Rattle.op_form.specs.declared.levels.ThresholdLevel.{ThresholdLevel}
 use Rattle.op_form.specs.Levels.{level_of, threshold_at}
 use Rattle.op_form.specs.DefaultResults.{default_result}
@@ -25,17 +25,20 @@ pub record Auth : Type 0 where
   pub passes : Bool
   pub signatures : List HeldSignature
 
--- An account that doesn't exist is checked as one Ed25519 signer of weight 1, which no signature matches.
-abbrev pub auth_by : Hash → ThresholdLevel → List HeldSignature → Option AccountEntry → Auth
-auth_by hash level signatures None = record { passes = false; signatures = signatures }
-auth_by hash level signatures (Some account) = record {
+-- An account that doesn't exist is checked as its own key alone, at any threshold.
+abbrev pub auth_by : Hash → ThresholdLevel → List HeldSignature → AccountId → Option AccountEntry → Auth
+auth_by hash level signatures id None = record {
+  passes = lone_succeeds hash signatures id;
+  signatures = after_lone hash signatures id;
+}
+auth_by hash level signatures id (Some account) = record {
   passes = succeeds hash signatures account (threshold_at level account);
   signatures = after_check hash signatures account (threshold_at level account);
 }
 
 -- the check of an account, by its id
 abbrev pub auth_of : Hash → ThresholdLevel → List HeldSignature → EntryMap → AccountId → Auth
-auth_of hash level signatures m id = auth_by hash level signatures (account_at m id)
+auth_of hash level signatures m id = auth_by hash level signatures id (account_at m id)
 
 -- every signature was used by some check
 abbrev pub are_used : List HeldSignature → Bool

@@ -12,11 +12,12 @@ ghost use Rattle.tx_apply.specs.Set as spec;
 
 use crate::contexts::ctx_of;
 use crate::fee_bump::apply_fee_bump;
+use crate::setting::Setting;
 use crate::transaction::{apply_transaction, apply_v0};
 use entry_map::{Base, Entries};
 use fee_rules::{seq_num, source};
 use item_list::ItemList;
-use ledger_types::{Hash, LedgerHeader};
+use ledger_types::Hash;
 use op_types::{
     FeeBumpTransactionEnvelope, TransactionEnvelope, TransactionOutcome, TransactionResult,
     TransactionResultPair, TransactionV1Envelope,
@@ -30,7 +31,7 @@ use value_hashes::{signed_hash, transaction_hash};
 #[tactic(auto, unfolding(xdr_tx::specs::Transactions::transaction_v1_envelope))]
 fn apply_v1_envelope<B: Base>(
     alloc: Global,
-    base_fee: u32,
+    setting: &Setting<'_>,
     ctx: &mut Ctx,
     hash: &Hash,
     envelope: &TransactionV1Envelope,
@@ -43,16 +44,17 @@ fn apply_v1_envelope<B: Base>(
     requires fit { AreFit envelope.now.tx.operations }
     requires ids { CanDraw 100 ctx.old.id_pool }
     ensures outcome { IfOk result (λ outcome. outcome ≡
-        (spec.v1_applied base_fee ctx.old hash.now envelope.now entries.old.current).outcome) }
+        (spec.v1_applied (spec.setting_of setting.now) ctx.old hash.now envelope.now entries.old.current).outcome) }
     ensures entries { OnOk result (entries.new ≡ with_current entries.old
-        (spec.v1_applied base_fee ctx.old hash.now envelope.now entries.old.current).entries) }
+        (spec.v1_applied (spec.setting_of setting.now) ctx.old hash.now envelope.now entries.old.current).entries) }
     ensures id_pool { OnOk result (ctx.new.id_pool ≡
-        (spec.v1_applied base_fee ctx.old hash.now envelope.now entries.old.current).id_pool) }
+        (spec.v1_applied (spec.setting_of setting.now) ctx.old hash.now envelope.now entries.old.current).id_pool) }
 {
-    let mut checker = Checker::new(alloc, hash, envelope.signatures.as_slice())?;
+    let signatures = envelope.signatures.as_slice();
+    let mut checker = Checker::over(alloc, hash, signatures, setting.vouches)?;
     apply_transaction(
         true,
-        base_fee,
+        setting.header.base_fee,
         ctx,
         &mut checker,
         hash,
@@ -65,8 +67,7 @@ fn apply_v1_envelope<B: Base>(
 #[tactic(auto, unfolding(xdr_tx::specs::Transactions::fee_bump_envelope))]
 fn apply_fee_bump_envelope<B: Base>(
     alloc: Global,
-    network: &Hash,
-    base_fee: u32,
+    setting: &Setting<'_>,
     ctx: &mut Ctx,
     hash: &Hash,
     envelope: &FeeBumpTransactionEnvelope,
@@ -79,21 +80,22 @@ fn apply_fee_bump_envelope<B: Base>(
     requires fit { AreFit envelope.now.tx.inner_tx.tx.operations }
     requires ids { CanDraw 100 ctx.old.id_pool }
     ensures outcome { IfOk result (λ outcome. outcome ≡
-        (spec.fee_bump_applied network.now base_fee ctx.old hash.now envelope.now entries.old.current).outcome) }
+        (spec.fee_bump_applied (spec.setting_of setting.now) ctx.old hash.now envelope.now
+        entries.old.current).outcome) }
     ensures entries { OnOk result (entries.new ≡ with_current entries.old
-        (spec.fee_bump_applied network.now base_fee ctx.old hash.now envelope.now entries.old.current).entries) }
+        (spec.fee_bump_applied (spec.setting_of setting.now) ctx.old hash.now envelope.now
+        entries.old.current).entries) }
     ensures id_pool { OnOk result (ctx.new.id_pool ≡
-        (spec.fee_bump_applied network.now base_fee ctx.old hash.now envelope.now entries.old.current).id_pool) }
+        (spec.fee_bump_applied (spec.setting_of setting.now) ctx.old hash.now envelope.now
+        entries.old.current).id_pool) }
 {
-    let inner_hash = transaction_hash(alloc, network, &envelope.tx.inner_tx)?;
-    let mut outer = Checker::new(alloc, hash, envelope.signatures.as_slice())?;
-    let mut inner = Checker::new(
-        alloc,
-        &inner_hash,
-        envelope.tx.inner_tx.signatures.as_slice(),
-    )?;
+    let inner_hash = transaction_hash(alloc, setting.network, &envelope.tx.inner_tx)?;
+    let signatures = envelope.signatures.as_slice();
+    let inner_signatures = envelope.tx.inner_tx.signatures.as_slice();
+    let mut outer = Checker::over(alloc, hash, signatures, setting.vouches)?;
+    let mut inner = Checker::over(alloc, &inner_hash, inner_signatures, setting.vouches)?;
     apply_fee_bump(
-        base_fee,
+        setting.header.base_fee,
         ctx,
         hash,
         &mut outer,
@@ -108,8 +110,7 @@ fn apply_fee_bump_envelope<B: Base>(
 #[tactic(auto, unfolding(xdr_tx::specs::Transactions::transaction_envelope))]
 fn apply_envelope<B: Base>(
     alloc: Global,
-    network: &Hash,
-    base_fee: u32,
+    setting: &Setting<'_>,
     ctx: &mut Ctx,
     hash: &Hash,
     envelope: &TransactionEnvelope,
@@ -122,19 +123,19 @@ fn apply_envelope<B: Base>(
     requires fit { AreFit (operations_of envelope.now) }
     requires ids { CanDraw 100 ctx.old.id_pool }
     ensures outcome { IfOk result (λ outcome. outcome ≡
-        (spec.envelope_by network.now base_fee ctx.old hash.now envelope.now entries.old.current).outcome) }
+        (spec.envelope_by (spec.setting_of setting.now) ctx.old hash.now envelope.now entries.old.current).outcome) }
     ensures entries { OnOk result (entries.new ≡ with_current entries.old
-        (spec.envelope_by network.now base_fee ctx.old hash.now envelope.now entries.old.current).entries) }
+        (spec.envelope_by (spec.setting_of setting.now) ctx.old hash.now envelope.now entries.old.current).entries) }
     ensures id_pool { OnOk result (ctx.new.id_pool ≡
-        (spec.envelope_by network.now base_fee ctx.old hash.now envelope.now entries.old.current).id_pool) }
+        (spec.envelope_by (spec.setting_of setting.now) ctx.old hash.now envelope.now entries.old.current).id_pool) }
 {
     match envelope {
         TransactionEnvelope::V0(envelope) => apply_v0(ctx, hash, &envelope.tx, entries),
         TransactionEnvelope::V1(envelope) => {
-            apply_v1_envelope(alloc, base_fee, ctx, hash, envelope, entries)
+            apply_v1_envelope(alloc, setting, ctx, hash, envelope, entries)
         }
         TransactionEnvelope::FeeBump(envelope) => {
-            apply_fee_bump_envelope(alloc, network, base_fee, ctx, hash, envelope, entries)
+            apply_fee_bump_envelope(alloc, setting, ctx, hash, envelope, entries)
         }
     }
 }
@@ -156,9 +157,7 @@ fn result_pair(hash: Hash, fee: i64, outcome: TransactionOutcome) -> Transaction
 /// answers the greatest offer id then.
 #[tactic(auto, unfolding(crate::specs::Set::envelope_applied))]
 pub(crate) fn apply_one<B: Base>(
-    network: &Hash,
-    header: &LedgerHeader,
-    close_time: u64,
+    setting: &Setting<'_>,
     id_pool: u64,
     envelope: &TransactionEnvelope,
     fee: i64,
@@ -166,37 +165,29 @@ pub(crate) fn apply_one<B: Base>(
     results: &mut ItemList<TransactionResultPair>,
 ) -> Result<u64, AllocError>
     requires settled { IsSettled id_pool entries.old.current }
-    requires seq { header.now.ledger_seq < last_seq }
+    requires seq { setting.now.header.now.ledger_seq < last_seq }
     requires within { xdr.transaction_envelope.within envelope.now }
     requires fit { AreFit (operations_of envelope.now) }
     requires ids { CanDraw 100 id_pool }
     ensures results { OnOk result (results.new ≡ results.old ++ spec.result_pair
-        (spec.setting_of network.now header.now close_time) envelope.now fee (spec.envelope_applied
-        (spec.setting_of network.now header.now close_time) id_pool envelope.now entries.old.current).outcome ∷ []) }
+        (spec.setting_of setting.now) envelope.now fee (spec.envelope_applied
+        (spec.setting_of setting.now) id_pool envelope.now entries.old.current).outcome ∷ []) }
     ensures entries { OnOk result (entries.new ≡ with_current entries.old (spec.envelope_applied
-        (spec.setting_of network.now header.now close_time) id_pool envelope.now entries.old.current).entries) }
+        (spec.setting_of setting.now) id_pool envelope.now entries.old.current).entries) }
     ensures id_pool { IfOk result (λ after. after ≡ (spec.envelope_applied
-        (spec.setting_of network.now header.now close_time) id_pool envelope.now entries.old.current).id_pool) }
+        (spec.setting_of setting.now) id_pool envelope.now entries.old.current).id_pool) }
 {
     let alloc = results.allocator();
-    let hash = signed_hash(alloc, network, envelope)?;
+    let hash = signed_hash(alloc, setting.network, envelope)?;
     let mut ctx = ctx_of(
         alloc,
-        header,
-        close_time,
+        setting.header,
+        setting.close_time,
         id_pool,
         source(envelope),
         seq_num(envelope),
     );
-    let outcome = apply_envelope(
-        alloc,
-        network,
-        header.base_fee,
-        &mut ctx,
-        &hash,
-        envelope,
-        entries,
-    )?;
+    let outcome = apply_envelope(alloc, setting, &mut ctx, &hash, envelope, entries)?;
     results.push(result_pair(hash, fee, outcome))?;
     Ok(ctx.id_pool)
 }

@@ -17,6 +17,7 @@ mod preauths;
 mod preconditions;
 mod running;
 mod set;
+mod setting;
 mod signing;
 mod success;
 mod transaction;
@@ -27,3 +28,5 @@ pub use laws::{
 };
 pub use op_laws;
 pub use set::{SetDone, apply_set, apply_set_in_order};
+pub use setting::Setting;
+pub use signer_check::VouchIndex;

@@ -18,13 +18,17 @@ use crate::envelope::apply_one;
 use crate::fault::SetFault;
 use crate::fees::take_fees;
 use crate::fit::all_numbers_fit;
+use crate::setting::Setting;
 use entry_map::{Base, Entries};
 use fee_rules::{apply_order, fee_source, set_base_fee};
 use item_list::ItemList;
 use ledger_types::{Hash, LedgerHeader};
 use op_form::exists;
 use op_laws::steps::{legal_settles, transaction_laws};
-use op_types::{TransactionEnvelope, TransactionResultPair, TransactionResultSet, TransactionSet};
+use op_types::{
+    TransactionEnvelope, TransactionResultPair, TransactionResultSet, TransactionSet, Vouch,
+};
+use signer_check::VouchIndex;
 use std::alloc::AllocError;
 
 /// What a set leaves beside the entries.
@@ -58,40 +62,36 @@ fn missing_among<B: Base>(
 /// Applies the transactions at indices of a list, each in turn, with its fee. It puts their results at the end of a
 /// list, and answers the greatest offer id then.
 fn apply_all<B: Base>(
-    network: &Hash,
-    header: &LedgerHeader,
-    close_time: u64,
+    setting: &Setting<'_>,
     envelopes: &[TransactionEnvelope],
     order: &[u32],
     fees: &[i64],
     entries: &mut Entries<'_, B>,
     results: &mut ItemList<TransactionResultPair>,
 ) -> Result<u64, AllocError>
-    requires settled { IsSettled header.now.id_pool entries.old.current }
-    requires seq { header.now.ledger_seq < last_seq }
+    requires settled { IsSettled setting.now.header.now.id_pool entries.old.current }
+    requires seq { setting.now.header.now.ledger_seq < last_seq }
     requires within { All (λ envelope. xdr.transaction_envelope.within envelope) envelopes.now }
     requires indices { All (λ index. index < length envelopes.now) order.now }
     requires fit { laws.AreAllFit envelopes.now }
     requires fees { length fees.now ≡ length order.now }
-    requires ids { laws.CanDraw (100 * length order.now) header.now.id_pool }
+    requires ids { laws.CanDraw (100 * length order.now) setting.now.header.now.id_pool }
     ensures results { OnOk result (results.new ≡ results.old ++ (spec.all_applied
-        (spec.setting_of network.now header.now close_time) header.now.id_pool
+        (spec.setting_of setting.now) setting.now.header.now.id_pool
         (envelopes_at envelopes.now order.now) fees.now entries.old.current).results) }
     ensures entries { OnOk result (entries.new ≡ with_current entries.old (spec.all_applied
-        (spec.setting_of network.now header.now close_time) header.now.id_pool
+        (spec.setting_of setting.now) setting.now.header.now.id_pool
         (envelopes_at envelopes.now order.now) fees.now entries.old.current).entries) }
     ensures id_pool { IfOk result (λ after. after ≡ (spec.all_applied
-        (spec.setting_of network.now header.now close_time) header.now.id_pool
+        (spec.setting_of setting.now) setting.now.header.now.id_pool
         (envelopes_at envelopes.now order.now) fees.now entries.old.current).id_pool) }
 {
     transaction_laws();
-    let mut id_pool = header.id_pool;
+    let mut id_pool = setting.header.id_pool;
     let mut i = 0;
     while i < order.len() {
         let envelope = &envelopes[order[i] as usize];
-        id_pool = apply_one(
-            network, header, close_time, id_pool, envelope, fees[i], entries, results,
-        )?;
+        id_pool = apply_one(setting, id_pool, envelope, fees[i], entries, results)?;
         i += 1;
     }
     Ok(id_pool)
@@ -100,35 +100,39 @@ fn apply_all<B: Base>(
 /// Takes the fees of a set, and applies its transactions.
 fn apply_in_order<B: Base>(
     entries: &mut Entries<'_, B>,
-    header: &LedgerHeader,
-    close_time: u64,
-    network: &Hash,
+    setting: &Setting<'_>,
     set: &TransactionSet,
     order: &[u32],
 ) -> Result<SetDone, AllocError>
-    requires settled { IsSettled header.now.id_pool entries.old.current }
-    requires lumens { (total (held asset.Native) entries.old.current +ℤ header.now.fee_pool) ≡ header.now.total_coins }
-    requires fee_pool { pos 0 ≤ℤ header.now.fee_pool }
-    requires seq { header.now.ledger_seq < last_seq }
+    requires settled { IsSettled setting.now.header.now.id_pool entries.old.current }
+    requires lumens { (total (held asset.Native) entries.old.current +ℤ setting.now.header.now.fee_pool)
+        ≡ setting.now.header.now.total_coins }
+    requires fee_pool { pos 0 ≤ℤ setting.now.header.now.fee_pool }
+    requires seq { setting.now.header.now.ledger_seq < last_seq }
     requires within { xdr.transaction_set.within set.now }
     requires fit { laws.AreAllFit set.now.txs }
-    requires ids { laws.CanDraw (100 * length order.now) header.now.id_pool }
+    requires ids { laws.CanDraw (100 * length order.now) setting.now.header.now.id_pool }
     requires order { order.now ≡ apply_order_of set.now }
     requires indices { All (λ index. index < length set.now.txs) order.now }
-    ensures { IfOk result (λ done. spec.IsApplied (spec.setting_of network.now header.now close_time) set.now
+    ensures { IfOk result (λ done. spec.IsApplied (spec.setting_of setting.now) set.now
         entries.old entries.new done) }
 {
     transaction_laws();
     let alloc = set.txs.allocator();
     let envelopes = set.txs.as_slice();
-    let base_fee = set_base_fee(header, set);
+    let base_fee = set_base_fee(setting.header, set);
     let mut fees = ItemList::new(alloc);
-    let fee_pool = take_fees(entries, header, base_fee, envelopes, order, &mut fees)?;
+    let fee_pool = take_fees(
+        entries,
+        setting.header,
+        base_fee,
+        envelopes,
+        order,
+        &mut fees,
+    )?;
     let mut results = ItemList::new(alloc);
     let id_pool = apply_all(
-        network,
-        header,
-        close_time,
+        setting,
         envelopes,
         order,
         fees.as_slice(),
@@ -143,28 +147,25 @@ fn apply_in_order<B: Base>(
 }
 
 /// Applies a set to the entries of the ledger before: all fees are taken first, and then the transactions are applied,
-/// both in the order of application (LedgerManagerImpl in stellar-core), which is `order`. `header` is that of the
-/// ledger before, and `close_time` that of the set's value, in seconds since 1970-01-01T00:00:00Z. A set that is
-/// refused leaves the entries. The ids of offers fit, since a set has few transactions.
+/// both in the order of application (LedgerManagerImpl in stellar-core), which is `order`. A set that
+/// is refused leaves the entries. The ids of offers fit, since a set has few transactions.
 pub fn apply_set_in_order<B: Base>(
     entries: &mut Entries<'_, B>,
-    header: &LedgerHeader,
-    close_time: u64,
-    network: &Hash,
+    setting: &Setting<'_>,
     set: &TransactionSet,
     order: &[u32],
 ) -> Result<SetDone, SetFault>
-    requires legal { IsLegal header.now entries.old.current }
-    requires seq { header.now.ledger_seq < last_seq }
+    requires legal { IsLegal setting.now.header.now entries.old.current }
+    requires seq { setting.now.header.now.ledger_seq < last_seq }
     requires within { xdr.transaction_set.within set.now }
     requires few { length set.now.txs ≤ 16777216 }
     requires order { order.now ≡ apply_order_of set.now }
-    ensures answer { spec.IsAnswer (spec.setting_of network.now header.now close_time) set.now entries.old entries.new
+    ensures answer { spec.IsAnswer (spec.setting_of setting.now) set.now entries.old entries.new
         result }
     ensures conserved { OnOk result (
-        laws.IsConserved (spec.setting_of network.now header.now close_time) set.now entries.old.current) }
+        laws.IsConserved (spec.setting_of setting.now) set.now entries.old.current) }
     ensures lawful { OnOk result (
-        laws.AreLawful (spec.set_done (spec.setting_of network.now header.now close_time) set.now
+        laws.AreLawful (spec.set_done (spec.setting_of setting.now) set.now
         entries.old.current).steps) }
 {
     legal_settles();
@@ -174,29 +175,53 @@ pub fn apply_set_in_order<B: Base>(
     if let Some(index) = missing_among(entries, envelopes, order)? {
         return Err(SetFault::FeeSourceMissing { index });
     }
-    Ok(apply_in_order(entries, header, close_time, network, set, order)?)
+    Ok(apply_in_order(entries, setting, set, order)?)
 }
 
 /// Applies a set to the entries of the ledger before, as `apply_set_in_order` does, in the order that it finds.
+/// `header` is that of the ledger before, and `close_time` that of the set's value, in seconds since
+/// 1970-01-01T00:00:00Z.
 pub fn apply_set<B: Base>(
     entries: &mut Entries<'_, B>,
     header: &LedgerHeader,
     close_time: u64,
     network: &Hash,
     set: &TransactionSet,
+    vouches: &[Vouch],
 ) -> Result<SetDone, SetFault>
     requires legal { IsLegal header.now entries.old.current }
     requires seq { header.now.ledger_seq < last_seq }
     requires within { xdr.transaction_set.within set.now }
     requires few { length set.now.txs ≤ 16777216 }
-    ensures answer { spec.IsAnswer (spec.setting_of network.now header.now close_time) set.now entries.old entries.new
-        result }
+    ensures answer { spec.IsAnswer (record {
+      network = network.now;
+      header = header.now;
+      close_time = close_time;
+      vouches = vouches.now;
+    }) set.now entries.old entries.new result }
     ensures conserved { OnOk result (
-        laws.IsConserved (spec.setting_of network.now header.now close_time) set.now entries.old.current) }
+        laws.IsConserved (record {
+          network = network.now;
+          header = header.now;
+          close_time = close_time;
+          vouches = vouches.now;
+        }) set.now entries.old.current) }
     ensures lawful { OnOk result (
-        laws.AreLawful (spec.set_done (spec.setting_of network.now header.now close_time) set.now
-        entries.old.current).steps) }
+        laws.AreLawful (spec.set_done (record {
+          network = network.now;
+          header = header.now;
+          close_time = close_time;
+          vouches = vouches.now;
+        }) set.now entries.old.current).steps) }
 {
-    let order = apply_order(set.txs.allocator(), set)?;
-    apply_set_in_order(entries, header, close_time, network, set, order.as_slice())
+    let alloc = set.txs.allocator();
+    let vouches = VouchIndex::new(alloc, vouches)?;
+    let setting = Setting {
+        network,
+        header,
+        close_time,
+        vouches: &vouches,
+    };
+    let order = apply_order(alloc, set)?;
+    apply_set_in_order(entries, &setting, set, order.as_slice())
 }

@@ -26,25 +26,29 @@ pub(crate) fn source_of(source: &AccountId, operation: &Operation) -> AccountId
     }
 }
 
-/// Whether the signatures reach a threshold of the account in an entry. One that isn't there has no signature that
-/// counts.
-fn check_entry(checker: &mut Checker, entry: Option<&LedgerEntry>, level: ThresholdLevel) -> bool
+/// Whether the signatures reach a threshold of the account in an entry. One that isn't there is checked as its own key.
+fn check_entry(
+    checker: &mut Checker,
+    id: &AccountId,
+    entry: Option<&LedgerEntry>,
+    level: ThresholdLevel,
+) -> bool
     requires { IfSome (account_of (option_copied entry)) (λ account. length account.signers ≤ 20) }
-    ensures passes { result ≡ (spec.auth_by checker.old.hash level checker.old.signatures
+    ensures passes { result ≡ (spec.auth_by checker.old.hash level checker.old.signatures id.now
         (account_of (option_copied entry.entry))).passes }
     ensures used { checker.new ≡ record checker.old {
       signatures =
-          (spec.auth_by checker.old.hash level checker.old.signatures
+          (spec.auth_by checker.old.hash level checker.old.signatures id.now
           (account_of (option_copied entry.entry))).signatures;
     } }
 {
     match account_in(entry) {
-        None => false,
+        None => checker.check_lone(id),
         Some(account) => checker.check(account, u32::from(threshold_at(level, account))),
     }
 }
 
-/// Whether the signatures reach a threshold of an account. One that doesn't exist has no signature that counts. An
+/// Whether the signatures reach a threshold of an account. One that doesn't exist is checked as its own key. An
 /// account that has changed is looked at where it is.
 #[tactic(auto, unfolding(entry_slots::specs::Accounts::account_at))]
 pub(crate) fn check_account<B: Base>(
@@ -63,8 +67,8 @@ pub(crate) fn check_account<B: Base>(
 {
     let key = LedgerKey::Account { account_id: *id };
     match entries.changed(&key) {
-        Some(entry) => Ok(check_entry(checker, entry, level)),
-        None => Ok(check_entry(checker, entries.base_entry(&key)?.as_ref(), level)),
+        Some(entry) => Ok(check_entry(checker, id, entry, level)),
+        None => Ok(check_entry(checker, id, entries.base_entry(&key)?.as_ref(), level)),
     }
 }
 

@@ -21,14 +21,14 @@ loop-i-preserved g c =
     let fit : AreFit (operations_of c.index-envelopes-order.result) =
     subst (λ (entire : TransactionEnvelope). AreFit (operations_of entire)) (sym c.index-envelopes-order.is)
     (c.requires.fit (get_or c.args.order.now c.loop-i.i 0) c.index-envelopes-order.result there) in
-    let setting = setting_of c.args.network.now c.args.header.now c.args.close_time in
+    let setting = setting_of c.args.setting.now in
     let within : transaction_envelope.within c.index-envelopes-order.result =
     subst (λ (entire : TransactionEnvelope). transaction_envelope.within entire) (sym c.index-envelopes-order.is)
     (c.requires.within (get_or c.args.order.now c.loop-i.i 0) c.index-envelopes-order.result there) in
     let sound = envelope_sound c.transaction_laws.ensures setting c.loop-i.id_pool c.index-envelopes-order.result
     c.loop-i.entries.current c.loop-i.invariant.0.settled c.requires.seq fit in
     let described = c.in_ok-id_pool.ensures.results in (
-      step_to setting c.args.header.now.id_pool c.args.envelopes.now c.args.order.now c.args.fees.now
+      step_to setting c.args.setting.now.header.now.id_pool c.args.envelopes.now c.args.order.now c.args.fees.now
           c.args.results.now c.loop-i.results c.args.entries.now c.loop-i.entries c.loop-i.id_pool c.loop-i.i
           c.index-envelopes-order.result fee c.apply_one.new.entries c.apply_one.new.results c.in_ok-id_pool.id_pool
           c.loop-i.invariant.0 c.loop-i-test.true inside there c.index-envelopes-order.is
@@ -45,18 +45,18 @@ loop-i-preserved g c =
 
 pub returns-clause-results : goal.returns-clause-results
 returns-clause-results g c =
-    (finished (setting_of c.args.network.now c.args.header.now c.args.close_time) c.args.header.now.id_pool
+    (finished (setting_of c.args.setting.now) c.args.setting.now.header.now.id_pool
     c.args.envelopes.now c.args.order.now c.args.fees.now c.args.results.now c.loop-i.results c.args.entries.now
     c.loop-i.entries c.loop-i.id_pool c.loop-i.i c.loop-i.invariant.0 (search rules)).results
 
 pub returns-clause-entries : goal.returns-clause-entries
 returns-clause-entries g c =
-    (finished (setting_of c.args.network.now c.args.header.now c.args.close_time) c.args.header.now.id_pool
+    (finished (setting_of c.args.setting.now) c.args.setting.now.header.now.id_pool
     c.args.envelopes.now c.args.order.now c.args.fees.now c.args.results.now c.loop-i.results c.args.entries.now
     c.loop-i.entries c.loop-i.id_pool c.loop-i.i c.loop-i.invariant.0 (search rules)).entries
 
 pub returns-clause-id_pool : goal.returns-clause-id_pool
 returns-clause-id_pool g c =
-    (finished (setting_of c.args.network.now c.args.header.now c.args.close_time) c.args.header.now.id_pool
+    (finished (setting_of c.args.setting.now) c.args.setting.now.header.now.id_pool
     c.args.envelopes.now c.args.order.now c.args.fees.now c.args.results.now c.loop-i.results c.args.entries.now
     c.loop-i.entries c.loop-i.id_pool c.loop-i.i c.loop-i.invariant.0 (search rules)).ids

@@ -6,8 +6,9 @@ use Rattle.tx_apply.proofs.set.apply_in_order.Goals as goal
 
 pub apply_all-requires-clause-settled : goal.apply_all-requires-clause-settled
 apply_all-requires-clause-settled g c =
-    subst (IsSettled c.args.header.now.id_pool) (ap (λ (u : Undo). u.current) (sym c.in_ok-fee_pool.ensures.entries))
-    (all_taken c.transaction_laws.ensures c.args.header.now.id_pool _ _ c.args.entries.now.current
+    subst (IsSettled c.args.setting.now.header.now.id_pool)
+    (ap (λ (u : Undo). u.current) (sym c.in_ok-fee_pool.ensures.entries))
+    (all_taken c.transaction_laws.ensures c.args.setting.now.header.now.id_pool _ _ c.args.entries.now.current
     c.requires.settled).settled
 
 pub apply_all-requires-clause-within : goal.apply_all-requires-clause-within

@@ -24,18 +24,19 @@ apply_in_order-requires-clause-indices g c =
 
 pub apply_in_order-requires-clause-ids : goal.apply_in_order-requires-clause-ids
 apply_in_order-requires-clause-ids g c =
-    subst (λ (order : List ℕ). CanDraw (100 * length order) c.args.header.now.id_pool) (sym c.requires.order)
-    (ids_of_set c.args.header.now c.args.entries.now.current c.args.set.now c.requires.legal c.requires.seq
+    subst (λ (order : List ℕ). CanDraw (100 * length order) c.args.setting.now.header.now.id_pool)
+    (sym c.requires.order)
+    (ids_of_set c.args.setting.now.header.now c.args.entries.now.current c.args.set.now c.requires.legal c.requires.seq
     c.requires.few)
 
 pub returns-clause-conserved : goal.returns-clause-conserved
 returns-clause-conserved g c =
     set_conserved c.transaction_laws.ensures c.legal_settles.ensures
-    (setting_of c.args.network.now c.args.header.now c.args.close_time) c.args.set.now c.args.entries.now.current
+    (setting_of c.args.setting.now) c.args.set.now c.args.entries.now.current
     (record { legal = c.requires.legal; seq = c.requires.seq; fit = search rules })
 
 pub returns-clause-lawful : goal.returns-clause-lawful
 returns-clause-lawful g c =
     set_lawful c.transaction_laws.ensures c.legal_settles.ensures
-    (setting_of c.args.network.now c.args.header.now c.args.close_time) c.args.set.now c.args.entries.now.current
+    (setting_of c.args.setting.now) c.args.set.now c.args.entries.now.current
     (record { legal = c.requires.legal; seq = c.requires.seq; fit = search rules })

@@ -1,5 +1,9 @@
 use Rattle.ledger_close.proofs.Prelude.{◌≡◌, subst, sym, ◌∙◌, None, set_fault, applied_in, set_encoded, state_of}
-use Rattle.ledger_close.proofs.Prelude.{FaultIs, Worked, Leaves, LedgerAt}
+use Rattle.ledger_close.proofs.Prelude.{FaultIs, Worked, Leaves, LedgerAt, List, Ok, ClosingState, CloseRecord}
+use Rattle.ledger_close.proofs.Prelude.{setting_in, IsAnswer}
+use Rattle.op_types.specs.declared.vouch.Vouch.{Vouch}
+use Rattle.close_laws.specs.tx_apply.Laws.{IsConserved}
+use Rattle.close_laws.specs.tx_apply.Set.{Setting}
 use Rattle.ledger_close.proofs.Works.{refused_set, applied_set, applied_done, applied_keyed}
 use Rattle.ledger_close.proofs.Works.{applied_batch, applied_index}
 use Rattle.ledger_close.proofs.ledger.Ledger.apply.Goals as goal
@@ -18,17 +22,24 @@ returns-in-Err c =
     subst (λ (x : LedgerAt). FaultIs c.fault_of.result
     (λ g. set_fault x.state c.args.closing.now ≡ Rattle.std.proofs.Common.Some g)) c.self.view_is recorded
 
+-- the vouches of the record, however they are found
+abbrev with_vouches : ClosingState → CloseRecord → List Vouch → Setting
+with_vouches s closing vouches = record (setting_in s closing) { vouches = vouches }
+
 pub next-requires : goal.next-requires
 next-requires c =
     let l = c.self.inside in
     let s = state_of l.network l.header l.levels.pairs l.entries in
-    let closing = c.args.closing.now in (
+    let closing = c.args.closing.now in
+    let old = c.in_ok-entries.entries in
+    let new = c.apply_set_in_order.new.entries in
+    let answer = subst (λ v. IsAnswer (with_vouches s closing v) closing.tx_set old new (Ok c.in-Ok.done))
+    (c.in_ok-vouches.ensures ∙ c.vouched.ensures) c.in-Ok.ensures.answer in (
       (applied_in s closing).entries,
-      applied_index s closing c.in_ok-entries.entries c.apply_set_in_order.new.entries c.in-Ok.done
-          c.in_ok-offers.offers
-          c.in_ok-entries.ensures c.in-Ok.ensures.answer c.in_ok-offers.ensures,
-      applied_batch s closing c.in_ok-entries.entries c.apply_set_in_order.new.entries c.in-Ok.done c.in_ok-batch.batch
-          c.in_ok-entries.ensures c.in-Ok.ensures.answer c.in_ok-batch.ensures,
+      applied_index s closing old new c.in-Ok.done c.in_ok-offers.offers c.in_ok-entries.ensures answer
+          c.in_ok-offers.ensures,
+      applied_batch s closing old new c.in-Ok.done c.in_ok-batch.batch c.in_ok-entries.ensures answer
+          c.in_ok-batch.ensures,
     )
 
 pub returns : goal.returns
@@ -37,10 +48,14 @@ returns c =
     let s = state_of l.network l.header l.levels.pairs l.entries in
     let closing = c.args.closing.now in
     let begun = c.in_ok-entries.ensures in
-    let answer = c.in-Ok.ensures.answer in
     let old = c.in_ok-entries.entries in
     let new = c.apply_set_in_order.new.entries in
-    let keyed = applied_keyed s closing old begun c.in-Ok.ensures.conserved in
+    let same = c.in_ok-vouches.ensures ∙ c.vouched.ensures in
+    let answer = subst (λ v. IsAnswer (with_vouches s closing v) closing.tx_set old new (Ok c.in-Ok.done)) same
+    c.in-Ok.ensures.answer in
+    let conserved = subst (λ v. IsConserved (with_vouches s closing v) closing.tx_set old.current) same
+    c.in-Ok.ensures.conserved in
+    let keyed = applied_keyed s closing old begun conserved in
     let batch = applied_batch s closing old new c.in-Ok.done c.in_ok-batch.batch begun answer c.in_ok-batch.ensures in
     let next = c.in_ok-next.ensures.next (applied_in s closing).entries keyed batch in
     let worked : Worked = record { done = c.in-Ok.done; entries = c.in_ok-next.next; batch = c.next.new.batch } in

@@ -5,6 +5,7 @@ use prelude.{inr, ◌⊎◌, All-head, All-tail, IsBytes, start_of, start_image_
 use prelude.{IsClosingState, PreparedClose, IsClose, IsJudged, TakenIsClosable, NextIsClosing, installed_state}
 use prelude.{max_record_len, lines_of, AreClosed, EachClose, EachImage, Opened, EachContent}
 use Rattle.std.specs.Prelude.{All}
+use Rattle.std.proofs.lemmas.List.Elements.{All-nil, All-cons}
 use Rattle.byteorder.specs.Endian.{big_bytes}
 use Rattle.replay.proofs.xdr_core_proofs.Steps.{IsBytes-drop}
 use Rattle.image_store.specs.outside.Disk.{Image}
@@ -15,7 +16,8 @@ use Rattle.image_store.specs.ImageFiles.{image_offset, format_in, image_in}
 use Rattle.image_store.proofs.Pieces.{last_bytes}
 use Rattle.image_store.specs.Laws.{EachOpens}
 use Rattle.image_store.specs.Opening.{Kept, Holds, IsOpening}
-use Rattle.replay.specs.stored_outcome.Opening.{BreaksRule}
+use Rattle.replay.specs.stored_outcome.Opening.{BreaksRule, MayHold, IsRefusedIn}
+use Rattle.replay.proofs.Forms.{may_hold_or}
 use Rattle.existence_laws.proofs.Starting.{judged_state, header_bytes, files_bytes}
 use Rattle.image_store.proofs.Pieces.{first_bytes}
 
@@ -39,77 +41,93 @@ records_are (w ∷ ws) after are short =
 
 -- ---- records, one after another
 
--- all close ledgers
-record Closed (s : ClosingState) (records : List (List ℕ)) : Type 0 where
+-- an epoch of this format may hold all, and they close ledgers
+record Closed (format : ℕ) (s : ClosingState) (records : List (List ℕ)) : Type 0 where
+  pub held : All (MayHold format) records
   pub lines : List ℕ
   pub now : ClosingState
   pub closed : AreClosed s records lines now
   pub closing : IsClosingState now
 
 -- one is refused after those before it
-record Refused (s : ClosingState) (records : List (List ℕ)) : Type 0 where
+record Refused (format : ℕ) (s : ClosingState) (records : List (List ℕ)) : Type 0 where
   pub prefix : List (List ℕ)
   pub bytes : List ℕ
   pub others : List (List ℕ)
   pub cut : records ≡ prefix ++ bytes ∷ others
+  pub held : All (MayHold format) prefix
   pub lines : List ℕ
   pub state : ClosingState
   pub closed : AreClosed s prefix lines state
-  pub wrong : CloseFault
-  pub refused : IsClose state bytes (Err wrong)
+  pub refused : IsRefusedIn format state bytes
+
+-- the first is refused
+first_refused : (format : ℕ) (s : ClosingState) (bytes : List ℕ) (records : List (List ℕ))
+    → IsRefusedIn format s bytes → Refused format s (bytes ∷ records)
+first_refused format s bytes records refused = record {
+  prefix = [];
+  bytes = bytes;
+  others = records;
+  cut = refl;
+  held = All-nil (MayHold format);
+  lines = [];
+  state = s;
+  closed = (refl, refl);
+  refused = refused;
+}
 
 module _ (each : EachClose) (closable : TakenIsClosable) (next : NextIsClosing) where
-  close_all : (records : List (List ℕ)) (s : ClosingState) → IsClosingState s → AreRecords records
-      → Closed s records ⊎ Refused s records
-  close_all [] s closing are = inl (record { lines = []; now = s; closed = (refl, refl); closing = closing })
-  close_all (w ∷ ws) s closing are =
-      by (λ c closes. close_all ws c.state closes are.2) (each s w closing are.0 are.1)
+  close_all : (format : ℕ) (records : List (List ℕ)) (s : ClosingState) → IsClosingState s → AreRecords records
+      → Closed format s records ⊎ Refused format s records
+  close_all format [] s closing are =
+      inl (record { held = All-nil (MayHold format); lines = []; now = s; closed = (refl, refl); closing = closing })
+  close_all format (w ∷ ws) s closing are = elim (may_hold_or format w) [
+    | inl held ↦ by held (λ c closes. close_all format ws c.state closes are.2) (each s w closing are.0 are.1)
+    | inr form ↦ inr (first_refused format s w ws (inl form))
+  ]
     where
-      after : (c : PreparedClose) → IsClose s w (Ok c) → Closed c.state ws ⊎ Refused c.state ws
-          → Closed s (w ∷ ws) ⊎ Refused s (w ∷ ws)
-      after c close (inl all) = inl (record {
+      after : (c : PreparedClose) → MayHold format w → IsClose s w (Ok c)
+          → Closed format c.state ws ⊎ Refused format c.state ws
+          → Closed format s (w ∷ ws) ⊎ Refused format s (w ∷ ws)
+      after c held close (inl all) = inl (record {
+        held = All-cons (MayHold format) w ws held all.held;
         lines = lines_of c ++ all.lines;
         now = all.now;
         closed = (c, all.lines, close, all.closed, refl);
         closing = all.closing;
       })
-      after c close (inr one) = inr (record {
+      after c held close (inr one) = inr (record {
         prefix = w ∷ one.prefix;
         bytes = one.bytes;
         others = one.others;
         cut = ap (λ (rest : List (List ℕ)). w ∷ rest) one.cut;
+        held = All-cons (MayHold format) w one.prefix held one.held;
         lines = lines_of c ++ one.lines;
         state = one.state;
         closed = (c, one.lines, close, one.closed, refl);
-        wrong = one.wrong;
         refused = one.refused;
       })
 
-      by : ((c : PreparedClose) → IsClosingState c.state → Closed c.state ws ⊎ Refused c.state ws)
+      by : MayHold format w
+          → ((c : PreparedClose) → IsClosingState c.state → Closed format c.state ws ⊎ Refused format c.state ws)
           → (answer : Result PreparedClose CloseFault) × IsClose s w answer
-          → Closed s (w ∷ ws) ⊎ Refused s (w ∷ ws)
-      by later (Ok c, close) =
-          after c close (later c (installed_state closable next s c closing (w, close, are.1)))
-      by later (Err wrong, close) = inr (record {
-        prefix = [];
-        bytes = w;
-        others = ws;
-        cut = refl;
-        lines = [];
-        state = s;
-        closed = (refl, refl);
-        wrong = wrong;
-        refused = close;
-      })
+          → Closed format s (w ∷ ws) ⊎ Refused format s (w ∷ ws)
+      by held later (Ok c, close) =
+          after c held close (later c (installed_state closable next s c closing (w, close, are.1)))
+      by held later (Err wrong, close) = inr (first_refused format s w ws (inr (wrong, close)))
 
   -- ---- a content
 
   opened_records : (c : Image) (k : Kept) (start : ClosingState) → Holds c k → IsJudged k.network k.image (Ok start)
-      → Closed start k.records ⊎ Refused start k.records → Opened c
+      → Closed k.format start k.records ⊎ Refused k.format start k.records → Opened c
   opened_records c k start holds judged (inl all) = inl (
     all.now,
     all.closing,
-    (k, holds, record { start = start; judged = judged; lines = all.lines; closed = all.closed }),
+    (
+      k,
+      holds,
+      record { start = start; judged = judged; held = all.held; lines = all.lines; closed = all.closed },
+    ),
   )
   opened_records c k start holds judged (inr one) = inr (inr (
     2 + k.epoch % 2,
@@ -124,10 +142,10 @@ module _ (each : EachClose) (closable : TakenIsClosable) (next : NextIsClosing) 
         bytes = one.bytes;
         others = one.others;
         records = one.cut;
+        held = one.held;
         lines = one.lines;
         state = one.state;
         closed = one.closed;
-        wrong = one.wrong;
         refused = one.refused;
         in_file = refl;
         at = refl;
@@ -148,7 +166,8 @@ module _ (each : EachClose) (closable : TakenIsClosable) (next : NextIsClosing) 
       let exist = h.journal.1 in
       let bytes = subst IsBytes exist.cut (are (2 + h.number)) in
       opened_records c k start h judged
-      (close_all k.records start (judged_state k.network k.image start (header_bytes k.image encoded.sized) judged)
+      (close_all k.format k.records start
+      (judged_state k.network k.image start (header_bytes k.image encoded.sized) judged)
       (records_are k.records h.journal.0 bytes exist.short))
 
   opened : EachImage → (c : Image) → ((file : ℕ) → IsBytes (c file)) → (opening : Result Kept StoreFault)

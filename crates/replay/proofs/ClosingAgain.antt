@@ -1,8 +1,8 @@
 -- The records of a journal, closed one after another.
-use Rattle.replay.proofs.Prelude.{◌≡◌, ℕ, suc, ◌+◌, ◌<◌, ◌^◌, List, [], ◌∷◌, ◌++◌, length, take, drop, get_or, Ok, Err}
+use Rattle.replay.proofs.Prelude.{◌≡◌, ℕ, suc, ◌+◌, ◌<◌, ◌^◌, List, [], ◌∷◌, ◌++◌, length, take, drop, get_or}
 use Rattle.replay.proofs.Prelude.{sym, ap, subst, ◌∙◌, append_assoc, arith, take-suc, length-append, take-append-drop}
-use Rattle.replay.proofs.Prelude.{big_bytes, wide4, CloseFault, ClosingState, PreparedClose, IsClose, block, blocks}
-use Rattle.replay.proofs.Prelude.{AreClosedTo, IsRefusedAt}
+use Rattle.replay.proofs.Prelude.{big_bytes, wide4, ClosingState, AreClosed, block, blocks, MayHold, IsRefusedIn}
+use Rattle.replay.proofs.Prelude.{AreClosedIn, IsRefusedAt, ClosesTo, All-push}
 use Rattle.replay.proofs.Yields.{closed_more}
 
 pub taken_more : (xs : List (List ℕ)) (i : ℕ) (x : List ℕ) → i < length xs → x ≡ get_or xs i x
@@ -41,26 +41,27 @@ offset_fits xs i x at lt is e fits =
     let entire = ap (λ (t : List (List ℕ)). length (blocks t)) (take-append-drop (i + 1) xs) in
     omega (arith, fits, offset_more xs i x at lt is e, entire, blocks_len (take (i + 1) xs) (drop (i + 1) xs))
 
-pub again_more : (s now next : ClosingState) (xs : List (List ℕ)) (i : ℕ) (x : List ℕ) (c : PreparedClose)
-    → i < length xs
-    → x ≡ get_or xs i x → AreClosedTo s (take i xs) now → IsClose now x (Ok c) → next ≡ c.state
-    → AreClosedTo s (take (i + 1) xs) next
-again_more s now next xs i x c lt is (lines, closed) closes same =
-    let more = closed_more s (take i xs) lines now x c closed closes in
-    subst (λ (t : List (List ℕ)). AreClosedTo s t next) (sym (taken_more xs i x lt is))
-    (subst (λ (y : ClosingState). AreClosedTo s (take i xs ++ x ∷ []) y) (sym same) more)
+pub again_more : (format : ℕ) (s now next : ClosingState) (xs : List (List ℕ)) (i : ℕ) (x : List ℕ)
+    → i < length xs → x ≡ get_or xs i x → AreClosedIn format s (take i xs) now → ClosesTo format now x next
+    → AreClosedIn format s (take (i + 1) xs) next
+again_more format s now next xs i x lt is before one =
+    let more = closed_more s (take i xs) before.lines now x one.close before.closed one.closes in
+    subst (λ (t : List (List ℕ)). AreClosedIn format s t next) (sym (taken_more xs i x lt is)) (record {
+      held = All-push (MayHold format) (take i xs) x before.held one.held;
+      lines = more.0;
+      closed = subst (λ (y : ClosingState). AreClosed s (take i xs ++ x ∷ []) more.0 y) (sym one.next) more.1;
+    })
 
-pub refused_at : (s now : ClosingState) (xs : List (List ℕ)) (i : ℕ) (x : List ℕ) (at : ℕ) (wrong : CloseFault)
-    → i < length xs → x ≡ get_or xs i x → AreClosedTo s (take i xs) now → IsClose now x (Err wrong)
-    → at ≡ length (blocks (take i xs)) → IsRefusedAt s xs at
-refused_at s now xs i x at wrong lt is closed refused e = record {
+pub refused_at : (format : ℕ) (s now : ClosingState) (xs : List (List ℕ)) (i : ℕ) (x : List ℕ) (at : ℕ)
+    → i < length xs → x ≡ get_or xs i x → AreClosedIn format s (take i xs) now → IsRefusedIn format now x
+    → at ≡ length (blocks (take i xs)) → IsRefusedAt format s xs at
+refused_at format s now xs i x at lt is closed refused e = record {
   prefix = take i xs;
   bytes = x;
   others = drop (i + 1) xs;
   cut = cut_at xs i x lt is;
   state = now;
   closed = closed;
-  wrong = wrong;
   refused = refused;
   at = e;
 }

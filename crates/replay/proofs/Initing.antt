@@ -7,7 +7,7 @@ use prelude.{Seen, Failed, SeenVolume, StoreFault, StoreState, IsImage, Holds, H
 use prelude.{Creates, IsCreated, IsCreateFault, Status, IsReported, OpensTo, OpensOn, IsSound, IsBadInput, IsBadImage}
 use prelude.{MomentsOfInit, Asked, Stored, IsInitEnd, InitLeft, DidInit, Begins, Cut, IsFaulty, IsUncut, IsJudgedSo}
 use prelude.{IsReportedOrRefused, IsReportedSo, status_of, IsEnded, IsFollowed, IsUnended, IsInput, IsUnread, IsLedgers}
-use prelude.{IsStoringEnd, Storing}
+use prelude.{IsStoringEnd, Storing, All-nil, MayHold}
 use Rattle.std.proofs.Common.{◌≢◌}
 use Rattle.stored_outcome.specs.close_rules.declared.image_fault.ImageFault.TheVariants as image_fault
 use Rattle.image_store.specs.gate_journal.declared.fault.StoreFault.TheVariants as fault
@@ -114,8 +114,17 @@ uncut_unread input status.AlreadyThere h = absurd h
 
 first_opens : (network : Hash) (start : StartImage) (s : ClosingState) (c : Image) → Holds c (first_kept network start)
     → IsJudged network start (Ok s) → OpensTo c s
-first_opens network start s c holds judged =
-    (first_kept network start, holds, record { start = s; judged = judged; lines = []; closed = (refl, refl) })
+first_opens network start s c holds judged = (
+  first_kept network start,
+  holds,
+  record {
+    start = s;
+    judged = judged;
+    held = All-nil (MayHold (first_kept network start).format);
+    lines = [];
+    closed = (refl, refl);
+  },
+)
 
 pub stored_of : (network : Hash) (start : StartImage) (s : ClosingState) (vol : SeenVolume) (store : StoreState)
     → HoldsNothing vol.before.reads → IsSettled store vol.now (first_kept network start)

@@ -11,6 +11,7 @@ pub mod After
 pub mod Keeping
 pub mod Yields
 pub mod Surviving
+pub mod Forms
 pub mod ClosingAgain
 pub mod Opening
 pub mod Complete

@@ -1,9 +1,9 @@
 -- A content opens to one state, and to no fault beside it.
 use Rattle.replay.proofs.Prelude.{◌≡◌, refl, sym, ap, subst, ◌∙◌, ℕ, length, List, [], ◌∷◌, ◌++◌, Result, Ok, Err, ◌⊎◌}
-use Rattle.replay.proofs.Prelude.{inl, inr, CloseFault, ImageFault, ClosingState, PreparedClose, IsClose}
+use Rattle.replay.proofs.Prelude.{inl, inr, ImageFault, ClosingState, PreparedClose, IsClose}
 use Rattle.replay.proofs.Prelude.{images_are_one, AreClosed, Image, blocks, StoreFault, Kept, Holds, HoldsNoStore}
 use Rattle.replay.proofs.Prelude.{HoldsNothing, openings_are_one, Yields, OpensTo, BreaksRule, RefusesRecord}
-use Rattle.replay.proofs.Prelude.{IsBadStore}
+use Rattle.replay.proofs.Prelude.{IsBadStore, MayHold, IsRefusedIn, All, All-head, All-tail}
 use Rattle.image_store.specs.gate_journal.declared.fault.StoreFault.TheVariants as fault
 use Rattle.replay.proofs.Runs.{same_close, not_both}
 
@@ -49,17 +49,23 @@ opens_not_missing c s (k, holds, yields) none =
     let same : opening (Ok k) ≡ Err fault.Missing = openings_are_one c (Ok k) (Err fault.Missing) holds none in
     absurd (cc)
 
--- a record that closed wasn't refused
-not_refused : (s : ClosingState) (prefix : List (List ℕ)) (bytes : List ℕ) (others : List (List ℕ))
-    (lines : List ℕ) (now : ClosingState) (prefix_lines : List ℕ) (state : ClosingState) (wrong : CloseFault)
-    → AreClosed s (prefix ++ bytes ∷ others) lines now → AreClosed s prefix prefix_lines state
-    → IsClose state bytes (Err wrong) → ⊥
-not_refused s [] bytes others lines now prefix_lines state wrong closed ahead refused =
-    not_both s bytes closed.0 wrong closed.2
-    (subst (λ (x : ClosingState). IsClose x bytes (Err wrong)) ahead.1 refused)
-not_refused s (first ∷ prefix) bytes others lines now prefix_lines state wrong closed ahead refused =
+-- a record that was held and closed wasn't refused
+not_refused_here : (format : ℕ) (s : ClosingState) (bytes : List ℕ) (c : PreparedClose) → MayHold format bytes
+    → IsClose s bytes (Ok c) → IsRefusedIn format s bytes → ⊥
+not_refused_here format s bytes c held closes (inl (first, form)) = held first form
+not_refused_here format s bytes c held closes (inr (wrong, refused)) = not_both s bytes c wrong closes refused
+
+not_refused : (format : ℕ) (s : ClosingState) (prefix : List (List ℕ)) (bytes : List ℕ) (others : List (List ℕ))
+    (lines : List ℕ) (now : ClosingState) (prefix_lines : List ℕ) (state : ClosingState)
+    → All (MayHold format) (prefix ++ bytes ∷ others) → AreClosed s (prefix ++ bytes ∷ others) lines now
+    → AreClosed s prefix prefix_lines state → IsRefusedIn format state bytes → ⊥
+not_refused format s [] bytes others lines now prefix_lines state held closed ahead refused =
+    not_refused_here format s bytes closed.0 (All-head (MayHold format) bytes others held) closed.2
+    (subst (λ (x : ClosingState). IsRefusedIn format x bytes) ahead.1 refused)
+not_refused format s (first ∷ prefix) bytes others lines now prefix_lines state held closed ahead refused =
     let same : ahead.0 ≡ closed.0 = same_close s first ahead.0 closed.0 ahead.2 closed.2 in
-    not_refused closed.0.state prefix bytes others closed.1 now ahead.1 state wrong closed.3
+    not_refused format closed.0.state prefix bytes others closed.1 now ahead.1 state
+    (All-tail (MayHold format) first (prefix ++ bytes ∷ others) held) closed.3
     (subst (λ (x : PreparedClose). AreClosed x.state prefix ahead.1 state) same ahead.3) refused
 
 not_broken : (k : Kept) (s : ClosingState) (file offset : ℕ) → Yields k s → BreaksRule k file offset → ⊥
@@ -73,7 +79,8 @@ never_refused k s file offset yields r =
     let same : judged (Ok r.start) ≡ Ok yields.start =
     images_are_one k.network k.image (Ok r.start) (Ok yields.start) r.judged yields.judged in
     let start : r.start ≡ yields.start = cc in
-    not_refused yields.start r.prefix r.bytes r.others yields.lines s r.lines r.state r.wrong
+    not_refused k.format yields.start r.prefix r.bytes r.others yields.lines s r.lines r.state
+    (subst (All (MayHold k.format)) r.records yields.held)
     (subst (λ records. AreClosed yields.start records yields.lines s) r.records yields.closed)
     (subst (λ (x : ClosingState). AreClosed x r.prefix r.lines r.state) start r.closed) r.refused
 
@@ -111,27 +118,27 @@ missing_not_bad c file offset none (inr (k, holds, bad)) =
     absurd (cc)
 
 -- the record that is refused first is one
-one_refused : (s : ClosingState) (prefix : List (List ℕ)) (bytes : List ℕ) (others : List (List ℕ))
-    (lines : List ℕ) (now : ClosingState) (wrong : CloseFault) (prefix' : List (List ℕ)) (bytes' : List ℕ)
-    (others' : List (List ℕ)) (lines' : List ℕ) (now' : ClosingState) (wrong' : CloseFault)
-    → prefix ++ bytes ∷ others ≡ prefix' ++ bytes' ∷ others' → AreClosed s prefix lines now
-    → IsClose now bytes (Err wrong) → AreClosed s prefix' lines' now' → IsClose now' bytes' (Err wrong')
+one_refused : (format : ℕ) (s : ClosingState) (prefix : List (List ℕ)) (bytes : List ℕ) (others : List (List ℕ))
+    (lines : List ℕ) (now : ClosingState) (prefix' : List (List ℕ)) (bytes' : List ℕ) (others' : List (List ℕ))
+    (lines' : List ℕ) (now' : ClosingState) → prefix ++ bytes ∷ others ≡ prefix' ++ bytes' ∷ others'
+    → All (MayHold format) prefix → AreClosed s prefix lines now → IsRefusedIn format now bytes
+    → All (MayHold format) prefix' → AreClosed s prefix' lines' now' → IsRefusedIn format now' bytes'
     → prefix ≡ prefix'
-one_refused s [] bytes others lines now wrong [] bytes' others' lines' now' wrong' same a b a' b' = refl
-one_refused s [] bytes others lines now wrong (x ∷ prefix') bytes' others' lines' now' wrong' same a b a' b' =
+one_refused format s [] bytes others lines now [] bytes' others' lines' now' same h a b h' a' b' = refl
+one_refused format s [] bytes others lines now (x ∷ prefix') bytes' others' lines' now' same h a b h' a' b' =
     let first : bytes ≡ x = cc in
-    absurd (not_both s x a'.0 wrong a'.2 (subst (λ w. IsClose s w (Err wrong)) first
-    (subst (λ (t : ClosingState). IsClose t bytes (Err wrong)) a.1 b)))
-one_refused s (x ∷ prefix) bytes others lines now wrong [] bytes' others' lines' now' wrong' same a b a' b' =
+    absurd (not_refused_here format s x a'.0 (All-head (MayHold format) x prefix' h') a'.2
+    (subst (IsRefusedIn format s) first (subst (λ (t : ClosingState). IsRefusedIn format t bytes) a.1 b)))
+one_refused format s (x ∷ prefix) bytes others lines now [] bytes' others' lines' now' same h a b h' a' b' =
     let first : bytes' ≡ x = cc in
-    absurd (not_both s x a.0 wrong' a.2 (subst (λ w. IsClose s w (Err wrong')) first
-    (subst (λ (t : ClosingState). IsClose t bytes' (Err wrong')) a'.1 b')))
-one_refused s (x ∷ prefix) bytes others lines now wrong (y ∷ prefix') bytes' others' lines' now' wrong' same a b a' b' =
+    absurd (not_refused_here format s x a.0 (All-head (MayHold format) x prefix h) a.2
+    (subst (IsRefusedIn format s) first (subst (λ (t : ClosingState). IsRefusedIn format t bytes') a'.1 b')))
+one_refused format s (x ∷ prefix) bytes others lines now (y ∷ prefix') bytes' others' lines' now' same h a b h' a' b' =
     let first : y ≡ x = cc in
     let rest : prefix ++ bytes ∷ others ≡ prefix' ++ bytes' ∷ others' = cc in
     let closed : a'.0 ≡ a.0 = same_close s x a'.0 a.0 (subst (λ w. IsClose s w (Ok a'.0)) first a'.2) a.2 in
-    let tails = one_refused a.0.state prefix bytes others a.1 now wrong prefix' bytes' others' a'.1 now' wrong' rest a.3
-    b
+    let tails = one_refused format a.0.state prefix bytes others a.1 now prefix' bytes' others' a'.1 now' rest
+    (All-tail (MayHold format) x prefix h) a.3 b (All-tail (MayHold format) y prefix' h')
     (subst (λ (t : PreparedClose). AreClosed t.state prefix' a'.1 now') closed a'.3) b' in
     λ i. sym first i ∷ tails i
 
@@ -148,8 +155,8 @@ refused_at_one k file offset other at a b =
     images_are_one k.network k.image (Ok b.start) (Ok a.start) b.judged a.judged in
     let start : b.start ≡ a.start = cc in
     let prefix : a.prefix ≡ b.prefix =
-    one_refused a.start a.prefix a.bytes a.others a.lines a.state a.wrong b.prefix b.bytes b.others b.lines b.state
-    b.wrong (sym a.records ∙ b.records) a.closed a.refused
+    one_refused k.format a.start a.prefix a.bytes a.others a.lines a.state b.prefix b.bytes b.others b.lines b.state
+    (sym a.records ∙ b.records) a.held a.closed a.refused b.held
     (subst (λ (x : ClosingState). AreClosed x b.prefix b.lines b.state) start b.closed) b.refused in
     (a.in_file ∙ sym b.in_file, a.at ∙ ap (λ f. length (blocks f)) prefix ∙ sym b.at)
 

@@ -8,7 +8,7 @@ pub use Rattle.std.proofs.Math.Seq.{take-append-add, take-append_seam, take-leng
 pub use Rattle.std.proofs.lemmas.Bool.Decides.{leb_tells}
 pub use Rattle.std.proofs.lemmas.List.{drop_at, ext_get_or, length-append, length-take-le, nil_from_length}
 pub use Rattle.std.proofs.lemmas.List.{take-append-drop, take-append-le, take_all, take_at}
-pub use Rattle.std.proofs.lemmas.List.Elements.{All-cons, All-head, All-same, All-tail}
+pub use Rattle.std.proofs.lemmas.List.Elements.{All-cons, All-head, All-nil, All-push, All-same, All-tail}
 pub use Rattle.std.proofs.lemmas.List.Sums.{sum_by-append, sum_by-cons}
 pub use Rattle.std.proofs.lemmas.Result.{err_from_is_err_and}
 pub use Rattle.std.specs.Fmt.{decimal, digit_glyph, digits_onto, signed_decimal}
@@ -38,7 +38,7 @@ pub use Rattle.record_stream.specs.Filling.{Grown}
 pub use Rattle.record_stream.specs.Measured.{end_by, image_end, record_end}
 pub use Rattle.record_stream.specs.Piece.{IsPiece, IsShort}
 pub use Rattle.record_stream.specs.declared.piece.PieceFault.{PieceFault}
-pub use Rattle.replay.specs.ClosingAgain.{AreClosedTo, IsRefusedAt}
+pub use Rattle.replay.specs.ClosingAgain.{AreClosedIn, AreClosedTo, IsRefusedAt, ClosesTo}
 pub use Rattle.replay.specs.CommandLaws.{CatchupsAgree, IsByCommand, IsFullAt, IsShowAnswered, IsShowComplete}
 pub use Rattle.replay.specs.CommandLaws.{IsShowFault, IsUnopenedShown, IsUsageReported, SamplesAreComplete}
 pub use Rattle.replay.specs.CommandLaws.{SamplesAreCompleteOrFull, SamplesAreOne, Showings, outcome_after}
@@ -67,7 +67,8 @@ pub use Rattle.stored_outcome.specs.After.{is_closed_line}
 unfoldable pub use Rattle.stored_outcome.specs.After.{complete_lines}
 pub use Rattle.stored_outcome.specs.Init.{Asked, DidInit, InitLeft, IsBadImage, IsBadInput, IsInitEnd, IsLedgerImage}
 pub use Rattle.stored_outcome.specs.Init.{MomentsOfInit, Stored}
-pub use Rattle.stored_outcome.specs.Opening.{BreaksRule, IsBadStore, IsSound, OpensOn, OpensTo, RefusesRecord, Yields}
+pub use Rattle.stored_outcome.specs.Opening.{BreaksRule, IsBadStore, IsRefusedIn, IsSound, MayHold, OpensOn}
+pub use Rattle.stored_outcome.specs.Opening.{OpensTo, RefusesRecord, Yields}
 pub use Rattle.stored_outcome.specs.Program.{DidNothing, Ran, RanAs}
 pub use Rattle.stored_outcome.specs.Sample.{DidSample, IsEntire, IsRefusedAfter, IsSampleEnd, IsSamplePrefix, IsSampled}
 pub use Rattle.stored_outcome.specs.Show.{DidShow, IsShown, IsUnshown, ReadsStay, lines_shown}

@@ -3,7 +3,7 @@ use Rattle.replay.proofs.Prelude.{◌≡◌, ◌≢◌, ◌^◌, ℕ, List, [], 
 use Rattle.replay.proofs.Prelude.{Hash}
 use Rattle.replay.proofs.Prelude.{StartImage, ClosingState, PreparedClose, IsClose, IsJudged, AreClosed, lines_of}
 use Rattle.replay.proofs.Prelude.{Image, Disk, Runs, StoreState, Kept, grown, rolled, Holds, IsSettled, HoldsEither}
-use Rattle.replay.proofs.Prelude.{Yields, OpensTo, Ready, OpensEither, IsStored}
+use Rattle.replay.proofs.Prelude.{Yields, OpensTo, MayHold, Ready, OpensEither, IsStored, All-nil, All-push}
 use Rattle.std.proofs.lemmas.Bool.{cases_lt}
 use Rattle.image_store.specs.ImageFiles.{word_in}
 use Rattle.image_store.proofs.Words.{format_low, format_high}
@@ -20,12 +20,22 @@ closed_more s (w ∷ ws) lines now bytes c closed closes =
     let rest = closed_more closed.0.state ws closed.1 now bytes c closed.3 closes in
     (lines_of closed.0 ++ rest.0, (closed.0, rest.0, closed.2, rest.1, refl))
 
-pub yields_more : (k : Kept) (s : ClosingState) (bytes : List ℕ) (c : PreparedClose) → Yields k s
+-- an epoch of format 2 may hold each record
+may_hold : (format : ℕ) (bytes : List ℕ) → format ≡ 2 → MayHold format bytes
+may_hold format bytes second first form = absurd (cc)
+
+pub yields_more : (k : Kept) (s : ClosingState) (bytes : List ℕ) (c : PreparedClose) → k.format ≡ 2 → Yields k s
     → IsClose s bytes (Ok c)
     → Yields (grown k bytes) c.state
-yields_more k s bytes c yields closes =
+yields_more k s bytes c second yields closes =
     let more = closed_more yields.start k.records yields.lines s bytes c yields.closed closes in
-    record { start = yields.start; judged = yields.judged; lines = more.0; closed = more.1 }
+    record {
+      start = yields.start;
+      judged = yields.judged;
+      held = All-push (MayHold k.format) k.records bytes yields.held (may_hold k.format bytes second);
+      lines = more.0;
+      closed = more.1;
+    }
 
 -- the network stays
 close_network : (s : ClosingState) (bytes : List ℕ) (c : PreparedClose) → IsClose s bytes (Ok c)
@@ -52,6 +62,7 @@ pub yields_rolled : (k : Kept) (s : ClosingState) (image : StartImage) → Yield
 yields_rolled k s image yields judged = record {
   start = s;
   judged = subst (λ (n : Hash). IsJudged n image (Ok s)) (yields_network k s yields) judged;
+  held = All-nil (MayHold (rolled k image).format);
   lines = [];
   closed = (refl, refl);
 }
@@ -82,23 +93,23 @@ stored_runs format store old new next s t i goes runs =
 
 -- ---- one record more
 
-pub stored_more : (format : ℕ) (store after : StoreState) (old new : Disk) (s : ClosingState) (bytes : List ℕ)
-    (c : PreparedClose) → (i : IsStored format store old s) → IsClose s bytes (Ok c)
-    → IsSettled after new (grown i.kept bytes) → Ready (IsStored format after new c.state) new c.state
-stored_more format store after old new s bytes c i closes settled =
-    ready_of format after new c.state (record {
+pub stored_more : (store after : StoreState) (old new : Disk) (s : ClosingState) (bytes : List ℕ)
+    (c : PreparedClose) → (i : IsStored 2 store old s) → IsClose s bytes (Ok c)
+    → IsSettled after new (grown i.kept bytes) → Ready (IsStored 2 after new c.state) new c.state
+stored_more store after old new s bytes c i closes settled =
+    ready_of 2 after new c.state (record {
       kept = grown i.kept bytes;
       settled = settled;
-      yields = yields_more i.kept s bytes c i.yields closes;
+      yields = yields_more i.kept s bytes c i.is_format i.yields closes;
       is_format = i.is_format;
     })
 
-pub stored_more_runs : (format : ℕ) (store : StoreState) (old new : Disk) (s : ClosingState) (bytes : List ℕ)
-    (c : PreparedClose) → (i : IsStored format store old s) → IsClose s bytes (Ok c)
+pub stored_more_runs : (store : StoreState) (old new : Disk) (s : ClosingState) (bytes : List ℕ)
+    (c : PreparedClose) → (i : IsStored 2 store old s) → IsClose s bytes (Ok c)
     → Runs (HoldsEither i.kept (grown i.kept bytes)) old new → Runs (OpensEither s c.state) old new
-stored_more_runs format store old new s bytes c i closes runs =
-    stored_runs format store old new (grown i.kept bytes) s c.state i (yields_more i.kept s bytes c i.yields closes)
-    runs
+stored_more_runs store old new s bytes c i closes runs =
+    stored_runs 2 store old new (grown i.kept bytes) s c.state i
+    (yields_more i.kept s bytes c i.is_format i.yields closes) runs
 
 -- ---- a new image
 

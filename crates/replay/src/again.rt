@@ -1,7 +1,9 @@
 //! The records of a journal, closed again.
 
-ghost use Rattle.std.specs.Prelude.{◌≡◌, ◌≤◌, ◌<◌, ◌^◌, length};
+ghost use Rattle.std.specs.Prelude.{◌≡◌, ◌↔◌, ◌≤◌, ◌<◌, ◌^◌, length, IsTrue};
+ghost use Rattle.xdr_core.specs.Format.{IsBytes};
 ghost use Rattle.image_store.specs.gate_journal.Records.{blocks};
+ghost use Rattle.stored_outcome.specs.Opening.{IsOfForm2, MayHold};
 ghost use Rattle.replay.specs.ClosingAgain as spec;
 ghost use Rattle.replay.specs.StoredRuns.{AreShort};
 
@@ -9,6 +11,8 @@ use item_list::ItemList;
 use outside::Steps;
 use std::sync::ledger::Ledger as Count;
 use worker_merges::ledger_close::{CloseFault, Ledger};
+use xdr_core::Cursor;
+use xdr_header::FORM_2;
 
 /// Why the records of a journal don't all close.
 #[derive(Clone, Copy)]
@@ -28,15 +32,36 @@ pub(crate) enum OneFault {
     NoMemory,
 }
 
-/// Closes the ledger of a record again.
+/// Whether a record is of form 2, by its first word.
+fn is_of_form_2(bytes: &[u8]) -> bool
+    ensures { IsTrue result ↔ IsOfForm2 bytes.now }
+{
+    match Cursor::new(bytes).u32() {
+        Ok(word) => word == FORM_2,
+        Err(_) => false,
+    }
+}
+
+/// Whether an epoch of a format may hold a record: one of format 1 holds none of form 2.
+fn may_hold(format: u8, bytes: &[u8]) -> bool
+    ensures { IsTrue result ↔ MayHold format bytes.now }
+{
+    format != 1 || !is_of_form_2(bytes)
+}
+
+/// Closes the ledger of a record again, which stands in an epoch of this format.
 fn close_one<L: Count>(
     ledger: &mut Ledger,
+    format: u8,
     bytes: &[u8],
     steps: &mut Steps<L>,
 ) -> Result<(), OneFault>
     requires { length bytes.now ≤ 16777216 }
-    ensures { spec.ClosesOne ledger.old.state bytes.now ledger.new.state result }
+    ensures { spec.ClosesOne format ledger.old.state bytes.now ledger.new.state result }
 {
+    if !may_hold(format, bytes) {
+        return Err(OneFault::Refused);
+    }
     match ledger.prepare(bytes, steps) {
         Ok(prepared) => {
             ledger.install(prepared);
@@ -49,21 +74,22 @@ fn close_one<L: Count>(
     }
 }
 
-/// Closes the ledgers of a journal's records again.
+/// Closes the ledgers of the records again that the journal of an epoch of this format holds.
 pub(crate) fn close_again<L: Count>(
     ledger: &mut Ledger,
+    format: u8,
     closes: &[ItemList<u8>],
     steps: &mut Steps<L>,
 ) -> Result<(), AgainFault>
     requires short { AreShort closes.now }
     requires fits { length (blocks closes.now) < 2 ^ 64 }
-    ensures { spec.ClosesAgain ledger.old.state closes.now ledger.new.state result }
+    ensures { spec.ClosesAgain format ledger.old.state closes.now ledger.new.state result }
 {
     let mut at: u64 = 0;
     let mut i = 0;
     while i < closes.len() {
         let bytes = closes[i].as_slice();
-        match close_one(ledger, bytes, steps) {
+        match close_one(ledger, format, bytes, steps) {
             Ok(()) => {}
             Err(OneFault::Refused) => return Err(AgainFault::Refused { offset: at }),
             Err(OneFault::NoMemory) => return Err(AgainFault::NoMemory),

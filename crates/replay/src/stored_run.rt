@@ -71,7 +71,7 @@ fn restore<L: Count>(
         Ok(ledger) => ledger,
         Err(fault) => return Err(image_status(fault, epoch, format)),
     };
-    match close_again(&mut ledger, closes, steps) {
+    match close_again(&mut ledger, format, closes, steps) {
         Ok(()) => Ok(ledger),
         Err(AgainFault::NoMemory) => Err(Status::NoMemory),
         Err(AgainFault::Refused { offset }) => Err(Status::BadStore {

@@ -8,7 +8,7 @@ use Rattle.sample_ledger.specs.xdr_header.Records.{close_record}
 use Rattle.legal_rules.specs.xdr_core.declared.fault.XdrFault.{XdrFault}
 use Rattle.legal_rules.specs.xdr_core.Position.{start_of, ◌>>=◌}
 use Rattle.sample_ledger.specs.xdr_header.declared.record.CloseRecord.{CloseRecord}
-use Rattle.sample_ledger.proofs.xdr_header_proofs.HeaderLaws.{close_record_laws}
+use Rattle.sample_ledger.proofs.xdr_header_proofs.RecordLaws.{close_record_laws}
 use Rattle.sample_ledger.specs.close_rules.declared.close_fault.CloseFault.{CloseFault}
 use Rattle.sample_ledger.specs.close_rules.declared.close_fault.CloseFault.TheVariants as fault
 use Rattle.sample_ledger.specs.bucket_levels.Hash.{list_hash}

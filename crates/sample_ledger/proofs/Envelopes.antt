@@ -7,9 +7,13 @@ use prelude.{memo_part, memo_arms, memo_none, transaction_tail, preconditions, p
 use prelude.{no_conditions, transaction, transaction_fields}
 use prelude.{transaction_v1_envelope, v1_fields, transaction_envelope, envelope_part, envelope_arms, envelope_v1}
 use prelude.{transaction_set, set_fields, stellar_value, value_fields, ledger_close_value_signature, close_record}
-use prelude.{record_fields, hash_of_set, secret, account_count, issuer_turn, drawn_turn, issuer_operations}
+use prelude.{record_fields, hash_of_set, u32, secret, account_count, issuer_turn, drawn_turn, issuer_operations}
 use prelude.{other_operation, operations_of, signers_of, envelope_of, is_claim, if_either}
+use Rattle.std.proofs.Common.{Bool, None, Option, false, subst, sym}
 use Rattle.std.specs.Prelude.{drop}
+use Rattle.op_types.specs.declared.vouch.Vouch.{Vouch}
+use Rattle.xdr_core.specs.Dependent.{choice, known}
+use Rattle.xdr_header.specs.Records.{HasForm, head_fields, number_after, record_head, record_rest, unequal}
 use Rattle.op_types.specs.declared.preconditions.Preconditions.TheVariants as conditions
 use Rattle.op_types.specs.declared.transaction.Memo.TheVariants as memos
 use Rattle.sample_ledger.specs.Records as spec
@@ -190,13 +194,27 @@ set_short seed k header fits few =
     (short.short_list 4294967295 9 transaction_envelope 2175 _ (omega arith) (omega arith)
     (envelopes_short seed k 0 9 fits few (omega arith))))
 
+-- a number of a sample's ledger isn't the first word of form 2
+form_of : (k : ℕ) → k ≤ 20000 → HasForm (k + 1) false
+form_of k few is = omega arith
+
+head_short : (k : ℕ) → k ≤ 20000 → IsShort record_head 4 (k + 1, false)
+head_short k few =
+    let number : IsShort (number_after (k + 1)) 0 (k + 1) =
+    subst (λ (b : Bool). IsShort (choice b u32 (known (k + 1))) 0 (k + 1)) (sym (unequal (k + 1) (form_of k few)))
+    (short.short_known (k + 1)) in
+    short.short_partial head_fields {n = 4} {v = (k + 1, false)} (form_of k few)
+    (short.short_dependent {f = u32} number_after (short.short_u32 (k + 1) (omega arith)) number)
+
 pub record_short : (seed k : ℕ) (header : LedgerHeader) → seed < 2 ^ 32 → k ≤ 20000
     → IsShort close_record 19669 (spec.record_of seed k header)
 unfolding close_record stellar_value hash_of_set
 record_short seed k header fits few =
-    short.short_struct record_fields (short.short_both (short.short_u32 (k + 1) (omega arith))
+    short.short_partial record_fields {n = 19669} {v = spec.record_of seed k header} tt
+    (short.short_dependent {f = record_head} record_rest (head_short k few)
     (short.short_both (short.short_entire (set_short seed k header fits few))
-    (short.short_entire (short.short_struct value_fields (short.short_both (hash_short _)
+    (short.short_both (short.short_entire (short.short_struct value_fields (short.short_both (hash_short _)
     (short.short_both (short.short_u64 (1000 + 5 * k) (omega arith))
     (short.short_both (short.short_list 6 0 (var 128) 0 [] (omega arith) (omega arith) tt)
-    (short.no_extension (pos 1) ledger_close_value_signature))))))))
+    (short.no_extension (pos 1) ledger_close_value_signature))))))
+    (short.short_known {V = Option (List Vouch)} None))))

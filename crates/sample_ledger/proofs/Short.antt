@@ -7,7 +7,9 @@ use prelude.{empty, constant, marked, closed, option, list, Arm, Part, part, enc
 use prelude.{extension, Xdr, tag, optional, list_of, union_of, extension_of}
 use Rattle.std.proofs.Math.Nat.{mul-le-mul_right}
 use Rattle.byteorder.specs.Numbers.{length-bytes_high_first}
+use Rattle.xdr_core.specs.Dependent.{◌⨾>◌, known, PartialFields, partial_of}
 use Rattle.xdr_core.specs.declared.fault.XdrFault.{XdrFault}
+use Rattle.std.proofs.Common.{refl}
 
 pub record IsShort {V : Type 0} (f : Xdr V) (most : ℕ) (v : V) : Type 0 where
   pub within : f.within v
@@ -86,6 +88,24 @@ short_struct fields short = record { within = short.within; sized = short.sized;
 
 pub short_entire : {V : Type 0} {f : Xdr V} {n : ℕ} {v : V} → IsShort f n v → IsShort (entire f) n v
 short_entire short = record { within = short.within; sized = short.sized; short = short.short }
+
+-- ---- one after another that depends on it
+
+pub short_dependent : {A B : Type 0} {f : Xdr A} (g : A → Xdr B) {m n : ℕ} {a : A} {b : B} → IsShort f m a
+    → IsShort (g a) n b → IsShort (f ⨾> g) (m + n) (a, b)
+short_dependent {f = f} g {m = m} {n = n} {a = a} {b = b} first then = record {
+  within = (first.within, then.within);
+  sized = (first.sized, then.sized);
+  short = both_len (f.encoding a) ((g a).encoding b) m n first.short then.short;
+}
+
+pub short_known : {V : Type 0} (value : V) → IsShort (known value) 0 value
+short_known value = record { within = refl; sized = tt; short = omega arith }
+
+pub short_partial : {A V : Type 0} {f : Xdr A} (fields : PartialFields f V) {n : ℕ} {v : V} → fields.Has v
+    → IsShort f n (fields.from v) → IsShort (partial_of f fields) n v
+short_partial fields has short =
+    record { within = (has, short.within); sized = short.sized; short = short.short }
 
 -- ---- after a discriminant, or before one
 

@@ -233,4 +233,5 @@ record_of seed k header = record {
     upgrades = [];
     ext = None;
   };
+  vouches = None;
 }

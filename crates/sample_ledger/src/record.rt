@@ -73,5 +73,6 @@ pub fn make_record(
             upgrades: ItemList::new(alloc),
             ext: None,
         },
+        vouches: None,
     })
 }

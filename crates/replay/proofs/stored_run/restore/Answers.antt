@@ -3,8 +3,14 @@ use Rattle.replay.proofs.stored_run.restore.Goals as goal
 
 pub returns-in-Ok-close_again : goal.returns-in-Ok-close_again
 returns-in-Ok-close_again g c =
-    let closed = c.in-Ok-close_again.ensures in
-    record { start = c.in-Ok.ledger.state; judged = c.in-Ok.ensures.judges; lines = closed.0; closed = closed.1 }
+    let again = c.in-Ok-close_again.ensures in
+    record {
+      start = c.in-Ok.ledger.state;
+      judged = c.in-Ok.ensures.judges;
+      held = again.held;
+      lines = again.lines;
+      closed = again.closed;
+    }
 
 pub returns : goal.returns
 returns g c =
@@ -16,10 +22,10 @@ returns g c =
       bytes = refused.bytes;
       others = refused.others;
       records = refused.cut;
-      lines = refused.closed.0;
+      held = refused.closed.held;
+      lines = refused.closed.lines;
       state = refused.state;
-      closed = refused.closed.1;
-      wrong = refused.wrong;
+      closed = refused.closed.closed;
       refused = refused.refused;
       in_file = refl;
       at = c.in-Err-Refused.offset-is ∙ refused.at;

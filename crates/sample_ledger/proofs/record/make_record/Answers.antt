@@ -10,6 +10,7 @@ closing k wide set digest upgrades = record {
   ledger_seq = k + 1;
   tx_set = set;
   scp_value = record { tx_set_hash = digest; close_time = 1000 + 5 * wide; upgrades = upgrades; ext = None };
+  vouches = None;
 }
 
 pub set_hash-requires : goal.set_hash-requires

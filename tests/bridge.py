@@ -46,7 +46,6 @@ from transaction_hash import transaction_hash  # noqa: E402
 
 import ledger_model  # noqa: E402
 import store_model  # noqa: E402
-from earlier_types import earlier  # noqa: E402
 
 BAD, MISSING, BAD_INPUT, BAD_IMAGE, REFUSED, DONE = 7, 11, 9, 10, 3, 0
 IMAGE_COMMANDS = (b"init", b"catchup")
@@ -176,8 +175,6 @@ def try_rows(top: str, tally: Tally) -> None:
             got = read_row(name, data)
             # what docs/FORMATS.md calls a wrong magic has no kind of its own
             is_so = got == expected or name == "start_image" and kind == "BadEnum" and got[1] == expected[1]
-            # a row of a record, of which the program has one form
-            is_so = is_so or name != "start_image" and fault_of(earlier(type_of_row(name)), data) == expected
             detail = f"{os.path.basename(path)} {name}: {got}, not {expected}"
             tally.check("a row of a value or fault is as it says", is_so, detail)
 
@@ -304,12 +301,6 @@ def try_output(tally: Tally, name: str, case: cases.Case, seen: Read) -> None:
     tally.check("records that closed are read", len(closed) <= len(seen.records), name)
 
 
-def earlier_fault(data: bytes, start: int) -> Tuple[Optional[str], int]:
-    """The fault of the record at an offset, as the program reads it."""
-    size = int.from_bytes(data[start - 4:start], "big") & 0x7FFFFFFF
-    return fault_of(earlier(xdr.RECORD), data[start:start + size])
-
-
 def try_faults(tally: Tally, name: str, case: cases.Case, seen: Read) -> None:
     """Compares the fault of an input with what the program says of it."""
     offset = seen.fault.offset if seen.fault else None
@@ -330,8 +321,7 @@ def try_faults(tally: Tally, name: str, case: cases.Case, seen: Read) -> None:
         if last[2] == "BadXdr":
             got = seen.fault and (seen.fault.what.split(",")[0], (offset or 0) - seen.record_at)
             expected = (last[4], int(last[3]))
-            is_same = expected in (got, earlier_fault(case.given, seen.record_at))
-            tally.check("a record that doesn't read has its fault", is_same, f"{name}: {got}, not {last}")
+            tally.check("a record that doesn't read has its fault", got == expected, f"{name}: {got}, not {last}")
     elif case.status == DONE:
         tally.check("an input that is read has no fault", seen.fault is None, f"{name}: {seen.fault}")
 

@@ -7,8 +7,8 @@ it must print now is the hash of its header.
     apart_cases.py FOLDER NAME      writes cases/apart-NAME.case, and names it as the last of those that came from elsewhere
 
 FOLDER has a run: `args`, a word a line; `input.bin`; what must be written and answered, `expected_out`, `expected_err` and
-`expected_status`; and, where they are there, `before` and `after` with the files of the volume as the run begins and as it ends. Python
-3.9 or later and its standard library.
+`expected_status`; and, where they are there, `before` and `after` with the files of the volume as the run begins and as it ends: without `after`
+it ends as it begins. Python 3.9 or later and its standard library.
 """
 
 import os
@@ -32,6 +32,8 @@ def read_apart(folder):
     """The words of a run, its input, what it must yield, and the files of the volume before and after it."""
     out, err, status = (content(f"{folder}/expected_{kind}").decode() for kind in ("out", "err", "status"))
     before, after = ([content(f"{folder}/{when}/{name}") for name in FILES] for when in ("before", "after"))
+    if not os.path.isdir(f"{folder}/after"):
+        after = before
     words = content(f"{folder}/args").decode().splitlines()
     return words, content(f"{folder}/input.bin"), (out, err, int(status)), before, after
 

@@ -154,14 +154,17 @@ class Story:
         self.ledger = ledger_of(sha(NETWORK.encode()), *cut_image(Text(data)))
 
     def record(self, *listed, time=None, upgrades=(), **changes):
-        """The bytes of the next record, or of one with another number, previous hash or hash of its set."""
+        """The bytes of the next record, or of one with another number, previous hash or hash of its set; of form 2
+        where there are vouches."""
         header = self.ledger.header
         time = header["value"]["time"] + 5 if time is None else time
         previous = changes.get("previous", self.ledger.hash)
         envelopes = [envelope.xdr() for envelope in listed]
         digest = changes.get("digest", sha(previous + b"".join(sorted(envelopes, key=sha))))
         value = digest + u64(time) + many([var(upgrade) for upgrade in upgrades]) + u32(0)
-        return u32(changes.get("seq", header["seq"] + 1)) + previous + many(envelopes) + value
+        close = u32(changes.get("seq", header["seq"] + 1)) + previous + many(envelopes) + value
+        vouches = changes.get("vouches")
+        return close if vouches is None else u32(sets.FORM_2) + close + many(vouches)
 
     def add(self, record):
         self.data += marked(record)

@@ -2,7 +2,7 @@
 (`model_types.py`), entries by the ranks of their keys, changes with undo, and who pays for reserves (CAP-0033).
 """
 
-from earlier_types import xdr
+from codec import xdr
 from model_types import Rows, shape
 from xdr import XdrFault
 
@@ -63,7 +63,7 @@ def rows_of(kind):
 U32, U64 = Kind(xdr.U32), Kind(xdr.U64)
 ASSET, LINE_ASSET, POOL_PARAMS = kind_of(xdr.ASSET), kind_of(xdr.TRUST_LINE_ASSET), kind_of(xdr.POOL_PARAMETERS)
 CLAIMANT, OFFER, ENTRY, KEY = (kind_of(kind) for kind in (xdr.CLAIMANT, xdr.OFFER, xdr.LEDGER_ENTRY, xdr.LEDGER_KEY))
-ITEM, RECORD = kind_of(xdr.BUCKET_ENTRY), kind_of(xdr.CLOSE_RECORD)
+ITEM, RECORD = kind_of(xdr.BUCKET_ENTRY), kind_of(xdr.RECORD)
 VALUE, UPGRADE, HEADER = kind_of(xdr.STELLAR_VALUE), kind_of(xdr.LEDGER_UPGRADE), kind_of(xdr.LEDGER_HEADER)
 # the names of a key's fields, by its type
 KEY_NAMES = [list(arm.fields) for _, _, arm in KEY.kind.arms.values()]

@@ -331,38 +331,70 @@ def default_result(op):
 # ---- signatures
 
 
+def payload_hint(key, payload):
+    """The hint of a signed payload: that of its key, with the last bytes of the payload, which zeros fill up to four."""
+    return bytes(x ^ y for x, y in zip(key[-4:], payload[-4:].ljust(4, bytes(1))))
+
+
+class Vouches:
+    """What an outside verifier says of signatures: whose they are, over which hash or payload."""
+
+    def __init__(self, listed):
+        self.said = {(arm, vouch["key"], vouch.get("digest", vouch.get("payload")), vouch["signature"]) for arm, vouch in listed}
+
+    def are_for(self, arm, key, over, signature):
+        return (arm, key, over, signature) in self.said
+
+
+# the kinds of signers for which signatures count, in their order: hash-x, Ed25519, signed payloads
+SIGNING = 2, 0, 3
+
+
 class Signatures:
     """The signatures of a transaction, and which of them some check used."""
 
-    def __init__(self, rows, digest):
-        self.rows, self.digest, self.used = rows, digest, set()
+    def __init__(self, rows, digest, vouches):
+        self.rows, self.digest, self.vouches, self.used = rows, digest, vouches, set()
 
-    def check(self, account, level):
-        return account is not None and self.reach(account["signers"], account["thresholds"][level])
+    def check(self, account, key, level):
+        """Whether an account's signers have signed. Without an account its key is the one signer, and any weight will do."""
+        if account is None:
+            return self.reach([{"key": (0, key), "weight": 1}], 0)
+        weight = account["thresholds"][0]
+        own = [{"key": (0, key), "weight": weight}] if weight else []
+        return self.reach([*account["signers"], *own], account["thresholds"][level])
+
+    def signs(self, row_, key):
+        """Whether a signature is by a key: its preimage, or by a vouch."""
+        (arm, held), hint, signature = key, row_["hint"], row_["signature"]
+        if arm == 2:
+            return held[-4:] == hint and held == sha(signature)
+        if arm == 0:
+            return held[-4:] == hint and self.vouches.are_for(0, held, self.digest, signature)
+        of, payload = held["key"], held["payload"]
+        return payload_hint(of, payload) == hint and self.vouches.are_for(3, of, payload, signature)
 
     def check_extra(self, keys):
         """Whether the signers that a transaction asks for beside those of its source have all signed."""
         return not keys or self.reach([{"key": key, "weight": 1} for key in keys], len(keys))
 
     def reach(self, signers, threshold):
-        """Whether those of some signers that signed have enough weight together, one of them at least. Only hashes
-        sign: Ed25519 keys and signed payloads never do."""
+        """Whether those of some signers that signed have enough weight together, one of them at least."""
         reached = 0
         for signer in signers:
             if signer["key"] == (1, self.digest):
                 reached += min(signer["weight"], 255)
                 if reached >= threshold:
                     return True
-        left = [signer for signer in signers if signer["key"][0] == 2]
-        for index, row_ in enumerate(self.rows):
-            for signer in left:
-                if signer["key"][1][-4:] == row_["hint"] and signer["key"][1] == sha(row_["signature"]):
+        for kind in SIGNING:
+            left = [signer for signer in signers if signer["key"][0] == kind]
+            for index, row_ in enumerate(self.rows):
+                found = next((at for at, signer in enumerate(left) if self.signs(row_, signer["key"])), None)
+                if found is not None:
                     self.used.add(index)
-                    left.remove(signer)
-                    reached += min(signer["weight"], 255)
+                    reached += min(left.pop(found)["weight"], 255)
                     if reached >= threshold:
                         return True
-                    break
         return False
 
     @property
@@ -465,11 +497,12 @@ def checked(header, frame, layer, tx, source, signatures, pays):
     set_seq(frame, layer, source, tx["seq"])
     if asked.is_too_soon(frame, account):
         return i32(-15)
-    if not signatures.check(account, 1) or not signatures.check_extra(asked.signers):
+    if not signatures.check(account, source, 1) or not signatures.check_extra(asked.signers):
         return i32(-6)
     if pays and available(account, frame.reserve) < 0:
         return i32(-7)
-    passes = [signatures.check(layer.account(source_of(source, op)), level_of(op)) for op in operations]
+    sources = [source_of(source, op) for op in operations]
+    passes = [signatures.check(layer.account(of), of, level_of(op)) for of, op in zip(sources, operations)]
     if not all(passes):
         return i32(-1) + many([default_result(op) if passed else i32(-1) for op, passed in zip(operations, passes)])
     return None if signatures.are_used else i32(-10)
@@ -498,30 +531,31 @@ def run_transaction(header, time, layer, tx, source, signatures, pays=True, is_f
     return i32(0) + results
 
 
-def run_bump(header, time, layer, sent):
-    signatures, base_fee = Signatures(sent.signatures, sent.hash), header["base_fee"]
+def run_bump(header, time, layer, sent, vouches):
+    signatures, base_fee = Signatures(sent.signatures, sent.hash, vouches), header["base_fee"]
     outer, inner = base_fee * sent.size, base_fee * max(1, len(sent.operations))
     if sent.bid < outer or sent.bid * inner < sent.inner["fee"] * outer:
         return i32(-9)
     if layer.account(sent.payer) is None:
         return i32(-8)
-    if not signatures.check(layer.account(sent.payer), 1):
+    if not signatures.check(layer.account(sent.payer), sent.payer, 1):
         return i32(-6)
     remove_signer(layer, sent.payer, (1, sent.hash))
     if available(layer.account(sent.payer), header["reserve"]) < 0:
         return i32(-7)
     if not signatures.are_used:
         return i32(-10)
-    held = Signatures(sent.inner_signatures, sent.inner_hash)
+    held = Signatures(sent.inner_signatures, sent.inner_hash, vouches)
     outcome = run_transaction(header, time, layer, sent.inner, sent.source, held, pays=False)
     is_done = int.from_bytes(outcome[:4], "big", signed=True) == 0
     return i32(1 if is_done else -13) + sent.inner_hash + i64(0) + outcome + u32(0)
 
 
-def run_envelope(header, time, layer, sent):
+def run_envelope(header, time, layer, sent, vouches):
     if sent.arm == 5:
-        return run_bump(header, time, layer, sent)
-    return run_transaction(header, time, layer, sent.tx, sent.source, Signatures(sent.signatures, sent.hash), is_first=sent.arm == 0)
+        return run_bump(header, time, layer, sent, vouches)
+    signatures = Signatures(sent.signatures, sent.hash, vouches)
+    return run_transaction(header, time, layer, sent.tx, sent.source, signatures, is_first=sent.arm == 0)
 
 
 # ---- sets
@@ -630,7 +664,8 @@ class Ledger:
             if top.account(sent.payer) is None:
                 raise BadRecord(f"FeeSourceMissing {listed.index(sent)}")
         lines, fees, base, self.outcomes = [], [], set_fee(header, listed), {}
-        results = self.results = []
+        results, vouches = [], Vouches(record.get("vouches", ()))
+        self.results = results
         # the header of the transactions, in which ids are drawn
         header = dict(header)
         for sent in order:
@@ -638,7 +673,7 @@ class Ledger:
             fees.append(min(balance, sent.bid, base * max(1, sent.size)))
             top.set_account(sent.payer, balance=balance - fees[-1])
         for sent, fee in zip(order, fees):
-            outcome = self.outcomes[sent.hash] = run_envelope(header, value["time"], top, sent)
+            outcome = self.outcomes[sent.hash] = run_envelope(header, value["time"], top, sent, vouches)
             results.append(sent.hash + i64(fee) + outcome + u32(0))
             number = int.from_bytes(outcome[:4], "big", signed=True)
             lines.append(f"tx {sent.hash.hex()} {fee} {number}\n")

@@ -1,12 +1,11 @@
-"""The types of the ledger of these models: the codec's table (tools/stellar_xdr.py), as the program has it, with the
-short names of these models.
+"""The types of the ledger of these models: the codec's table (tools/stellar_xdr.py) with the short names of these models.
 
 A value of a struct is a dict by the names below; of a union the number of its arm and what the arm holds, or None; of
 what is hashed as it stands, which are transactions and envelopes, the value and its encoding.
 """
 
-from earlier_types import REPLACED, xdr
-from xdr import Array, Choice, Items, Option, Struct, Type, XdrFault
+from codec import xdr
+from xdr import Array, Choice, Formed, Items, Option, Struct, Type, XdrFault
 
 # ---- how values are read and written here
 
@@ -114,6 +113,8 @@ NAMES = {id(kind): names.split() for kind, names in [
     (xdr.LEDGER_HEADER,
      "version previous value results levels seq coins pool inflation ids base_fee reserve most skips ext"),
     (xdr.LEDGER_HEADER.fields["ext"].arms[1][2], "flags ext"), (xdr.CLOSE_RECORD, "seq set value"),
+    (xdr.VOUCHED_RECORD, "seq set value vouches"), (xdr.VOUCH.arms[0][2], "key digest signature"),
+    (xdr.VOUCH.arms[3][2], "key payload signature"),
 ]}
 # structs of one field that are that field here
 BARE = {id(OPERATIONS[index]) for index in (11, 15, 16, 20)}
@@ -134,7 +135,7 @@ shapes = {}
 def shape(kind):
     """A type of the table as it is here, made once."""
     if id(kind) not in shapes:
-        shapes[id(kind)] = shaped(kind, REPLACED.get(id(kind), PARTED.get(id(kind), kind)))
+        shapes[id(kind)] = shaped(kind, PARTED.get(id(kind), kind))
     return shapes[id(kind)]
 
 
@@ -160,4 +161,6 @@ def shaped_other(kind):
         return Rows(shape(kind.item), kind.most)
     if isinstance(kind, Array):
         return Array(shape(kind.item), kind.count)
+    if isinstance(kind, Formed):
+        return Formed(kind.word, shape(kind.plain), shape(kind.other))
     return Option(shape(kind.item)) if isinstance(kind, Option) else kind

@@ -28,6 +28,7 @@ from share_line_cases import PARTS as SHARE_LINE_PARTS
 from store_cases import PARTS as STORE_PARTS
 from store_cases import input_of, start_of
 from table_cases import PARTS as TABLE_PARTS
+from vouched_record_cases import PARTS as VOUCHED_PARTS
 from store_model import init, run, show
 from case_tools import (
     A_WITH_D, CASES, LUMEN, META_18, NETWORK, NO_RESULTS, A, Account, B, C, D, Data, Story, bucket, case, encoded, entry, header_of,
@@ -448,7 +449,7 @@ PARTS = [
     ("", [forms, header_rules, file_rules, entry_rules, rules_at_once, bad_records, terms, upgrades, set_faults, faults_at_once, closes, bumped]),
     ("assets ", ASSET_PARTS), ("trades ", OFFER_PARTS), ("pools ", POOL_IMAGE_PARTS + SHARE_LINE_PARTS + POOL_PARTS + REVOCATION_PARTS),
     ("paths ", PATH_PARTS + PATH_BOUND_PARTS), ("stores ", STORE_PARTS), ("samples ", SAMPLE_PARTS),
-    ("sets ", TABLE_PARTS), ("protocol 19 ", PROTOCOL_19_PARTS),
+    ("sets ", TABLE_PARTS), ("protocol 19 ", PROTOCOL_19_PARTS), ("vouches ", VOUCHED_PARTS),
 ]
 
 

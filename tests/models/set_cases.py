@@ -558,6 +558,8 @@ BAD_MIN_SEQ_AGE_OR_GAP, MALFORMED = code(-15), code(-16)
 
 # what a header has unless a case says otherwise
 BASE_FEE, RESERVE, MAX_SIZE, SEQ, TIME = 100, 5_000_000, 1_000, 2, 1_000
+# the first word of a record with vouches
+FORM_2 = 0x80000002
 
 
 def marked(data):
@@ -567,8 +569,8 @@ def marked(data):
 class Start:
     """The ledger that a case begins with, as an image: its entries are in the first file of the levels (CAP-0020)."""
 
-    def __init__(self, before, base_fee=BASE_FEE, max_size=MAX_SIZE, seq=SEQ, pool=0, time=TIME, version=18):
-        self.version = version
+    def __init__(self, before, base_fee=BASE_FEE, max_size=MAX_SIZE, seq=SEQ, pool=0, time=TIME, version=18, vouches=None):
+        self.version, self.vouches = version, vouches
         coins = pool + sum(e.balance for e in before if isinstance(e, Account))
         items = [i32(-1) + u32(version) + u32(0), *(i32(2) + e.xdr() for e in sorted(before, key=lambda e: e.key))]
         self.file = b"".join(map(marked, items)) if before else b""
@@ -593,9 +595,10 @@ class Start:
         return sorted(envelopes, key=lambda e: (rank[id(e)], int.from_bytes(sha(e.xdr()), "big") ^ mask))
 
     def record(self, envelopes, time):
-        """The close record of a set."""
+        """The close record of a set: of form 2 where vouches are given."""
         value = self.set_hash(envelopes) + u64(time) + u32(0) + u32(0)
-        return u32(self.seq + 1) + self.hash + many([e.xdr() for e in envelopes]) + value
+        close = u32(self.seq + 1) + self.hash + many([e.xdr() for e in envelopes]) + value
+        return close if self.vouches is None else u32(FORM_2) + close + many(self.vouches)
 
 
 # ---- cases

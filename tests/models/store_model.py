@@ -8,6 +8,8 @@ from ledger_model import HEADER, BadImage, BadRecord, Text, Wrong, cut_image, le
 FILES = ("image0", "image1", "journal0", "journal1")
 # how many bytes come before the image, by the format of its file; a file of either is open from the first one's on
 HEADS = {1: 49, 2: 81}
+# the first word of a record with vouches, which a journal of format 1 doesn't hold
+FORM_2 = u32(0x80000002)
 # the bit of the epoch's word that says format 2
 TOP = 2**63
 MOST = 16777216
@@ -122,6 +124,8 @@ class Store:
         except BadImage:
             raise BadStore(index, head) from None
         for at, record in records:
+            if self.form == 1 and record[:4] == FORM_2:
+                raise BadStore(2 + index, at)
             try:
                 self.ledger.close(record)
             except BadRecord:

@@ -1,5 +1,5 @@
-"""Runs of `catchup` that close one ledger over the table of cases of sets in `set_cases.py` and
-`precondition_cases.py`, which `run_cases.py` writes.
+"""Runs of `catchup` that close one ledger over the table of cases of sets in `set_cases.py`,
+`precondition_cases.py` and `vouch_cases.py`, which `run_cases.py` writes.
 
 What is printed is worked out from what the table says by hand: the lines of transactions from their charges and outcomes, and the header
 after the close from the results, what the fee pool gets, and the entries that exist then.
@@ -7,6 +7,7 @@ after the close from the results, what the fee pool gets, and the entries that e
 
 import precondition_cases
 import set_cases as sets
+import vouch_cases
 from case_tools import CASES, NETWORK, NO_FILES
 from entry_model import DEAD, ENTRY, HEADER, INIT, LIVE, Text, i64, key_of, many, rank_of_key, sha
 from ledger_model import Bucket, Levels, catchup, read_bucket, row
@@ -56,7 +57,7 @@ def lines_of(start, before, listed, in_order, ends, after, made, time):
 
 def tables():
     sets.TABLE.clear()
-    for part in sets.PARTS + precondition_cases.PARTS:
+    for part in sets.PARTS + precondition_cases.PARTS + vouch_cases.PARTS:
         part()
     for name, start, before, listed, in_order, ends, after, made, missing, time in sets.TABLE:
         data = start.image + sets.marked(start.record(listed, time))

@@ -42,7 +42,7 @@ pub use Rattle.header_chain.specs.Upgrades.{all_upgraded, first_index, is_bad_at
 pub use Rattle.header_chain.specs.Upgrades.{upgraded_if}
 pub use Rattle.ledger_close.specs.Answers.{Answers, FaultIs, IsUpgradedBy, IsUpgradedIn, JudgesImage, fault_of_set}
 pub use Rattle.ledger_close.specs.Answers.{terms_of}
-pub use Rattle.ledger_close.specs.Closing.{IsClosedBy, IsFinished}
+pub use Rattle.ledger_close.specs.Closing.{IsClosedBy, IsFinished, prepared_in}
 pub use Rattle.ledger_close.specs.Counted.{AreSteps, AreStepsTo, AreStepsWith}
 pub use Rattle.ledger_close.specs.Heading.{IsDone, filled}
 pub use Rattle.ledger_close.specs.ImageFiles.{IsFileFault, IsFileOf, IsNoFile, fault_of}

@@ -6,6 +6,7 @@ ghost use Rattle.value_hashes.specs.Hashes.{ledger_hash_of};
 ghost use Rattle.close_laws.specs.op_form.Sequences.{last_seq};
 ghost use Rattle.bucket_levels.specs.Pending.{AreRenewed};
 ghost use Rattle.close_rules.specs.Close.{IsClose};
+ghost use Rattle.close_rules.specs.State.{IsClosingState};
 
 use crate::prepared::Prepared;
 use bucket_levels::Levels;
@@ -58,6 +59,14 @@ impl Ledger {
         ensures { result ≡ ledger_hash_of self.now.state.header }
     {
         self.digest
+    }
+
+    /// The next ledger closes from this one's state: it is legal, and all of it can be written.
+    pub fn is_closing(&self)
+        ensures { IsClosingState self.now.state }
+    {
+        // read, so that the contract can speak of the entire ledger
+        let _ = &self.network;
     }
 
     /// The entry with a key.

@@ -15,4 +15,4 @@ mod refusals;
 pub use close_laws;
 pub use close_rules::{CloseFault, ImageFault, ImageRule};
 pub use ledger::Ledger;
-pub use prepared::Prepared;
+pub use prepared::{DetailedClose, Prepared};

@@ -1,6 +1,6 @@
 //! Preparing the close of a record: it is judged and worked out, and the ledger stays as it is.
 
-ghost use Rattle.std.specs.Prelude.{◌≡◌, ◌≤◌, ◌<◌, None, length, map};
+ghost use Rattle.std.specs.Prelude.{◌≡◌, ◌≤◌, ◌<◌, None, length, map, IfOk};
 ghost use Rattle.xdr_header.specs.Records.{close_record};
 ghost use Rattle.header_chain.specs.Upgrades.{upgrade_in, all_upgraded};
 ghost use Rattle.close_rules.specs.State.{IsEncoded};
@@ -12,7 +12,7 @@ ghost use Rattle.ledger_close.specs.Worked.{Leaves};
 
 use crate::apply::Worked;
 use crate::ledger::Ledger;
-use crate::prepared::Prepared;
+use crate::prepared::{DetailedClose, Prepared};
 use crate::refusals::{Judged, read_record};
 use close_laws::entries::{entries_stay_encodable, next_is_legal};
 use close_laws::header::next_header_is_encoded;
@@ -41,13 +41,14 @@ impl Ledger {
         closing: CloseRecord,
         worked: Worked,
         steps: &mut Steps<L>,
-    ) -> Result<Prepared, CloseFault>
+    ) -> Result<DetailedClose, CloseFault>
         requires encoded { IsEncoded close_record closing }
         requires few { length closing.tx_set.txs ≤ 16777216 }
         requires unrefused { record_fault self.now.state closing ≡ None }
         requires next { next ≡ all_upgraded self.now.state.header (map upgrade_in closing.scp_value.upgrades) }
         requires worked { Leaves self.now.state closing worked }
-        ensures finished { spec.IsFinished self.now.state closing result }
+        ensures finished { spec.IsFinished self.now.state closing (spec.prepared_in result) }
+        ensures detail { IfOk result (spec.IsDetailOf self.now.state closing) }
         ensures steps { AreStepsWith self.now closing steps.old steps.new }
     {
         // read, so that the contract can speak of the entire ledger
@@ -65,17 +66,22 @@ impl Ledger {
         let Worked {
             done,
             entries,
-            batch: _,
+            batch,
         } = worked;
         let header = self.head(alloc, next, closing.scp_value, &done, &step)?;
         let digest = ledger_hash(alloc, &header)?;
-        Ok(Prepared {
+        let prepared = Prepared {
             network: self.network,
             results: done.results,
             header,
             digest,
             entries,
             step,
+        };
+        Ok(DetailedClose {
+            prepared,
+            set: closing.tx_set,
+            batch,
         })
     }
 
@@ -84,10 +90,11 @@ impl Ledger {
         &self,
         closing: CloseRecord,
         steps: &mut Steps<L>,
-    ) -> Result<Prepared, CloseFault>
+    ) -> Result<DetailedClose, CloseFault>
         requires encoded { IsEncoded close_record closing }
         requires few { length closing.tx_set.txs ≤ 16777216 }
-        ensures closed { spec.IsClosedBy self.now.state closing result }
+        ensures closed { spec.IsClosedBy self.now.state closing (spec.prepared_in result) }
+        ensures detail { IfOk result (spec.IsDetailOf self.now.state closing) }
         ensures steps { AreStepsWith self.now closing steps.old steps.new }
     {
         // read, so that the contract can speak of the entire ledger
@@ -103,6 +110,26 @@ impl Ledger {
         self.finish_close(next, closing, worked, steps)
     }
 
+    /// Prepares the close of a record, which are these bytes, at most 16777216, with its set and with what of the
+    /// entries is another than it was; or the first fault of the record. The ledger stays as it is. Where levels are
+    /// merged, the steps rise by at most the items of the files that are; else they stay.
+    pub fn prepare_in_detail<L: Count>(
+        &self,
+        bytes: &[u8],
+        steps: &mut Steps<L>,
+    ) -> Result<DetailedClose, CloseFault>
+        requires { length bytes.now ≤ 16777216 }
+        ensures answers { answer.Answers self.now.state bytes.now (spec.prepared_in result) }
+        ensures detail { IfOk result (spec.IsDetail self.now.state bytes.now) }
+        ensures steps { AreSteps self.now bytes.now steps.old steps.new }
+    {
+        let closing = match read_record(self.allocator(), bytes) {
+            Ok(closing) => closing,
+            Err(fault) => return Err(fault),
+        };
+        self.close(closing, steps)
+    }
+
     /// Prepares the close of a record, which are these bytes, at most 16777216: its results, and the state after it;
     /// or the first fault of the record. The ledger stays as it is. Where levels are merged, the steps rise by at
     /// most the items of the files that are; else they stay.
@@ -115,10 +142,9 @@ impl Ledger {
         ensures answers { answer.Answers self.now.state bytes.now result }
         ensures steps { AreSteps self.now bytes.now steps.old steps.new }
     {
-        let closing = match read_record(self.allocator(), bytes) {
-            Ok(closing) => closing,
-            Err(fault) => return Err(fault),
-        };
-        self.close(closing, steps)
+        match self.prepare_in_detail(bytes, steps) {
+            Ok(close) => Ok(close.prepared),
+            Err(fault) => Err(fault),
+        }
     }
 }

@@ -4,9 +4,10 @@ ghost use Rattle.std.specs.Prelude.{◌≡◌};
 ghost use Rattle.value_hashes.specs.Hashes.{ledger_hash_of};
 
 use bucket_levels::LevelStep;
+use entry_map::Batch;
 use entry_table::EntryTable;
 use ledger_types::{Hash, LedgerHeader};
-use op_types::TransactionResultSet;
+use op_types::{TransactionResultSet, TransactionSet};
 use std::marker::Model;
 
 /// A close that is made and not yet taken: its results, and the state after it. Contracts see these.
@@ -59,4 +60,12 @@ impl Prepared {
     {
         &self.results
     }
+}
+
+/// A prepared close with the set of its record, and what of the ledger's entries it makes another than it was.
+#[derive(Drop)]
+pub struct DetailedClose {
+    pub prepared: Prepared,
+    pub set: TransactionSet,
+    pub batch: Batch,
 }

@@ -1,4 +1,4 @@
-use Rattle.ledger_close.proofs.Prelude.{None, subst, IsClosingState, LedgerAt}
+use Rattle.ledger_close.proofs.Prelude.{None, subst, IsClosingState, LedgerAt, prepared_in}
 use Rattle.ledger_close.proofs.Parts.{by_terms_refused, by_set_refused, by_set, goes_on}
 use Rattle.ledger_close.proofs.Finishing.{seq_by_terms}
 use Rattle.ledger_close.proofs.ledger.Ledger.close.Goals as goal
@@ -22,6 +22,6 @@ finish_close-requires-clause-unrefused g c =
 
 pub returns-clause-closed : goal.returns-clause-closed
 returns-clause-closed g c =
-    goes_on c.args.self.now.state c.args.closing c.finish_close.result
+    goes_on c.args.self.now.state c.args.closing (prepared_in c.finish_close.result)
     (by_set c.args.self.now.state c.args.closing None c.in-Ok.ensures.0.0 c.in-Ok-apply.ensures.0)
     c.finish_close.ensures.finished

@@ -97,8 +97,8 @@ ledger_hash-requires g c =
     c.requires.encoded c.requires.unrefused c.requires.few)
     (c.in_ok-header.ensures c.args.closing refl c.requires.next c.requires.worked.done)
 
-pub invariant_of-result : goal.invariant_of-result
-invariant_of-result g c =
+pub invariant_of-prepared : goal.invariant_of-prepared
+invariant_of-prepared g c =
     let s = c.args.self.now.state in
     let closing = c.args.closing in
     let can = closable_by _ c.args.self.now c.args.closing c.self.view_is c.self.invariant.state

@@ -4,10 +4,13 @@ pub mod Encoded
 pub mod Entries
 pub mod EntryLaws
 pub mod Facts
+pub mod Form
 pub mod Judging
 pub mod Laws
 pub mod Made
 pub mod Middle
 pub mod Records
 pub mod Screening
+pub mod Stated
+pub mod Stating
 pub mod Walk

@@ -8,6 +8,8 @@ use crate::close_records::close_records;
 use crate::closed::Closed;
 use crate::history::History;
 use item_list::ItemList;
+use ledger_types::LedgerHeader;
+use op_types::{TransactionResultSet, TransactionSet};
 use std::alloc::{AllocError, Global};
 use std::mem;
 
@@ -85,13 +87,20 @@ fn append_all(
     Ok(())
 }
 
-/// Adds the records of a close at the ends of a history's files: its header's, and where it has transactions theirs and
-/// their results'. A failure leaves the files as they were.
-pub fn add_close(alloc: Global, history: &mut History, close: &Closed) -> Result<(), AddCloseFault>
-    requires { spec.IsWithinBounds close.now }
-    ensures { spec.IsCloseAdded history.old close.now result history.new }
+/// Adds the records of a close, of which these are the parts, at the ends of a history's files: its header's, and where
+/// it has transactions theirs and their results'. A failure leaves the files as they were.
+pub fn add_records(
+    alloc: Global,
+    history: &mut History,
+    header: &LedgerHeader,
+    set: &TransactionSet,
+    results: &TransactionResultSet,
+) -> Result<(), AddCloseFault>
+    requires { spec.IsWithinBounds (record { header = header.now; set = set.now; results = results.now }) }
+    ensures { spec.IsCloseAdded history.old (record { header = header.now; set = set.now; results = results.now })
+        result history.new }
 {
-    let records = close_records(alloc, close)?;
+    let records = close_records(alloc, header, set, results)?;
     let (header, set, results) = (
         records.header.as_slice(),
         records.set.as_slice(),
@@ -105,4 +114,12 @@ pub fn add_close(alloc: Global, history: &mut History, close: &Closed) -> Result
     }
     append_all(history, header, set, results)?;
     Ok(())
+}
+
+/// Adds the records of a close at the ends of a history's files, as `add_records` does.
+pub fn add_close(alloc: Global, history: &mut History, close: &Closed) -> Result<(), AddCloseFault>
+    requires { spec.IsWithinBounds close.now }
+    ensures { spec.IsCloseAdded history.old close.now result history.new }
+{
+    add_records(alloc, history, &close.header, &close.set, &close.results)
 }

@@ -1,15 +1,18 @@
 //! The records of a close.
 
 ghost use Rattle.std.specs.Prelude.{◌≡◌, ◌↔◌, [], IsTrue};
+ghost use Rattle.value_hashes.specs.Hashes.{ledger_hash_of};
 ghost use Rattle.xdr_core.specs.Leaves.{mark};
 ghost use Rattle.archive_files.specs.Added as spec;
+ghost use Rattle.archive_files.specs.Encoded.{record_of};
 ghost use Rattle.archive_files.specs.Entries as entry;
 ghost use Rattle.archive_files.specs.Made.{IsMade, AreMade};
 ghost use Rattle.archive_files.specs.Records.{max_record_len};
 
 use crate::adding::{AddCloseFault, MAX_FILE_LEN};
-use crate::closed::Closed;
 use crate::codec::{write_header_entry, write_results_entry, write_set_entry};
+use ledger_types::LedgerHeader;
+use op_types::{TransactionResultSet, TransactionSet};
 use std::alloc::{AllocError, Global};
 use value_hashes::ledger_hash;
 use xdr_core::Builder;
@@ -25,11 +28,11 @@ pub(crate) struct CloseRecords {
     pub(crate) results: Builder,
 }
 
-/// Whether a close has no transactions.
-fn is_empty(close: &Closed) -> bool
-    ensures { IsTrue result ↔ (close.now.set.txs ≡ []) }
+/// Whether a set has no transactions.
+fn is_empty(set: &TransactionSet) -> bool
+    ensures { IsTrue result ↔ (set.now.txs ≡ []) }
 {
-    close.set.txs.is_empty()
+    set.txs.is_empty()
 }
 
 /// An encoding after its record mark, unless a file with it would be too long.
@@ -47,55 +50,74 @@ fn marked(alloc: Global, text: &[u8]) -> Result<Builder, AddCloseFault>
 
 /// The record of a close's header.
 #[tactic(auto, using(xdr_core::proofs::FormatLaws::written, crate::specs::EntryLaws::header_entry_laws))]
-fn header_record(alloc: Global, close: &Closed) -> Result<Builder, AddCloseFault>
-    requires { entry.ledger_header_history_entry.within (spec.header_entry_of close.now) }
-    ensures { IsMade result (spec.header_record close.now) }
+fn header_record(alloc: Global, header: &LedgerHeader) -> Result<Builder, AddCloseFault>
+    requires { entry.ledger_header_history_entry.within
+        (record { hash = ledger_hash_of header.now; header = header.now }) }
+    ensures { IsMade result (record_of entry.ledger_header_history_entry
+        (record { hash = ledger_hash_of header.now; header = header.now })) }
 {
-    let hash = ledger_hash(alloc, &close.header)?;
+    let hash = ledger_hash(alloc, header)?;
     let mut text = Builder::new(alloc);
-    write_header_entry(&hash, &close.header, &mut text)?;
+    write_header_entry(&hash, header, &mut text)?;
     marked(alloc, text.as_slice())
 }
 
 /// The record of a close's transactions, or nothing where there are none.
 #[tactic(auto, using(xdr_core::proofs::FormatLaws::written, crate::specs::EntryLaws::set_entry_laws))]
-fn set_record(alloc: Global, close: &Closed) -> Result<Builder, AddCloseFault>
-    requires { entry.transaction_history_entry.within (spec.set_entry_of close.now) }
-    ensures { IsMade result (spec.set_record close.now) }
+fn set_record(
+    alloc: Global,
+    ledger_seq: u32,
+    set: &TransactionSet,
+) -> Result<Builder, AddCloseFault>
+    requires { entry.transaction_history_entry.within (record { ledger_seq = ledger_seq; tx_set = set.now }) }
+    ensures { IsMade result (spec.record_unless_empty entry.transaction_history_entry set.now.txs
+        (record { ledger_seq = ledger_seq; tx_set = set.now })) }
 {
     let mut text = Builder::new(alloc);
-    if is_empty(close) {
+    if is_empty(set) {
         return Ok(text);
     }
-    write_set_entry(close.header.ledger_seq, &close.set, &mut text)?;
+    write_set_entry(ledger_seq, set, &mut text)?;
     marked(alloc, text.as_slice())
 }
 
 /// The record of a close's results, or nothing where it has no transactions.
 #[tactic(auto, using(xdr_core::proofs::FormatLaws::written, crate::specs::EntryLaws::results_entry_laws))]
-fn results_record(alloc: Global, close: &Closed) -> Result<Builder, AddCloseFault>
-    requires { entry.transaction_history_result_entry.within (spec.results_entry_of close.now) }
-    ensures { IsMade result (spec.results_record close.now) }
+fn results_record(
+    alloc: Global,
+    ledger_seq: u32,
+    set: &TransactionSet,
+    results: &TransactionResultSet,
+) -> Result<Builder, AddCloseFault>
+    requires { entry.transaction_history_result_entry.within
+        (record { ledger_seq = ledger_seq; tx_result_set = results.now }) }
+    ensures { IsMade result (spec.record_unless_empty entry.transaction_history_result_entry set.now.txs
+        (record { ledger_seq = ledger_seq; tx_result_set = results.now })) }
 {
     let mut text = Builder::new(alloc);
-    if is_empty(close) {
+    if is_empty(set) {
         return Ok(text);
     }
-    write_results_entry(close.header.ledger_seq, &close.results, &mut text)?;
+    write_results_entry(ledger_seq, results, &mut text)?;
     marked(alloc, text.as_slice())
 }
 
 /// The records of a close, unless one is too long for any file.
-pub(crate) fn close_records(alloc: Global, close: &Closed) -> Result<CloseRecords, AddCloseFault>
-    requires { spec.IsWithinBounds close.now }
-    ensures { AreMade result close.now }
+pub(crate) fn close_records(
+    alloc: Global,
+    header: &LedgerHeader,
+    set: &TransactionSet,
+    results: &TransactionResultSet,
+) -> Result<CloseRecords, AddCloseFault>
+    requires { spec.IsWithinBounds (record { header = header.now; set = set.now; results = results.now }) }
+    ensures { AreMade result (record { header = header.now; set = set.now; results = results.now }) }
 {
-    let header = header_record(alloc, close)?;
-    let set = set_record(alloc, close)?;
-    let results = results_record(alloc, close)?;
+    let header_text = header_record(alloc, header)?;
+    let set_text = set_record(alloc, header.ledger_seq, set)?;
+    let results_text = results_record(alloc, header.ledger_seq, set, results)?;
     Ok(CloseRecords {
-        header,
-        set,
-        results,
+        header: header_text,
+        set: set_text,
+        results: results_text,
     })
 }

@@ -1,12 +1,22 @@
 -- What tests of words yield.
-use Rattle.command_words.proofs.Prelude.{◌≡◌, ◌≤◌, ◌∙◌, ◌⊎◌, ℕ, arith, ap, sym, subst, inl, inr, List, ◌++◌, length}
-use Rattle.command_words.proofs.Prelude.{take, drop, Option, Some, None, MatchOption, is_some, Bool, false, true≢false}
-use Rattle.command_words.proofs.Prelude.{IsTrue, Bor, take-map, drop-map, take-append-drop, String, string_bytes}
+use Rattle.command_words.proofs.Prelude.{◌≡◌, ◌≤◌, ◌∙◌, ◌⊎◌, ℕ, arith, ap, refl, sym, subst, inl, inr, List, []}
+use Rattle.command_words.proofs.Prelude.{◌∷◌, ◌++◌, length, nat_eq, ne_eqb, take, drop, Option, Some, None}
+use Rattle.command_words.proofs.Prelude.{MatchOption, is_some, Bool, false, true≢false, IsTrue, Bor, take-map}
+use Rattle.command_words.proofs.Prelude.{drop-map, take-append-drop, String, string_bytes}
 use Rattle.command_words.proofs.Prelude.{IsOption, AreSampleOptions, words_of, AreSeedAndLedgers}
 use Rattle.std.specs.Global.{Global}
 
 pub never_true : {P : Type 0} → (P → ⊥) → (IsTrue false → P) × (P → IsTrue false)
 never_true never = ((λ e. absurd (true≢false (sym e))), (λ p. absurd (never p)))
+
+-- there are no words
+pub none_iff : (words : List (String Global)) (b : Bool) → b ≡ nat_eq (length words) 0
+    → (IsTrue b → words_of words ≡ []) × (words_of words ≡ [] → IsTrue b)
+none_iff [] b is = ((λ t. refl), (λ e. is))
+none_iff (word ∷ words) b is = (
+  (λ t. absurd (true≢false (sym t ∙ is ∙ ne_eqb (length (word ∷ words)) 0 (λ e. omega arith)))),
+  (λ e. absurd cc),
+)
 
 pub found_iff : (b : Bool) (o : Option (Bor (List ℕ))) (P : List ℕ → Type 0)
     → MatchOption o ((v : List ℕ) → P v → ⊥) (λ v. P v.now) → b ≡ is_some o

@@ -1,9 +1,11 @@
 -- Words are at most one command.
 use Rattle.std.proofs.Common.{◌≡◌, ◌∙◌, ◌⊎◌, subst, ℕ, ap, ap₂, sym, inl, inr, List, ◌∷◌, ◌++◌, codes}
-use Rattle.command_words.specs.Words.{CommandsAreOne, Init, Run, CatchUp, Show, Sample, IsOption}
+use Rattle.command_words.specs.Words.{CommandsAreOne, Init, Run, CatchUp, Show, Sample, History, Changes, Verify, Path}
+use Rattle.command_words.specs.Words.{IsOption}
 use Rattle.command_words.specs.Words.{IsNumberOption, AreRunOptions, AreSampleOptions, AreOptionsOf}
 use Rattle.command_words.proofs.Options.{option_one, number_one, numbers_one, never_none, never_both}
-use Rattle.command_words.proofs.Names.{of_init, of_run, of_catchup, of_show, of_sample}
+use Rattle.command_words.proofs.Names.{of_init, of_run, of_catchup, of_show, of_sample, of_history, of_changes}
+use Rattle.command_words.proofs.Names.{of_verify, of_path}
 
 run_one : (n m : ℕ) (options : List (List ℕ)) → AreRunOptions n options → AreRunOptions m options → n ≡ m
 run_one n m options (few, inl (none, zero)) (few', inl (none', zero')) = cc
@@ -61,3 +63,19 @@ commands_are_one words (Sample s l) other (options, is, are) (options', is', are
     let of = of_sample (λ c. AreOptionsOf c options') other same.0 are' in
     let values = sample_one s l of.0 of.1 options are (subst (AreSampleOptions of.0 of.1) same.1 of.3) in
     ap₂ Sample values.0 values.1 ∙ sym of.2
+commands_are_one words (History p) other (options, is, are) (options', is', are') =
+    let same = names_one words options options' _ _ is is' in
+    let of = of_history (λ c. AreOptionsOf c options') other same.0 are' in
+    let moved = subst (IsOption (codes "network") of.0) same.1 of.2 in
+    ap History (option_one _ p of.0 options are moved) ∙ sym of.1
+commands_are_one words (Changes p) other (options, is, are) (options', is', are') =
+    let same = names_one words options options' _ _ is is' in
+    let of = of_changes (λ c. AreOptionsOf c options') other same.0 are' in
+    let moved = subst (IsOption (codes "network") of.0) same.1 of.2 in
+    ap Changes (option_one _ p of.0 options are moved) ∙ sym of.1
+commands_are_one words Verify other (options, is, are) (options', is', are') =
+    let same = names_one words options options' _ _ is is' in
+    sym (of_verify other same.0)
+commands_are_one words Path other (options, is, are) (options', is', are') =
+    let same = names_one words options options' _ _ is is' in
+    sym (of_path other same.0)

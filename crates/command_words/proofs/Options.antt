@@ -3,11 +3,14 @@ use Rattle.std.proofs.Common.{◌≡◌, ◌∙◌, ℕ, arith, ap, refl, sym, i
 use Rattle.std.proofs.Common.{append-nil, append_assoc, codes, slice_index, false, nat_eq, eq-eqb, true≢false}
 use Rattle.command_words.specs.Words.{IsOption, IsNumberOption, option_word}
 
--- texts whose third bytes differ
-pub apart : {P : Type 0} (a b : List ℕ) → nat_eq (slice_index a 2) (slice_index b 2) ≡ false → a ≡ b → P
-apart a b differ e =
-    let same = eq-eqb (slice_index a 2) (slice_index b 2) (ap (λ t. slice_index t 2) e) in
+-- texts that differ at this byte, or at their third one
+pub apart_at : {P : Type 0} (at : ℕ) (a b : List ℕ) → nat_eq (slice_index a at) (slice_index b at) ≡ false → a ≡ b → P
+apart_at at a b differ e =
+    let same = eq-eqb (slice_index a at) (slice_index b at) (ap (λ t. slice_index t at) e) in
     absurd (true≢false (sym same ∙ differ))
+
+pub apart : {P : Type 0} (a b : List ℕ) → nat_eq (slice_index a 2) (slice_index b 2) ≡ false → a ≡ b → P
+apart = apart_at 2
 
 -- the word of an option isn't one that has a value after an equals sign
 never_joined : (name value : List ℕ) → option_word name ≡ option_word name ++ codes "=" ++ value → ⊥

@@ -24,6 +24,6 @@ pub use Rattle.clap.specs.declared.parser.ArgMatches.{ArgMatches}
 pub use Rattle.command_words.specs.Found.{FindsNumber, FindsOptions}
 pub use Rattle.command_words.specs.Judging.{AreSeedAndLedgers}
 pub use Rattle.command_words.specs.Parser.{any_u32, program_app}
-pub use Rattle.command_words.specs.Words.{AreOptionsOf, AreRunOptions, AreSampleOptions, CatchUp, Command, Init}
-pub use Rattle.command_words.specs.Words.{IsNumberOption, IsOption, IsUnhyphened, Parses, Run, Sample, Show, name_of}
-pub use Rattle.command_words.specs.Words.{option_word, words_of}
+pub use Rattle.command_words.specs.Words.{AreOptionsOf, AreRunOptions, AreSampleOptions, CatchUp, Changes, Command}
+pub use Rattle.command_words.specs.Words.{History, Init, IsNumberOption, IsOption, IsUnhyphened, Parses, Path, Run}
+pub use Rattle.command_words.specs.Words.{Sample, Show, Verify, name_of, option_word, words_of}

@@ -2,13 +2,15 @@
 use Rattle.command_words.proofs.Prelude.{◌≡◌, ◌<◌, ◌^◌, ◌∙◌, ℕ, ap, ap₂, refl, sym, subst, inl, inr, arith, true, List}
 use Rattle.command_words.proofs.Prelude.{[], ◌∷◌, ◌++◌, Some, codes, digits_value, Row, Text, one_of, read_as}
 use Rattle.command_words.proofs.Prelude.{reading_of, subcommand_of, takes, Command, Init, Run, CatchUp, Show, Sample}
-use Rattle.command_words.proofs.Prelude.{name_of, Parses, IsOption, IsNumberOption, AreRunOptions, AreSampleOptions}
-use Rattle.command_words.proofs.Prelude.{AreOptionsOf, any_u32, program_app, FindsOptions, FindsNumber}
+use Rattle.command_words.proofs.Prelude.{History, Changes, Verify, Path, name_of, Parses, IsOption, IsNumberOption}
+use Rattle.command_words.proofs.Prelude.{AreRunOptions, AreSampleOptions, AreOptionsOf}
+use Rattle.command_words.proofs.Prelude.{any_u32, program_app, FindsOptions, FindsNumber}
 use Rattle.clap.specs.Simple.{is_simple}
 use Rattle.command_words.proofs.Numbers.{u32_accepts, u32_reads}
 use Rattle.command_words.proofs.Forms.{form_of, IsTaken}
-use Rattle.command_words.proofs.Shapes.{AreRead, more, init_read, catchup_read, show_read, run_alone_read, run_read}
-use Rattle.command_words.proofs.Shapes.{with_seed, with_ledgers, seed_first_read, ledgers_first_read}
+use Rattle.command_words.proofs.Shapes.{AreRead, more, init_read, catchup_read, history_read, changes_read, show_read}
+use Rattle.command_words.proofs.Shapes.{verify_read, path_read, run_alone_read, run_read, with_seed, with_ledgers}
+use Rattle.command_words.proofs.Shapes.{seed_first_read, ledgers_first_read}
 
 pub is_simple_program : is_simple (program_app any_u32) ≡ true
 is_simple_program = refl
@@ -44,6 +46,16 @@ catchup_reads : (p : Text) (options : List Text) → IsOption (codes "network") 
 catchup_reads p options is =
     let form = form_of (codes "network") p options is in
     subst (Reads (CatchUp p)) (sym form.1) (_, catchup_read any_u32 form.0 p form.2, refl)
+
+history_reads : (p : Text) (options : List Text) → IsOption (codes "network") p options → Reads (History p) options
+history_reads p options is =
+    let form = form_of (codes "network") p options is in
+    subst (Reads (History p)) (sym form.1) (_, history_read any_u32 form.0 p form.2, refl)
+
+changes_reads : (p : Text) (options : List Text) → IsOption (codes "network") p options → Reads (Changes p) options
+changes_reads p options is =
+    let form = form_of (codes "network") p options is in
+    subst (Reads (Changes p)) (sym form.1) (_, changes_read any_u32 form.0 p form.2, refl)
 
 run_reads : (w : ℕ) (options : List Text) → AreRunOptions w options → Reads (Run w) options
 run_reads w options (few, inl (none, zero)) =
@@ -92,6 +104,10 @@ options_read (Run w) options are = run_reads w options are
 options_read (CatchUp p) options are = catchup_reads p options are
 options_read Show options are = subst (Reads Show) (sym are) ([], show_read any_u32, tt)
 options_read (Sample s l) options are = sample_reads s l options are
+options_read (History p) options are = history_reads p options are
+options_read (Changes p) options are = changes_reads p options are
+options_read Verify options are = subst (Reads Verify) (sym are) ([], verify_read any_u32, tt)
+options_read Path options are = subst (Reads Path) (sym are) ([], path_read any_u32, tt)
 
 -- ---- the words
 

@@ -38,9 +38,33 @@ module _ (number : ValueParser) where
       record { taken = rw (f.bare, f.long, f.short) refl; found = rw (f.bare, f.long, f.short) refl }
   catchup_read joined p f = record { taken = refl; found = refl }
 
+  pub history_read : (form : Form) (p : Text) → FitsForm form p
+      → AreRead (codes "history" ∷ words_in form (codes "network") p) (codes "history")
+      (more vp.String (codes "network") p [])
+  unfolding clap_on_literals
+  history_read own p f =
+      record { taken = rw (f.bare, f.long, f.short) refl; found = rw (f.bare, f.long, f.short) refl }
+  history_read joined p f = record { taken = refl; found = refl }
+
+  pub changes_read : (form : Form) (p : Text) → FitsForm form p
+      → AreRead (codes "changes" ∷ words_in form (codes "network") p) (codes "changes")
+      (more vp.String (codes "network") p [])
+  unfolding clap_on_literals
+  changes_read own p f =
+      record { taken = rw (f.bare, f.long, f.short) refl; found = rw (f.bare, f.long, f.short) refl }
+  changes_read joined p f = record { taken = refl; found = refl }
+
   pub show_read : AreRead (codes "show" ∷ []) (codes "show") []
   unfolding clap_on_literals
   show_read = record { taken = refl; found = refl }
+
+  pub verify_read : AreRead (codes "verify" ∷ []) (codes "verify") []
+  unfolding clap_on_literals
+  verify_read = record { taken = refl; found = refl }
+
+  pub path_read : AreRead (codes "path" ∷ []) (codes "path") []
+  unfolding clap_on_literals
+  path_read = record { taken = refl; found = refl }
 
   pub run_alone_read : AreRead (codes "run" ∷ []) (codes "run") []
   unfolding clap_on_literals

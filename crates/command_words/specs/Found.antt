@@ -3,7 +3,8 @@ use Rattle.std.specs.Prelude.{◌≡◌, ◌⊎◌, ◌<◌, ◌^◌, ℕ, Some,
 use Rattle.std.specs.Str.Parse.{IsNumeral, digits_value}
 use Rattle.clap.specs.Words.{Row, Text, first_of, one_of, subcommand_rows_of}
 use Rattle.clap.specs.declared.parser.ArgMatches.{ArgMatches}
-use Rattle.command_words.specs.Words.{Command, Init, Run, CatchUp, Show, Sample, name_of}
+use Rattle.command_words.specs.Words.{Command, Init, Run, CatchUp, Show, Sample, History, Changes, Verify, Path}
+use Rattle.command_words.specs.Words.{name_of}
 
 -- the option's value, as text and as a number
 abbrev pub FindsText : (name value : Text) → List Row → Type 0
@@ -25,6 +26,10 @@ FindsOptions (CatchUp passphrase) rows = FindsText (codes "network") passphrase 
 FindsOptions Show rows = Unit {0}
 FindsOptions (Sample seed ledgers) rows = FindsNumber (codes "seed") seed rows
     × FindsNumber (codes "ledgers") ledgers rows
+FindsOptions (History passphrase) rows = FindsText (codes "network") passphrase rows
+FindsOptions (Changes passphrase) rows = FindsText (codes "network") passphrase rows
+FindsOptions Verify rows = Unit {0}
+FindsOptions Path rows = Unit {0}
 
 abbrev pub Finds : ArgMatches → Command → Type 0
 Finds matches command = (rows : List Row) × (subcommand_rows_of matches ≡ Some (name_of command, rows))

@@ -33,12 +33,22 @@ bare_app = on_top (λ s. record s {
   disable_version_flag = true;
 }) (new_app (codes "ledger"))
 
--- the program with all its commands
-abbrev pub program_app : ValueParser → App
-program_app number =
+-- the program with the commands that make ledgers, close them and show them
+abbrev pub closing_app : ValueParser → App
+closing_app number =
     let init = with_one (codes "init") (text_rule (codes "network")) in
     let run = with_one (codes "run") (number_rule number (codes "workers")) in
     let catchup = with_one (codes "catchup") (text_rule (codes "network")) in
     let show = new_app (codes "show") in
     let two = with_subcommand (with_subcommand bare_app init.top) run.top in
     with_subcommand (with_subcommand (with_subcommand two catchup.top) show.top) (sample_app number).top
+
+-- the program with all its commands
+abbrev pub program_app : ValueParser → App
+program_app number =
+    let history = with_one (codes "history") (text_rule (codes "network")) in
+    let changes = with_one (codes "changes") (text_rule (codes "network")) in
+    let verify = new_app (codes "verify") in
+    let path = new_app (codes "path") in
+    let two = with_subcommand (with_subcommand (closing_app number) history.top) changes.top in
+    with_subcommand (with_subcommand two verify.top) path.top

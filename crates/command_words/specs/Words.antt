@@ -16,6 +16,10 @@ pub data Command : Type 0 where
   CatchUp : (passphrase : List ℕ) → Command
   Show : Command
   Sample : (seed ledgers : ℕ) → Command
+  History : (passphrase : List ℕ) → Command
+  Changes : (passphrase : List ℕ) → Command
+  Verify : Command
+  Path : Command
 
 -- ---- options
 
@@ -64,6 +68,10 @@ name_of (Run workers) = codes "run"
 name_of (CatchUp passphrase) = codes "catchup"
 name_of Show = codes "show"
 name_of (Sample seed ledgers) = codes "sample"
+name_of (History passphrase) = codes "history"
+name_of (Changes passphrase) = codes "changes"
+name_of Verify = codes "verify"
+name_of Path = codes "path"
 
 abbrev pub AreOptionsOf : Command → List (List ℕ) → Type 0
 AreOptionsOf (Init passphrase) options = IsOption (codes "network") passphrase options
@@ -71,6 +79,10 @@ AreOptionsOf (Run workers) options = AreRunOptions workers options
 AreOptionsOf (CatchUp passphrase) options = IsOption (codes "network") passphrase options
 AreOptionsOf Show options = options ≡ []
 AreOptionsOf (Sample seed ledgers) options = AreSampleOptions seed ledgers options
+AreOptionsOf (History passphrase) options = IsOption (codes "network") passphrase options
+AreOptionsOf (Changes passphrase) options = IsOption (codes "network") passphrase options
+AreOptionsOf Verify options = options ≡ []
+AreOptionsOf Path options = options ≡ []
 
 -- The words are the command's name and then its options, each at most once and in any order, and one that it needs
 -- exactly once.

@@ -13,4 +13,12 @@ pub enum Command<'a> {
     Show,
     /// To close 1 to 20000 ledgers that are made from a seed.
     Sample { seed: u32, ledgers: u32 },
+    /// To write the three files of an archive for the records after a start image.
+    History { passphrase: &'a str },
+    /// To write each change of the entries that the records after a start image make.
+    Changes { passphrase: &'a str },
+    /// To say whether the files that `history` wrote form a chain.
+    Verify,
+    /// To answer which path costs the least in the ledger in a store.
+    Path,
 }

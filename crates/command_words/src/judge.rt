@@ -58,9 +58,9 @@ fn are_options_of(name: &str, words: &[String]) -> bool
         × AreOptionsOf command (words_of words.now)) }
 {
     match name {
-        "init" | "catchup" => is_network(words),
+        "init" | "catchup" | "history" | "changes" => is_network(words),
         "run" => are_run_options(words),
-        "show" => words.is_empty(),
+        "show" | "verify" | "path" => words.is_empty(),
         "sample" => are_sample_options(words),
         _ => false,
     }

@@ -5,7 +5,7 @@ ghost use Rattle.std.specs.Prelude.{◌≡◌, IfOk, false, codes};
 ghost use Rattle.clap.specs.Words.{app_of, rule_of, with_subcommand};
 ghost use Rattle.clap.specs.declared.builder.Command.TheViews.{out-Command as fields_of};
 ghost use Rattle.command_words.specs.Parser.{text_rule, number_rule, any_u32, with_one, sample_app, bare_app};
-ghost use Rattle.command_words.specs.Parser.{program_app};
+ghost use Rattle.command_words.specs.Parser.{closing_app, program_app};
 
 use clap::{Arg, Command, value_parser};
 use std::alloc::{AllocError, Global};
@@ -103,9 +103,9 @@ fn with_sample<'a>(alloc: Global, program: Command<'a>) -> Result<Command<'a>, A
     program.subcommand(sample_command(alloc)?)
 }
 
-/// The program with all its commands.
-pub(crate) fn program<'a>(alloc: Global) -> Result<Command<'a>, AllocError>
-    ensures { IfOk result (λ program. app_of program ≡ program_app any_u32) }
+/// The program with the commands that make ledgers, close them and show them.
+fn closing_program<'a>(alloc: Global) -> Result<Command<'a>, AllocError>
+    ensures { IfOk result (λ program. app_of program ≡ closing_app any_u32) }
 {
     let bare = bare_program(alloc);
     let with_init = with_text_command(alloc, bare, "init", "network")?;
@@ -113,4 +113,15 @@ pub(crate) fn program<'a>(alloc: Global) -> Result<Command<'a>, AllocError>
     let with_catchup = with_text_command(alloc, with_run, "catchup", "network")?;
     let with_show = with_catchup.subcommand(Command::new(alloc, "show"))?;
     with_sample(alloc, with_show)
+}
+
+/// The program with all its commands.
+pub(crate) fn program<'a>(alloc: Global) -> Result<Command<'a>, AllocError>
+    ensures { IfOk result (λ program. app_of program ≡ program_app any_u32) }
+{
+    let closing = closing_program(alloc)?;
+    let with_history = with_text_command(alloc, closing, "history", "network")?;
+    let with_changes = with_text_command(alloc, with_history, "changes", "network")?;
+    let with_verify = with_changes.subcommand(Command::new(alloc, "verify"))?;
+    with_verify.subcommand(Command::new(alloc, "path"))
 }

@@ -56,6 +56,14 @@ fn command_of<'a>(name: &str, values: &ArgMatches<'a>) -> Option<Command<'a>>
             seed: number_in(values, "seed"),
             ledgers: number_in(values, "ledgers"),
         }),
+        "history" => Some(Command::History {
+            passphrase: text_in(values, "network"),
+        }),
+        "changes" => Some(Command::Changes {
+            passphrase: text_in(values, "network"),
+        }),
+        "verify" => Some(Command::Verify),
+        "path" => Some(Command::Path),
         _ => None,
     }
 }

@@ -3,7 +3,9 @@ mod CostsPaid
 mod EncodingLaws
 mod FirstInvalid
 mod Kept
+mod LegalStates
 mod Limits
+pub mod OneCheapest
 mod Order
 mod Positions
 mod Prelude

@@ -48,3 +48,8 @@ module _ (cost_of : List Asset → Option ℤ) (candidates : List Asset) (Among 
 -- among all paths
 abbrev pub IsCheapestPath : (List Asset → Option ℤ) → (candidates : List Asset) → Option Found → Type 0
 IsCheapestPath cost_of candidates found = IsCheapestOrNone cost_of candidates (IsPath candidates) found
+
+-- at most one path is the cheapest
+abbrev pub CheapestPathsAreOne : Type 0
+CheapestPathsAreOne = (cost_of : List Asset → Option ℤ) (candidates : List Asset) (one other : Option Found)
+    → IsCheapestPath cost_of candidates one → IsCheapestPath cost_of candidates other → one ≡ other

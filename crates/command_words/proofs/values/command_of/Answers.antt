@@ -1,6 +1,8 @@
 use Rattle.command_words.proofs.Prelude.{◌≡◌, ◌∙◌, ap, ap₂, sym, inl, List, ℕ, codes, found_of, rows_of, ArgMatches}
-use Rattle.command_words.proofs.Prelude.{Command, Init, Run, CatchUp, Show, Sample, name_of, FindsOptions}
-use Rattle.command_words.proofs.Names.{of_init, of_run, of_catchup, of_show, of_sample}
+use Rattle.command_words.proofs.Prelude.{Command, Init, Run, CatchUp, Show, Sample, History, Changes, Verify, Path}
+use Rattle.command_words.proofs.Prelude.{name_of, FindsOptions}
+use Rattle.command_words.proofs.Names.{of_init, of_run, of_catchup, of_show, of_sample, of_history, of_changes}
+use Rattle.command_words.proofs.Names.{of_verify, of_path}
 use Rattle.command_words.proofs.values.command_of.Goals as goal
 
 abbrev Has : ArgMatches → Command → Type 0
@@ -31,16 +33,39 @@ returns-in-sample c = λ command name finds.
     let ledgers = c.number_in-in-sample-2.ensures of.1 (inl of.3.1) in
     ap₂ Sample seed ledgers ∙ sym of.2
 
+pub returns-in-history : goal.returns-in-history
+returns-in-history c = λ command name finds.
+    let of = of_history (Has c.args.values.now) command (sym c.in-history.is ∙ name) finds in
+    ap History (c.text_in-in-history.ensures of.0 of.2) ∙ sym of.1
+
+pub returns-in-changes : goal.returns-in-changes
+returns-in-changes c = λ command name finds.
+    let of = of_changes (Has c.args.values.now) command (sym c.in-changes.is ∙ name) finds in
+    ap Changes (c.text_in-in-changes.ensures of.0 of.2) ∙ sym of.1
+
+pub returns-in-verify : goal.returns-in-verify
+returns-in-verify c = λ command name finds. sym (of_verify command (sym c.in-verify.is ∙ name))
+
+pub returns-in-path : goal.returns-in-path
+returns-in-path c = λ command name finds. sym (of_path command (sym c.in-path.is ∙ name))
+
 module _ (name : List ℕ) (init : name ≡ codes "init" → ⊥) (run : name ≡ codes "run" → ⊥)
-    (catchup : name ≡ codes "catchup" → ⊥) (show : name ≡ codes "show" → ⊥) (sample : name ≡ codes "sample" → ⊥) where
+    (catchup : name ≡ codes "catchup" → ⊥) (show : name ≡ codes "show" → ⊥) (sample : name ≡ codes "sample" → ⊥)
+    (history : name ≡ codes "history" → ⊥) (changes : name ≡ codes "changes" → ⊥) (verify : name ≡ codes "verify" → ⊥)
+    (path : name ≡ codes "path" → ⊥) where
   no_name : (command : Command) → name ≡ name_of command → ⊥
   no_name (Init p) e = init e
   no_name (Run w) e = run e
   no_name (CatchUp p) e = catchup e
   no_name Show e = show e
   no_name (Sample s l) e = sample e
+  no_name (History p) e = history e
+  no_name (Changes p) e = changes e
+  no_name Verify e = verify e
+  no_name Path e = path e
 
 pub returns-in_default : goal.returns-in_default
 returns-in_default c = λ command name finds.
     let arm = c.in_default in
-    absurd (no_name c.args.name.now arm.not-init arm.not-run arm.not-catchup arm.not-show arm.not-sample command name)
+    absurd (no_name c.args.name.now arm.not-init arm.not-run arm.not-catchup arm.not-show arm.not-sample
+    arm.not-history arm.not-changes arm.not-verify arm.not-path command name)

@@ -18,6 +18,7 @@ status_code (status.BadInput at) = 9
 status_code (status.BadImage rule) = 10
 status_code status.Missing = 11
 status_code status.AlreadyThere = 12
+status_code status.TooLarge = 13
 
 -- a line ends with a newline
 abbrev pub ended_line : List ℕ → List ℕ
@@ -37,6 +38,7 @@ status_line (status.BadInput at) = ended_line (codes "bad input at " ++ decimal 
 status_line (status.BadImage rule) = ended_line (codes "bad image rule " ++ decimal (number_of rule))
 status_line status.Missing = ended_line (codes "missing")
 status_line status.AlreadyThere = ended_line (codes "already there")
+status_line status.TooLarge = ended_line (codes "too large")
 
 -- the ends at which the output may stop before the text is complete
 abbrev pub IsCutShort : Status → Type 0

@@ -12,7 +12,7 @@ pub enum Status {
     Done,
     /// 2: the words are no command.
     Usage,
-    /// 3: a record was refused by name, on the output.
+    /// 3: a record, a history or a query was refused by name.
     Refused,
     /// 4: a read failed.
     ReadFault,
@@ -32,6 +32,8 @@ pub enum Status {
     Missing,
     /// 12: an image is open on the volume.
     AlreadyThere,
+    /// 13: a file of a history would be too long.
+    TooLarge,
 }
 
 impl Status {
@@ -52,6 +54,7 @@ impl Status {
             Status::BadImage { .. } => 10,
             Status::Missing => 11,
             Status::AlreadyThere => 12,
+            Status::TooLarge => 13,
         }
     }
 }

@@ -11,7 +11,7 @@ use run_outcome::close_rules::CloseFault;
 use std::alloc::{AllocError, Global};
 use xdr_core::XdrKind;
 
-fn kind_name(kind: XdrKind) -> &'static [u8]
+pub(crate) fn kind_name(kind: XdrKind) -> &'static [u8]
     ensures { result.now ≡ spec.kind_name kind }
 {
     match kind {
@@ -43,7 +43,7 @@ fn push_numbers(
 }
 
 /// Puts a name and one number at the end of a text.
-fn push_numbered(
+pub(crate) fn push_numbered(
     alloc: Global,
     text: &mut Vec<u8>,
     name: &[u8],

@@ -1,0 +1,20 @@
+mod Prelude
+pub mod Closing
+pub mod Ending
+pub mod Histories
+pub mod HistoryPrefix
+pub mod LedgerNumbers
+pub mod Lengths
+pub mod Marking
+pub mod OneAnswer
+pub mod OneKind
+pub mod OneMore
+pub mod OneVerdict
+pub mod Pieces
+pub mod Prefixes
+pub mod QueryAnswers
+pub mod Reaching
+pub mod Recordings
+pub mod Streams
+pub mod Turns
+pub mod Verdict

@@ -1,0 +1,10 @@
+pub mod Ends
+pub mod Writing
+pub mod Gathering
+pub mod Files
+pub mod Adding
+pub mod Recording
+pub mod Verifying
+pub mod HistoryInput
+pub mod EndOfInput
+pub mod Answering

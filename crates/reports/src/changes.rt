@@ -1,0 +1,129 @@
+//! The command `changes` after its start image: what each close changed of the ledger's entries, as records.
+
+ghost use Rattle.std.specs.Prelude.{◌≡◌, ◌^◌, ◌≤◌, ◌++◌, IfOk, OnOk};
+ghost use Rattle.archive_files.specs.Encoded.{record_of};
+ghost use Rattle.change_stream.specs.Grammar.{one_change};
+ghost use Rattle.run_outcome.specs.run_streams.Seen.{seen};
+ghost use Rattle.run_outcome.specs.Closes.{RecordClose};
+ghost use Rattle.run_outcome.specs.ChangesRun.{AreChangesIn, IsTextOfChanges, change_records, changes_file};
+ghost use Rattle.reports.specs.Gathering.{IsDetailed};
+ghost use Rattle.reports.specs.Recording as spec;
+ghost use Rattle.reports.specs.Writing.{WritesFile};
+
+use crate::ends::write_last;
+use crate::files::write_file;
+use crate::gather::Gather;
+use change_stream::{Change, changes, write_change};
+use ledger_close::close_laws::closes::{next_is_closing, taken_is_closable};
+use ledger_close::{DetailedClose, Ledger};
+use outside::{Sink, Source, Steps};
+use run_outcome::Status;
+use std::alloc::{AllocError, Global};
+use std::sync::ledger::Ledger as Count;
+use xdr_core::Builder;
+
+/// The greatest length that a record mark can state.
+const MAX_RECORD_LEN: u32 = 2_147_483_647;
+
+/// The records of the changes so far.
+#[derive(Drop)]
+struct ChangeRecords {
+    text: Builder,
+}
+
+/// Adds the record of a change at the end of a text.
+fn add_change(alloc: Global, text: &mut Builder, change: &Change) -> Result<(), AllocError>
+    requires { spec.IsRecordable change.now }
+    ensures { OnOk result (text.new ≡ text.old ++ record_of one_change change.now) }
+{
+    let mut encoding = Builder::new(alloc);
+    write_change(change, &mut encoding)?;
+    text.mark(encoding.as_slice(), MAX_RECORD_LEN)
+}
+
+/// Adds the records of changes at the end of a text.
+fn add_changes(alloc: Global, text: &mut Builder, list: &[Change]) -> Result<(), AllocError>
+    requires { spec.AreRecordable list.now }
+    ensures { OnOk result (text.new ≡ text.old ++ change_records list.now) }
+{
+    for change in list {
+        add_change(alloc, text, change)?;
+    }
+    Ok(())
+}
+
+/// The changes of a close that this ledger is about to take.
+fn changes_of(
+    alloc: Global,
+    before: &Ledger,
+    close: &DetailedClose,
+) -> Result<Vec<Change>, AllocError>
+    requires { (c : RecordClose) × IsDetailed before.now.state close.now c }
+    ensures changes { IfOk result (λ changes. (c : RecordClose) → IsDetailed before.now.state close.now c
+        → AreChangesIn c changes.items) }
+    ensures recordable { IfOk result (λ changes. spec.AreRecordable changes.items) }
+{
+    before.is_closing();
+    taken_is_closable();
+    next_is_closing();
+    changes(alloc, before, &close.batch)
+}
+
+impl Gather for ChangeRecords {
+    ghost kind = { changes_file };
+
+    ghost gathers = { λ records start closes. IsTextOfChanges closes records.text };
+
+    fn gather(
+        &mut self,
+        alloc: Global,
+        before: &Ledger,
+        close: &DetailedClose,
+    ) -> Result<(), Status> {
+        let Ok(list) = changes_of(alloc, before, close) else {
+            return Err(Status::NoMemory);
+        };
+        match add_changes(alloc, &mut self.text, list.as_slice()) {
+            Ok(()) => Ok(()),
+            Err(_) => Err(Status::NoMemory),
+        }
+    }
+
+    fn write<O: Sink>(&self, alloc: Global, out: &mut O) -> Status {
+        let _ = alloc;
+        write_last(self.text.as_slice(), Status::Done, out)
+    }
+}
+
+/// Closes a ledger for each record after it. At the end of the input it writes the changes of each close, in the order
+/// of their keys, each after its record mark; or the line of what stopped the run.
+pub fn write_changes<I: Source, O: Sink, E: Sink, L: Count>(
+    alloc: Global,
+    ledger: &mut Ledger,
+    start: u128,
+    input: &mut I,
+    ahead: &mut Vec<u8>,
+    out: &mut O,
+    err: &mut E,
+    steps: &mut Steps<L>,
+) -> Status
+    requires { start ≤ 2 ^ 64 }
+    ensures { WritesFile changes_file ledger.old.state start ahead.old.items
+        (seen I.left I.faults input.old input.new) (seen O.taken O.faults out.old out.new)
+        (seen E.taken E.faults err.old err.new) result }
+{
+    let mut records = ChangeRecords {
+        text: Builder::new(alloc),
+    };
+    write_file(
+        alloc,
+        ledger,
+        start,
+        input,
+        ahead,
+        &mut records,
+        out,
+        err,
+        steps,
+    )
+}

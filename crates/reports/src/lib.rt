@@ -1,0 +1,22 @@
+//! What the commands over a ledger in memory write: files of its closes, the verdict on a history, the answer to a
+//! query, and the line of each end.
+#![tactic(auto)]
+
+mod answering;
+mod changes;
+mod ends;
+mod files;
+mod gather;
+mod gathering;
+mod history;
+mod input_end;
+mod records;
+mod verifying;
+
+pub use answering::{answer_query, answers_are_one};
+pub use changes::write_changes;
+pub use ends::{report, report_no_memory, report_usage, write_end, write_last, write_refusal};
+pub use history::write_history;
+pub use input_end::end_input;
+pub use records::prefix_record;
+pub use verifying::verify_history;

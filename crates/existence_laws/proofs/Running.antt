@@ -8,9 +8,9 @@ use Rattle.std.proofs.lemmas.List.{length-append}
 use Rattle.replay.proofs.xdr_core_proofs.FormatLaws.{mark_laws}
 use Rattle.replay.specs.run_outcome.declared.status.Status.TheVariants as status
 use Rattle.replay.specs.run_outcome.Lines.{end_line, refused_line}
-use Rattle.replay.proofs.Marking.{read_mark, framed_above}
+use Rattle.replay.proofs.reports_proofs.Marking.{read_mark, framed_above}
 use Rattle.replay.proofs.Runs.{ended_run, prepended}
-use Rattle.replay.proofs.Marking.{mark_fits}
+use Rattle.replay.proofs.reports_proofs.Marking.{mark_fits}
 
 abbrev index : ℕ → List ℕ → Position
 index at text = record { at = at; rest = text }

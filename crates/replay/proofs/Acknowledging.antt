@@ -5,7 +5,7 @@ use Rattle.replay.proofs.Prelude.{start_of, ClosingState, PreparedClose, IsClose
 use Rattle.replay.proofs.Prelude.{max_record_len, lines_of, AreClosed, IsEnd, IsPrefix, IsRun, IsAfter, AreAcknowledged}
 use Rattle.replay.proofs.Prelude.{closed_count, IsAnswerAfter, AcknowledgedAreCounted}
 use Rattle.std.proofs.Common.{take-append-drop}
-use Rattle.replay.proofs.Prefixes.{nothing_prefix, complete_prefix, prefix_later, prefix_more, complete_or_less}
+use Rattle.reports.proofs.Prefixes.{nothing_prefix, complete_prefix, prefix_later, prefix_more, complete_or_less}
 use Rattle.replay.proofs.Runs.{AreShort, not_both, refused_at}
 use Rattle.replay.proofs.After.{after_none, after_more, ClosesNothing, ack_stopped, ack_empty, ack_partial, ack_more}
 use Rattle.replay.proofs.Counting.{nothing_counted, split_prefix, counts_close, poor_close, poor_end}

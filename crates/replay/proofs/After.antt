@@ -4,7 +4,7 @@ use Rattle.replay.proofs.Prelude.{append_assoc, append-nil, arith, length-append
 use Rattle.replay.proofs.Prelude.{ClosingState, PreparedClose, IsClose, framed, frames, max_record_len, lines_of}
 use Rattle.replay.proofs.Prelude.{AreClosed, IsPrefix, Image, OpensTo, IsAfter, OpensAfter, AreAcknowledged}
 use Rattle.replay.proofs.Lines.{lines_some}
-use Rattle.replay.proofs.Prefixes.{nothing_prefix, complete_prefix, prefix_later, prefix_short, prefix_apart}
+use Rattle.reports.proofs.Prefixes.{nothing_prefix, complete_prefix, prefix_later, prefix_short, prefix_apart}
 use Rattle.replay.proofs.Runs.{same_close, framed_apart, AreShort}
 
 -- ---- after records

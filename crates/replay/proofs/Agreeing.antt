@@ -3,7 +3,7 @@ use Rattle.replay.proofs.Prelude.{◌≡◌, ℕ, ◌+◌, List, [], ◌∷◌, 
 use Rattle.replay.proofs.Prelude.{XdrFault, mark, Position, Reading, start_of, StartImage, network_id_of, ImageFault}
 use Rattle.replay.proofs.Prelude.{ClosingState, IsJudged, images_are_one, Outcome, IsStopped, IsEnd, IsRun, IsStarted}
 use Rattle.replay.proofs.Prelude.{IsOutcomeOf, frames, max_record_len, outcome_after, CatchupsAgree}
-use Rattle.replay.proofs.Marking.{moved, Moved, mark_moves}
+use Rattle.reports.proofs.Marking.{moved, Moved, mark_moves}
 use Rattle.replay.proofs.OneOutcome.{runs_are_one}
 
 -- ---- n bytes further on

@@ -6,7 +6,7 @@ use Rattle.replay.proofs.Prelude.{IsUnbegun, Unopened, RanSo, RanStored}
 use Rattle.stored_outcome.specs.run_outcome.declared.status.Status.TheVariants as status
 use Rattle.replay.proofs.Surviving.{ran_from}
 use Rattle.replay.proofs.Opening.{not_of_records}
-use Rattle.replay.proofs.Turning.{rose_before}
+use Rattle.reports.proofs.Streams.{rose_before}
 
 ran_on : (s : ClosingState) (ahead : List ℕ) (input out : Seen) (vol : SeenVolume) (mid : Disk) (F K : Type 0)
     (end : Status) → ((c : Image) → vol.before.left_since vol.before.moment c → vol.before.may_leave c)
@@ -35,6 +35,7 @@ unopened vol status.WriteFault h b = absurd h
 unopened vol (status.BadInput at) h b = absurd h
 unopened vol (status.BadImage rule) h b = absurd h
 unopened vol status.AlreadyThere h b = absurd h
+unopened vol status.TooLarge h b = absurd h
 
 -- what is read stays, where the volume didn't fail
 reads_so : (vol : SeenVolume) (end : Status) → Unopened vol end → VolumeFailed vol ⊎ (vol.now.reads ≡ vol.before.reads)
@@ -50,6 +51,7 @@ reads_so vol status.WriteFault u = absurd u
 reads_so vol (status.BadInput at) u = absurd u
 reads_so vol (status.BadImage rule) u = absurd u
 reads_so vol status.AlreadyThere u = absurd u
+reads_so vol status.TooLarge u = absurd u
 
 -- nothing but that the volume was read
 not_run : (input out : Seen) (vol : SeenVolume) (end : Status)
@@ -85,6 +87,7 @@ unbegun_end failed status.WriteFault b = absurd b
 unbegun_end failed (status.BadInput at) b = absurd b
 unbegun_end failed (status.BadImage rule) b = absurd b
 unbegun_end failed status.AlreadyThere b = absurd b
+unbegun_end failed status.TooLarge b = absurd b
 
 -- a run over the records after an opened store
 pub stored_on : (s : ClosingState) (input out : Seen) (vol : SeenVolume) (mid : Disk) (mid_faults : ℕ) (K : Type 0)

@@ -36,7 +36,7 @@ answered_to passphrase bytes input out err end did reported =
 -- ---- the other side
 
 -- why an end cut a run short
-abbrev Failing : (input out err : Seen) → (end : Status) → Type 0
+abbrev pub Failing : (input out err : Seen) → (end : Status) → Type 0
 Failing input out err end =
     ((end ≡ status.ReadFault) × Failed input) ⊎ ((end ≡ status.WriteFault) × (Failed out ⊎ Failed err))
     ⊎ (end ≡ status.NoMemory)
@@ -53,6 +53,7 @@ failing passphrase input out err status.Refused did short = absurd short
 failing passphrase input out err (status.BadStore file offset) did short = absurd short
 failing passphrase input out err status.Missing did short = absurd short
 failing passphrase input out err status.AlreadyThere did short = absurd short
+failing passphrase input out err status.TooLarge did short = absurd short
 failing passphrase input out err (status.BadInput at) did short = absurd short
 failing passphrase input out err (status.BadImage rule) did short = absurd short
 
@@ -76,7 +77,7 @@ runs_answered vol = runs_of vol IsAnswered catchups_answered
 
 -- ---- where nothing failed
 
-only_memory : (input out err : Seen) (end : Status) → NoneFailed input out err → Failing input out err end
+pub only_memory : (input out err : Seen) (end : Status) → NoneFailed input out err → Failing input out err end
     → end ≡ status.NoMemory
 only_memory input out err end none (inl (e, failed)) = absurd (none.no_read failed)
 only_memory input out err end none (inr (inl (e, inl failed))) = absurd (none.no_write failed)

@@ -10,10 +10,10 @@ use Rattle.replay.proofs.Prelude.{lines_of, IsPrefix, IsStopped, IsEnd, complete
 use Rattle.run_text.specs.op_types.Codes.{outcome_code}
 use Rattle.xdr_core.specs.declared.fault.XdrKind.TheVariants as kind
 use Rattle.stored_outcome.specs.close_rules.declared.close_fault.CloseFault.TheVariants as fault
-use Rattle.replay.proofs.Prefixes.{complete_or_less}
+use Rattle.reports.proofs.Prefixes.{complete_or_less}
 use Rattle.replay.proofs.LineEnds.{IsUnbroken, both_unbroken, lines_none, lines_one, decimal_unbroken, signed_unbroken}
 use Rattle.replay.proofs.LineEnds.{hex_unbroken, plain}
-use Rattle.replay.proofs.Marking.{read_mark}
+use Rattle.reports.proofs.Marking.{read_mark}
 
 -- ---- texts of complete lines
 

@@ -13,8 +13,7 @@ use Rattle.stored_outcome.specs.close_rules.declared.image_fault.ImageFault.TheV
 use Rattle.image_store.specs.gate_journal.declared.fault.StoreFault.TheVariants as fault
 use Rattle.stored_outcome.specs.run_outcome.declared.status.Status.TheVariants as status
 use Rattle.replay.specs.Initing.{Keeps}
-use Rattle.replay.proofs.Turning.{reported_prefix, rose_before}
-use Rattle.replay.proofs.Turning.{nothing_after_end}
+use Rattle.reports.proofs.Streams.{nothing_after_end, reported_prefix, rose_before}
 
 -- ---- the input
 
@@ -89,6 +88,7 @@ input_unended before mid now faults faults_mid faults_now image at ahead status.
 input_unended before mid now faults faults_mid faults_now image at ahead (status.BadImage rule) c h = absurd h
 input_unended before mid now faults faults_mid faults_now image at ahead status.Missing c h = absurd h
 input_unended before mid now faults faults_mid faults_now image at ahead status.AlreadyThere c h = absurd h
+input_unended before mid now faults faults_mid faults_now image at ahead status.TooLarge c h = absurd h
 
 faulty_is_bad : (before : Option (List ℕ)) (at : ℕ) → IfSome before (IsFaulty at)
     → IfSome before (λ bytes. IsBadInput bytes at)
@@ -109,6 +109,7 @@ uncut_unread input (status.BadStore file offset) h = absurd h
 uncut_unread input (status.BadImage rule) h = absurd h
 uncut_unread input status.Missing h = absurd h
 uncut_unread input status.AlreadyThere h = absurd h
+uncut_unread input status.TooLarge h = absurd h
 
 -- ---- the volume
 
@@ -316,6 +317,7 @@ module _ (network : Hash) (input : Seen) (vol : SeenVolume) where
   unread_made same (status.BadImage rule) h = absurd h
   unread_made same status.Missing h = absurd h
   unread_made same status.AlreadyThere h = absurd h
+  unread_made same status.TooLarge h = absurd h
 
   -- ends of judging it
   broken : (image : StartImage) (rule : ImageRule) → IsInput image input
@@ -342,6 +344,7 @@ module _ (network : Hash) (input : Seen) (vol : SeenVolume) where
   unjudged_made same image (status.BadStore file offset) i h = absurd cc
   unjudged_made same image status.Missing i h = absurd cc
   unjudged_made same image status.AlreadyThere i h = absurd cc
+  unjudged_made same image status.TooLarge i h = absurd cc
 
   -- ends of storing it
   storing_end : (end : Status) → IsStoringEnd end → IsInitEnd end
@@ -349,6 +352,7 @@ module _ (network : Hash) (input : Seen) (vol : SeenVolume) where
   storing_end status.DiskFault h = tt
   storing_end status.NoMemory h = tt
   storing_end status.AlreadyThere h = tt
+  storing_end status.TooLarge h = absurd h
   storing_end (status.BadInput at) h = absurd h
   storing_end status.ReadFault h = absurd h
   storing_end status.Usage h = absurd h
@@ -455,3 +459,4 @@ module _ (passphrase : List ℕ) (input err : Seen) (vol : SeenVolume) where
   did_init status.NoMemory after m no_write reported = reported_as status.NoMemory after m no_write reported
   did_init status.Missing after m no_write reported = absurd m.is_end
   did_init status.AlreadyThere after m no_write reported = reported_as status.AlreadyThere after m no_write reported
+  did_init status.TooLarge after m no_write reported = reported_as status.TooLarge after m no_write reported

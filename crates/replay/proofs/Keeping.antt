@@ -13,15 +13,15 @@ use Rattle.record_stream.specs.declared.piece.PieceFault.TheVariants as piece
 use Rattle.stored_outcome.specs.close_rules.declared.close_fault.CloseFault.TheVariants as close
 use Rattle.stored_outcome.specs.run_outcome.declared.status.Status.TheVariants as status
 use Rattle.replay.proofs.Lines.{lines_some}
-use Rattle.replay.proofs.Prefixes.{nothing_prefix, complete_prefix, complete_or_less}
-use Rattle.replay.proofs.Marking.{read_mark, prefix_of}
+use Rattle.reports.proofs.Prefixes.{nothing_prefix, complete_prefix, complete_or_less}
+use Rattle.reports.proofs.Marking.{read_mark, prefix_of}
 use Rattle.replay.proofs.Runs.{not_both, framed_apart, nothing_framed, ended_run, no_records, empty_prefix}
-use Rattle.replay.proofs.Turning.{over, no_record, end_err, bad_end, refused_end, cut_answer, answer_after}
+use Rattle.replay.proofs.Turning.{no_record, bad_end, refused_end, cut_answer, answer_after}
 use Rattle.replay.proofs.Turning.{complete_after}
 use Rattle.replay.proofs.After.{ClosesNothing, ack_stopped, ack_empty, ack_partial, ack_one, ack_more}
 use Rattle.replay.proofs.After.{opens_none, opens_one, opens_more}
 use Rattle.replay.proofs.Surviving.{safe_opens}
-use Rattle.replay.proofs.Turning.{empty_or_some}
+use Rattle.reports.proofs.Streams.{empty_or_some, end_err, over}
 
 -- ---- steps
 
@@ -391,6 +391,7 @@ failed_cut (status.BadInput at) failed = absurd failed
 failed_cut (status.BadImage rule) failed = absurd failed
 failed_cut status.Missing failed = absurd failed
 failed_cut status.AlreadyThere failed = absurd failed
+failed_cut status.TooLarge failed = absurd failed
 
 halfway_answers : (s : ClosingState) (at : ℕ) (bytes others : List ℕ) (out : Seen) (old new : Disk) (end : Status)
     → length bytes ≤ max_record_len → (h : IsHalfway s bytes out old new end)

@@ -26,7 +26,7 @@ use Rattle.replay.specs.Machine.{Machine, IsInstall, IsHandIn}
 use Rattle.replay.specs.LedgerEvents.{is_there, Shows, made_of, HandInsAreEvents, ClosesAreEvents}
 use Rattle.replay.proofs.Machining.{IsSound, all_kept, first_sound, install_accepts}
 use Rattle.replay.proofs.Possible.{installed}
-use Rattle.replay.proofs.Runs.{next_seq}
+use Rattle.reports.proofs.LedgerNumbers.{next_seq}
 
 -- ---- outcomes
 

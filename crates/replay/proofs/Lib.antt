@@ -2,11 +2,11 @@ pub mod Completing
 pub mod StoredCompleting
 pub mod OneOutcome
 pub mod OneState
-pub mod Marking
-pub mod Prefixes
 pub mod Lines
 pub mod Runs
 pub mod Turning
+pub mod Verifying
+pub mod VerdictsAnswered
 pub mod After
 pub mod Keeping
 pub mod Yields
@@ -17,6 +17,9 @@ pub mod Opening
 pub mod Complete
 pub mod Initing
 pub mod Starts
+pub mod WritingFiles
+pub mod OneFile
+pub mod FilesAnswered
 pub mod Tellings
 pub mod StoredTellings
 pub mod LineEnds
@@ -28,6 +31,8 @@ pub mod Possible
 pub mod LedgerMoves
 pub mod Showing
 pub mod ShowCompleting
+pub mod Asking
+pub mod AskCompleting
 pub mod Commands
 pub mod Agreeing
 pub mod Sampling
@@ -36,6 +41,7 @@ pub mod SampleReporting
 pub use Rattle.stored_outcome.proofs.bucket_core_proofs
 pub use Rattle.worker_merges.proofs.bucket_merge_proofs
 pub use Rattle.stored_outcome.proofs.entry_sums_proofs
+pub use Rattle.reports.proofs as reports_proofs
 pub use Rattle.worker_merges.proofs.entry_table_proofs
 pub use Rattle.worker_merges.proofs.image_rules_proofs
 pub use Rattle.worker_merges.proofs.ledger_close_proofs

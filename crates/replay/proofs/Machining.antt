@@ -20,7 +20,8 @@ use Rattle.replay.specs.Machine.{Machine, MadeMerge, IsTake, MayGo, IsWrite, Ste
 use Rattle.replay.specs.Machine.{IsLeft, IsReopening, Event, Take, Write, Install, HandIn, Reopen, Happens, AllHappen}
 use Rattle.replay.specs.Machine.{IsFirst, MayLeave, MachinesKeepUp, LogsGrow}
 use Rattle.replay.proofs.Yields.{closed_more}
-use Rattle.replay.proofs.Runs.{not_both, next_seq}
+use Rattle.replay.proofs.Runs.{not_both}
+use Rattle.reports.proofs.LedgerNumbers.{next_seq}
 
 abbrev pub in_order : Machine → InOrder
 in_order m = record { pairs = pair_at m.state.levels; merges = m.merges; ready = m.ready }

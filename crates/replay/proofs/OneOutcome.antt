@@ -7,7 +7,7 @@ use Rattle.replay.proofs.Prelude.{after, framed, frames, max_record_len, lines_o
 use Rattle.replay.proofs.Prelude.{IsOutcomeOf, IsPrefix, IsOutputPrefixOf, RunsAreOne, OutcomesAreOne}
 use Rattle.replay.proofs.Prelude.{PrefixesAreOfRuns, PrefixesAreOfOutcomes, OutputsArePrefixes}
 use Rattle.stored_outcome.specs.close_rules.declared.image_fault.ImageFault.TheVariants as fault
-use Rattle.replay.proofs.Prefixes.{nothing_prefix, complete_prefix, prefix_more}
+use Rattle.reports.proofs.Prefixes.{nothing_prefix, complete_prefix, prefix_more}
 use Rattle.replay.proofs.Runs.{AreShort, at_prefix, one_end, peeled}
 
 abbrev Short : List ℕ → Type 0

@@ -31,6 +31,7 @@ cut_is_end (status.BadInput at) short = absurd short
 cut_is_end (status.BadImage rule) short = absurd short
 cut_is_end status.Missing short = absurd short
 cut_is_end status.AlreadyThere short = absurd short
+cut_is_end status.TooLarge short = absurd short
 
 nothing_received : (out : Seen) → IsUntouched out → Received out []
 nothing_received out same =
@@ -73,6 +74,7 @@ not_begun s input out vol status.WriteFault o only now d runs u = absurd u
 not_begun s input out vol (status.BadInput at) o only now d runs u = absurd u
 not_begun s input out vol (status.BadImage rule) o only now d runs u = absurd u
 not_begun s input out vol status.AlreadyThere o only now d runs u = absurd u
+not_begun s input out vol status.TooLarge o only now d runs u = absurd u
 
 -- on a volume that opens
 pub ran_opened : (s : ClosingState) (input out : Seen) (vol : SeenVolume) (end : Status) → OpensTo vol.before.reads s
@@ -103,6 +105,7 @@ missing_end err vol status.WriteFault none u = absurd u
 missing_end err vol (status.BadInput at) none u = absurd u
 missing_end err vol (status.BadImage rule) none u = absurd u
 missing_end err vol status.AlreadyThere none u = absurd u
+missing_end err vol status.TooLarge none u = absurd u
 
 bad_end : (err : Seen) (vol : SeenVolume) (file offset : ℕ) (end : Status) → IsBadStore vol.before.reads file offset
     → Unopened vol end → IsOff (status.BadStore file offset) err vol end
@@ -120,6 +123,7 @@ bad_end err vol file offset status.WriteFault bad u = absurd u
 bad_end err vol file offset (status.BadInput at) bad u = absurd u
 bad_end err vol file offset (status.BadImage rule) bad u = absurd u
 bad_end err vol file offset status.AlreadyThere bad u = absurd u
+bad_end err vol file offset status.TooLarge bad u = absurd u
 
 pub ran_missing : (input out err : Seen) (vol : SeenVolume) (end : Status) → HoldsNothing vol.before.reads
     → RanSo input out vol end → DidNotOpen status.Missing input out err vol end
@@ -158,6 +162,7 @@ opened_end status.NoMemory opened vol u = opened
 opened_end (status.BadImage rule) opened vol u = opened
 opened_end status.Missing opened vol u = opened
 opened_end status.AlreadyThere opened vol u = opened
+opened_end status.TooLarge opened vol u = opened
 
 pub only_opened : (input out : Seen) (vol : SeenVolume) (end : Status) → IsOpenedEnd end → RanSo input out vol end
     → (s : ClosingState) × OpensTo vol.before.reads s
@@ -179,3 +184,4 @@ not_of_records status.NoMemory ended records = ended
 not_of_records (status.BadInput at) ended records = ended
 not_of_records (status.BadImage rule) ended records = ended
 not_of_records status.AlreadyThere ended records = ended
+not_of_records status.TooLarge ended records = ended

@@ -43,17 +43,19 @@ pub use Rattle.replay.specs.CommandLaws.{CatchupsAgree, IsByCommand, IsFullAt, I
 pub use Rattle.replay.specs.CommandLaws.{IsShowFault, IsUnopenedShown, IsUsageReported, SamplesAreComplete}
 pub use Rattle.replay.specs.CommandLaws.{SamplesAreCompleteOrFull, SamplesAreOne, Showings, outcome_after}
 pub use Rattle.replay.specs.Following.{AnsweredFrom, Closes, CompleteLines, EndsAt, Followed, FollowedFrom, Goes, IsCut}
-pub use Rattle.replay.specs.Following.{Passes, Refuses, RunPosition, Stops, Turned, Wrote, WroteClose}
-pub use Rattle.replay.specs.Initing.{IsEnded, IsFollowed, IsInput, IsLedgers, IsStoringEnd, IsUnended, IsUnread}
-pub use Rattle.replay.specs.Initing.{Storing}
+pub use Rattle.replay.specs.Following.{Passes, Refuses, RunPosition, Stops, Turned, WroteClose}
+pub use Rattle.reports.specs.Ends.{Wrote}
+pub use Rattle.replay.specs.Initing.{IsInput, IsLedgers, IsStoringEnd, IsUnread, Storing}
+pub use Rattle.reports.specs.EndOfInput.{IsEnded, IsFollowed, IsUnended}
 pub use Rattle.replay.specs.Keeping.{Answers, DidFollow, DiskFailed, IsCaused, IsHalfway, IsUnkept, IsWriting}
 pub use Rattle.replay.specs.Keeping.{IsWritten, Keeps, KeptClose, KeptOn, KeptPass, KeptTurn, KeptWriting, OpensEither}
 pub use Rattle.replay.specs.Keeping.{OpensOnward, Ready, UnlessDisk}
 pub use Rattle.replay.specs.Outcomes.{OutcomesAreOne, OutputsArePrefixes, PrefixesAreOfOutcomes, PrefixesAreOfRuns}
 pub use Rattle.replay.specs.Outcomes.{RunsAreOne, RunsGoOn}
-pub use Rattle.replay.specs.Reporting.{IsReportedOrRefused, IsReportedSo}
+pub use Rattle.reports.specs.Ends.{IsReportedOrRefused, IsReportedSo}
 pub use Rattle.replay.specs.Sampling.{HasReached, Samples}
-pub use Rattle.replay.specs.Starting.{Begins, CaughtUp, Cut, GaveNoImage, IsFaulty, IsJudgedSo, IsUncut, IsUnstarted}
+pub use Rattle.replay.specs.Starting.{Begins, CaughtUp, Cut, GaveNoImage, IsBarred, IsFaulty, IsJudgedSo, IsUncut}
+pub use Rattle.replay.specs.Starting.{IsUnstarted}
 pub use Rattle.replay.specs.Starting.{StartsAt}
 pub use Rattle.replay.specs.Stored.{IsStored, keep_fault_of}
 pub use Rattle.replay.specs.StoredLaws.{AcknowledgedAreCounted, Inits, IsBadImageAnswered, IsBadInputAnswered}

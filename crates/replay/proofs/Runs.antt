@@ -10,8 +10,8 @@ use Rattle.stored_outcome.specs.header_chain.Upgrades.{upgrade_in, upgraded_if, 
 use Rattle.ledger_types.specs.declared.header.LedgerUpgrade.{LedgerUpgrade}
 use Rattle.ledger_types.specs.declared.header.LedgerUpgrade.TheVariants as upgrade
 use Rattle.stored_outcome.specs.run_outcome.declared.status.Status.TheVariants as status
-use Rattle.replay.proofs.Prefixes.{prefix_later, nothing_prefix}
-use Rattle.replay.proofs.Marking.{read_mark, framed_is_read, framed_above}
+use Rattle.reports.proofs.Prefixes.{prefix_later, nothing_prefix}
+use Rattle.reports.proofs.Marking.{read_mark, framed_is_read, framed_above}
 
 -- ---- closes
 
@@ -23,7 +23,7 @@ pub same_close : (s : ClosingState) (bytes : List ℕ) (a b : PreparedClose) →
     → a ≡ b
 same_close s bytes a b h i = let e : answer (Ok a) ≡ Ok b = closes_are_one s bytes (Ok a) (Ok b) h i in cc
 
-same_refusal : (s : ClosingState) (bytes : List ℕ) (a b : CloseFault) → IsClose s bytes (Err a)
+pub same_refusal : (s : ClosingState) (bytes : List ℕ) (a b : CloseFault) → IsClose s bytes (Err a)
     → IsClose s bytes (Err b)
     → a ≡ b
 same_refusal s bytes a b h i = let e : answer (Err a) ≡ Err b = closes_are_one s bytes (Err a) (Err b) h i in cc
@@ -247,28 +247,3 @@ later_prefix s bytes c at others prefix fits closes (inr (o, run, f)) = inr (
   prepended s bytes c at others o fits closes run,
   prefix_later (lines_of c) prefix o.text f,
 )
-
--- ---- numbers of ledgers
-
-upgraded_seq : (header : LedgerHeader) (asked : Option LedgerUpgrade)
-    → (upgraded_if header asked).ledger_seq ≡ header.ledger_seq
-upgraded_seq header None = refl
-upgraded_seq header (Some (upgrade.Version n)) = refl
-upgraded_seq header (Some (upgrade.BaseFee n)) = refl
-upgraded_seq header (Some (upgrade.MaxTxSetSize n)) = refl
-upgraded_seq header (Some (upgrade.BaseReserve n)) = refl
-upgraded_seq header (Some (upgrade.Flags n)) = refl
-
-all_upgraded_seq : (asked : List (Option LedgerUpgrade)) (header : LedgerHeader)
-    → (all_upgraded header asked).ledger_seq ≡ header.ledger_seq
-all_upgraded_seq [] header = refl
-all_upgraded_seq (one ∷ asked) header =
-    all_upgraded_seq asked (upgraded_if header one) ∙ upgraded_seq header one
-
--- the next ledger's number is one more
-pub next_seq : (s : ClosingState) (bytes : List ℕ) (c : PreparedClose) → IsClose s bytes (Ok c)
-    → c.state.header.ledger_seq ≡ s.header.ledger_seq + 1
-next_seq s bytes c h =
-    let closing = h.1.taken.closing in
-    ap (λ (x : LedgerHeader). x.ledger_seq) h.1.closes.header
-    ∙ all_upgraded_seq (map upgrade_in closing.scp_value.upgrades) (filled_header s closing)

@@ -135,3 +135,5 @@ did_sample seed ledgers out err status.Missing after s reported =
     reported_as seed ledgers out err status.Missing s after reported
 did_sample seed ledgers out err status.AlreadyThere after s reported =
     reported_as seed ledgers out err status.AlreadyThere s after reported
+did_sample seed ledgers out err status.TooLarge after s reported =
+    reported_as seed ledgers out err status.TooLarge s after reported

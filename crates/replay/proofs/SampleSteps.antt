@@ -86,6 +86,7 @@ judged_first seed low first one (Err (status.BadStore file offset)) judged = jud
 judged_first seed low first one (Err (status.BadInput at)) judged = judged
 judged_first seed low first one (Err status.Missing) judged = judged
 judged_first seed low first one (Err status.AlreadyThere) judged = judged
+judged_first seed low first one (Err status.TooLarge) judged = judged
 
 -- the ledger of a sample's image
 pub first_of : (seed : ℕ) → seed < 2 ^ 32 → FirstStatesClose → ImagesAreOne → (network : Hash) (image : StartImage)

@@ -163,6 +163,7 @@ memory_alone status.Usage is short other = absurd is
 memory_alone (status.BadStore file offset) is short other = absurd is
 memory_alone status.Missing is short other = absurd is
 memory_alone status.AlreadyThere is short other = absurd is
+memory_alone status.TooLarge is short other = absurd is
 memory_alone (status.BadInput at) is short other = absurd is
 memory_alone (status.BadImage rule) is short other = absurd is
 

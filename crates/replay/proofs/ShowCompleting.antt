@@ -30,6 +30,7 @@ as_unshown vol k s out err status.ReadFault holds yields un = absurd un
 as_unshown vol k s out err (status.BadInput at) holds yields un = absurd un
 as_unshown vol k s out err (status.BadImage rule) holds yields un = absurd un
 as_unshown vol k s out err status.AlreadyThere holds yields un = absurd un
+as_unshown vol k s out err status.TooLarge holds yields un = absurd un
 
 pub show_answered : (vol : SeenVolume) → Showings vol (IsShowAnswered vol)
 show_answered vol k s out err end did te holds yields = elim (did.shown te) [
@@ -57,7 +58,7 @@ show_complete vol k s out err end did te holds yields no_out no_err no_disk =
 
 -- ---- where it doesn't open
 
-missing_unshown : (err : Seen) (vol : SeenVolume) (end : Status) → HoldsNothing vol.before.reads
+pub missing_unshown : (err : Seen) (vol : SeenVolume) (end : Status) → HoldsNothing vol.before.reads
     → IsUnshown err vol end → (end ≡ status.Missing) ⊎ IsShowFault vol err end
 missing_unshown err vol status.Missing none un = inl refl
 missing_unshown err vol (status.BadStore file offset) none un =
@@ -72,8 +73,9 @@ missing_unshown err vol status.ReadFault none un = absurd un
 missing_unshown err vol (status.BadInput at) none un = absurd un
 missing_unshown err vol (status.BadImage rule) none un = absurd un
 missing_unshown err vol status.AlreadyThere none un = absurd un
+missing_unshown err vol status.TooLarge none un = absurd un
 
-bad_unshown : (err : Seen) (vol : SeenVolume) (end : Status) (file offset : ℕ)
+pub bad_unshown : (err : Seen) (vol : SeenVolume) (end : Status) (file offset : ℕ)
     → IsBadStore vol.before.reads file offset → IsUnshown err vol end
     → (end ≡ status.BadStore file offset) ⊎ IsShowFault vol err end
 bad_unshown err vol status.Missing file offset bad un =
@@ -91,6 +93,7 @@ bad_unshown err vol status.ReadFault file offset bad un = absurd un
 bad_unshown err vol (status.BadInput at) file offset bad un = absurd un
 bad_unshown err vol (status.BadImage rule) file offset bad un = absurd un
 bad_unshown err vol status.AlreadyThere file offset bad un = absurd un
+bad_unshown err vol status.TooLarge file offset bad un = absurd un
 
 pub unopened_shown : (vol : SeenVolume) → IsUnopenedShown vol
 unopened_shown vol out err end did te = elim (did.shown te) [

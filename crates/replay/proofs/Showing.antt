@@ -49,6 +49,7 @@ unbegun_shown failed status.WriteFault b = absurd b
 unbegun_shown failed (status.BadInput at) b = absurd b
 unbegun_shown failed (status.BadImage rule) b = absurd b
 unbegun_shown failed status.AlreadyThere b = absurd b
+unbegun_shown failed status.TooLarge b = absurd b
 
 show_end : (out : Seen) (vol : SeenVolume) (end : Status) → WroteOrNot out vol end → IsShowEnd end
 show_end out vol end (inl (text, w)) = wrote_end out text end w
@@ -83,7 +84,7 @@ none_written out vol end (inr (same, b)) un = same
 
 -- ---- what is read
 
-unshown : (err : Seen) (vol : SeenVolume) (end : Status) → OpensNot vol.before.reads vol.now.reads end
+pub unshown : (err : Seen) (vol : SeenVolume) (end : Status) → OpensNot vol.before.reads vol.now.reads end
     → (end ≡ status.DiskFault → VolumeFailed vol) → IsUnshown err vol end
 unshown err vol status.Missing o d = o
 unshown err vol (status.BadStore file offset) o d = o
@@ -97,8 +98,9 @@ unshown err vol status.WriteFault o d = absurd o
 unshown err vol (status.BadInput at) o d = absurd o
 unshown err vol (status.BadImage rule) o d = absurd o
 unshown err vol status.AlreadyThere o d = absurd o
+unshown err vol status.TooLarge o d = absurd o
 
-reads_stay : (vol : SeenVolume) (end : Status) → OpensNot vol.before.reads vol.now.reads end
+pub reads_stay : (vol : SeenVolume) (end : Status) → OpensNot vol.before.reads vol.now.reads end
     → (end ≡ status.DiskFault → VolumeFailed vol) → VolumeFailed vol ⊎ ReadsStay vol
 reads_stay vol status.Missing o d = inr o.1
 reads_stay vol (status.BadStore file offset) o d = inr o.1
@@ -112,6 +114,7 @@ reads_stay vol status.WriteFault o d = absurd o
 reads_stay vol (status.BadInput at) o d = absurd o
 reads_stay vol (status.BadImage rule) o d = absurd o
 reads_stay vol status.AlreadyThere o d = absurd o
+reads_stay vol status.TooLarge o d = absurd o
 
 module _ (out err : Seen) (vol : SeenVolume) (end : Status) (s : Shows out vol end) where
   stays : vol.reports → VolumeFailed vol ⊎ ReadsStay vol
@@ -199,3 +202,4 @@ did_show out err vol status.DiskFault after s reported = reported_as out err vol
 did_show out err vol status.NoMemory after s reported = reported_as out err vol status.NoMemory s after reported
 did_show out err vol status.Missing after s reported = reported_as out err vol status.Missing s after reported
 did_show out err vol status.AlreadyThere after s reported = reported_as out err vol status.AlreadyThere s after reported
+did_show out err vol status.TooLarge after s reported = reported_as out err vol status.TooLarge s after reported

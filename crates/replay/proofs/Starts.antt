@@ -7,13 +7,13 @@ use Rattle.replay.proofs.Prelude.{faults_located, StartImage, start_image, netwo
 use Rattle.replay.proofs.Prelude.{IsJudged, Status, IsCutShort, IsRecordsEnd, IsCatchUpEnd, silent, IsRun, IsStarted}
 use Rattle.replay.proofs.Prelude.{IsOutcomeOf, IsOutcome, AreLinesOf, IsRunPrefix, IsOutputPrefixOf, IsOutputPrefix}
 use Rattle.replay.proofs.Prelude.{Answered, AnsweredTo, AnsweredFrom, Followed, Cut, CaughtUp, IsFaulty, GaveNoImage}
-use Rattle.replay.proofs.Prelude.{IsUncut, IsUnstarted, IsJudgedSo, StartsAt, drop_at}
+use Rattle.replay.proofs.Prelude.{IsBarred, IsUncut, IsUnstarted, IsJudgedSo, StartsAt, drop_at}
 use Rattle.xdr_header.proofs.ImageLaws.{start_image_laws}
 use Rattle.record_stream.specs.Layouts.{IsTaken}
 use Rattle.stored_outcome.specs.close_rules.declared.image_fault.ImageFault.TheVariants as image_fault
 use Rattle.stored_outcome.specs.run_outcome.declared.status.Status.TheVariants as status
-use Rattle.replay.proofs.Turning.{over, reported_prefix, short_or_not, cut_answered, rose_before}
-use Rattle.replay.proofs.Turning.{nothing_after_end}
+use Rattle.replay.proofs.Turning.{cut_answered}
+use Rattle.reports.proofs.Streams.{nothing_after_end, over, reported_prefix, rose_before, short_or_not}
 
 abbrev read_image : List ℕ → Reading XdrFault StartImage
 read_image text = start_image.read (start_of text)
@@ -173,7 +173,7 @@ unread_failed passphrase input failed none out h = record {
   is_end = tt;
 }
 
-pub uncut_unstarted : (passphrase : List ℕ) (input : Seen) (end : Status) → IsUncut input end
+uncut_unstarted : (passphrase : List ℕ) (input : Seen) (end : Status) → IsUncut input end
     → IsUnstarted passphrase input end
 uncut_unstarted passphrase input (status.BadInput at) h = unread_bad passphrase input at h
 uncut_unstarted passphrase input status.ReadFault h = unread_failed passphrase input h.0 h.1
@@ -187,11 +187,12 @@ uncut_unstarted passphrase input (status.BadStore file offset) h = absurd h
 uncut_unstarted passphrase input (status.BadImage rule) h = absurd h
 uncut_unstarted passphrase input status.Missing h = absurd h
 uncut_unstarted passphrase input status.AlreadyThere h = absurd h
+uncut_unstarted passphrase input status.TooLarge h = absurd h
 
 -- ---- judging
 
 -- what is at the start of an input that begins with a cut image
-prefix_reading : (image : StartImage) (at : ℕ) (ahead others : List ℕ) (input : Seen) (c : Cut image at ahead input)
+pub prefix_reading : (image : StartImage) (at : ℕ) (ahead others : List ℕ) (input : Seen) (c : Cut image at ahead input)
     → read_image ((c.prefix ++ ahead) ++ others) ≡ Ok (image, record { at = at; rest = ahead ++ others })
 prefix_reading image at ahead others input c =
     ap read_image (append_assoc c.prefix ahead others) ∙ c.begins (ahead ++ others)
@@ -209,7 +210,7 @@ judged_end passphrase image at ahead input end judged c is started out h =
     (sym (prefix_reading image at ahead others input c))
     (judged, is, started (record { at = at; rest = ahead ++ others }))))
 
-pub unjudged : (passphrase : List ℕ) (image : StartImage) (at : ℕ) (ahead : List ℕ) (input : Seen) (end : Status)
+unjudged : (passphrase : List ℕ) (image : StartImage) (at : ℕ) (ahead : List ℕ) (input : Seen) (end : Status)
     → Cut image at ahead input → IsJudgedSo (network_id_of passphrase) image (Err end)
     → IsUnstarted passphrase input end
 unjudged passphrase image at ahead input (status.BadImage rule) c is out h = record {
@@ -232,6 +233,14 @@ unjudged passphrase image at ahead input status.DiskFault c is out h = absurd cc
 unjudged passphrase image at ahead input (status.BadStore file offset) c is out h = absurd cc
 unjudged passphrase image at ahead input status.Missing c is out h = absurd cc
 unjudged passphrase image at ahead input status.AlreadyThere c is out h = absurd cc
+unjudged passphrase image at ahead input status.TooLarge c is out h = absurd cc
+
+-- why no ledger starts, as the end of a run
+pub barred_unstarted : (passphrase : List ℕ) (input : Seen) (end : Status) → IsBarred passphrase input end
+    → IsUnstarted passphrase input end
+barred_unstarted passphrase input end (inl uncut) = uncut_unstarted passphrase input end uncut
+barred_unstarted passphrase input end (inr (image, at, ahead, c, is)) =
+    unjudged passphrase image at ahead input end c is
 
 -- ---- an entire run
 
@@ -270,6 +279,7 @@ caught_end (status.BadInput at) is never = tt
 caught_end (status.BadImage rule) is never = absurd is
 caught_end status.Missing is never = absurd is
 caught_end status.AlreadyThere is never = absurd is
+caught_end status.TooLarge is never = absurd is
 
 pub caught_up : (passphrase : List ℕ) (s : ClosingState) (at : ℕ) (ahead : List ℕ) (input out : Seen)
     (now : Option (List ℕ))

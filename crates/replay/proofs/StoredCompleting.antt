@@ -70,6 +70,7 @@ failing input out err vol status.Refused did short = absurd short
 failing input out err vol (status.BadStore file offset) did short = absurd short
 failing input out err vol status.Missing did short = absurd short
 failing input out err vol status.AlreadyThere did short = absurd short
+failing input out err vol status.TooLarge did short = absurd short
 failing input out err vol (status.BadInput at) did short = absurd short
 failing input out err vol (status.BadImage rule) did short = absurd short
 
@@ -233,6 +234,7 @@ yielded passphrase bytes input err vol status.Usage did reported = absurd did.le
 yielded passphrase bytes input err vol status.Refused did reported = absurd did.left.is_end
 yielded passphrase bytes input err vol (status.BadStore file offset) did reported = absurd did.left.is_end
 yielded passphrase bytes input err vol status.Missing did reported = absurd did.left.is_end
+yielded passphrase bytes input err vol status.TooLarge did reported = absurd did.left.is_end
 
 abbrev reading : Reading XdrFault StartImage → Reading XdrFault StartImage
 reading r = r

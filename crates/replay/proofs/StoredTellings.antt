@@ -7,7 +7,7 @@ use Rattle.replay.proofs.Prelude.{IsUnbrokenEnd, MayLeaveNow, MayRead, Survived,
 use Rattle.replay.proofs.Prelude.{IsOpenedEnd, IsUnopenedEnd, IsRunEnd, DidRun, IsReportedOrRefused, IsReportedSo}
 use Rattle.replay.proofs.Prelude.{RanSo, RanOrNot, RanStored}
 use Rattle.stored_outcome.specs.run_outcome.declared.status.Status.TheVariants as status
-use Rattle.replay.proofs.Prefixes.{complete_prefix}
+use Rattle.reports.proofs.Prefixes.{complete_prefix}
 use Rattle.replay.proofs.Keeping.{failed_cut}
 use Rattle.replay.proofs.Opening.{OnlyBefore, NowLeaves, cut_is_end, ran_opened, ran_missing, ran_bad, only_missing}
 use Rattle.replay.proofs.Opening.{only_bad, only_opened}
@@ -198,6 +198,8 @@ reported_so input out err vol status.Missing after b reported =
     reported_as input out err vol status.Missing after b reported
 reported_so input out err vol status.AlreadyThere after b reported =
     reported_as input out err vol status.AlreadyThere after b reported
+reported_so input out err vol status.TooLarge after b reported =
+    reported_as input out err vol status.TooLarge after b reported
 
 pub did_run : (input out err : Seen) (vol : SeenVolume) (end after : Status) → OnlyBefore vol
     → (vol.reports → NowLeaves vol) → RanStored input out vol end → IsReportedSo end err after

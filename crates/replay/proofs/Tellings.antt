@@ -7,7 +7,7 @@ use Rattle.replay.proofs.Prelude.{IsOutputPrefix, IsAnswer, AnsweredTo, DidCatch
 use Rattle.replay.proofs.Prelude.{IsReportedSo}
 use Rattle.stored_outcome.specs.close_rules.declared.image_fault.ImageFault.TheVariants as fault
 use Rattle.stored_outcome.specs.run_outcome.declared.status.Status.TheVariants as status
-use Rattle.replay.proofs.Prefixes.{complete_prefix}
+use Rattle.reports.proofs.Prefixes.{complete_prefix}
 
 -- the text of an outcome is a prefix of itself
 started_prefix : (network : Hash) (image : StartImage) (p : Position) (judged : Result ClosingState ImageFault)
@@ -103,3 +103,4 @@ reported_or_refused status.DiskFault err after reported = inl reported
 reported_or_refused status.NoMemory err after reported = inl reported
 reported_or_refused status.Missing err after reported = inl reported
 reported_or_refused status.AlreadyThere err after reported = inl reported
+reported_or_refused status.TooLarge err after reported = inl reported

@@ -14,21 +14,14 @@ use Rattle.record_stream.specs.declared.piece.PieceFault.TheVariants as piece
 use Rattle.stored_outcome.specs.close_rules.declared.close_fault.CloseFault.TheVariants as close
 use Rattle.xdr_core.specs.declared.fault.XdrKind.TheVariants as kind
 use Rattle.stored_outcome.specs.run_outcome.declared.status.Status.TheVariants as status
-use Rattle.replay.proofs.Marking.{read_mark, framed_is_read, framed_above, framed_len, fault_after, empty_is_short}
-use Rattle.replay.proofs.Marking.{prefix_of}
-use Rattle.replay.proofs.Prefixes.{prefix_more}
-use Rattle.replay.proofs.Runs.{next_seq}
+use Rattle.reports.proofs.Marking.{read_mark, framed_is_read, framed_above, framed_len, fault_after, empty_is_short}
+use Rattle.reports.proofs.Marking.{prefix_of}
+use Rattle.reports.proofs.Prefixes.{prefix_more}
 use Rattle.replay.proofs.Runs.{prepended, ended_run, no_records, one_more, empty_prefix, later_prefix}
-
--- ---- streams, one use after another
-
-abbrev pub over : (before now : Option (List ℕ)) (faults_before faults_now : ℕ) → Seen
-over before now faults_before faults_now =
-    record { before = before; now = now; faults_before = faults_before; faults_now = faults_now }
-
--- a stream's two uses as one
-abbrev pub joined : Seen → Seen → Seen
-joined first second = over first.before second.now first.faults_before second.faults_now
+use Rattle.reports.proofs.LedgerNumbers.{low_after, next_seq}
+use Rattle.reports.proofs.Streams.{over, joined, rose_before, if_some, reported_prefix, nothing_after_end, end_err}
+use Rattle.reports.proofs.Streams.{mark_stays, text_of}
+use Rattle.reports.proofs.Streams.{prefix_text, empty_or_some}
 
 -- ---- a record, and then the rest of the run
 
@@ -93,9 +86,6 @@ gone_answered old new input out g (Some x) (Some y) out_now out_faults end gave 
     subst (λ (t : List ℕ). AnsweredFrom old.state old.at t (over out.before out_now out.faults_before out_faults) end)
     (sym (text_after old.ahead g.given (framed g.bytes) new.ahead x y g.cut gave)) third
 
-pub rose_before : (a b c : ℕ) → a ≤ b → Rose b c → Rose a c
-rose_before a b c le h = omega arith
-
 gone_lines : (old new : RunPosition) (input out : Seen) (g : Goes old new input out) (now out_now : Option (List ℕ))
     (faults out_faults : ℕ)
     → CompleteLines new.state new.at new.ahead (over input.now now input.faults_now faults)
@@ -139,10 +129,6 @@ pub record IsLast (end : Status) : Type 0 where
   pub no_disk : end ≢ status.DiskFault
   pub no_write : end ≢ status.WriteFault
   pub is_end : IsRecordsEnd end
-
-if_some : (o : Option (List ℕ)) (P Q : List ℕ → Type 0) → ((x : List ℕ) → P x → Q x) → IfSome o P → IfSome o Q
-if_some None P Q f h = tt
-if_some (Some x) P Q f h = f x h
 
 -- nothing was written
 pub cut_answered : (IsOne : List ℕ → Outcome → Type 0) (IsOnePrefix : List ℕ → List ℕ → Type 0)
@@ -264,59 +250,12 @@ read_failed s at ahead new input out F grown short failed h = record {
   is_end = tt;
 }
 
--- what a source reported begins with what it gave
-pub reported_prefix : (before now : Option (List ℕ)) (given : List ℕ) (P : List ℕ → Type 0) → Consumes before now given
-    → ((others : List ℕ) → now ≡ Some others → P (given ++ others)) → IfSome before P
-reported_prefix None now given P gave h = tt
-reported_prefix (Some x) None given P gave h = absurd gave
-reported_prefix (Some x) (Some y) given P gave h = subst P (sym gave) (h y refl)
-
-abbrev some : List ℕ → Option (List ℕ)
-some x = Some x
-
-some_is : (a b : List ℕ) → some a ≡ Some b → a ≡ b
-some_is a b e = cc
-
-pub nothing_after_end : (now : Option (List ℕ)) (others : List ℕ) → IsAtEnd now → now ≡ Some others → others ≡ []
-nothing_after_end None others h e = absurd cc
-nothing_after_end (Some x) others h e = let same : x ≡ others = some_is x others e in sym same ∙ h
-
--- ---- what is ahead where a turn ends
-
-pub short_or_not : (k : XdrKind) → (k ≡ kind.Short) ⊎ (k ≢ kind.Short)
-short_or_not kind.Short = inl refl
-short_or_not kind.Padding = inr (λ e. cc)
-short_or_not kind.BadEnum = inr (λ e. cc)
-short_or_not kind.BadFlag = inr (λ e. cc)
-short_or_not kind.TooLong = inr (λ e. cc)
-short_or_not kind.BadMark = inr (λ e. cc)
-short_or_not kind.Trailing = inr (λ e. cc)
-short_or_not kind.TooDeep = inr (λ e. cc)
-
-pub end_err : (r : Reading XdrFault (List ℕ)) (wrong : XdrFault) → end_by r ≡ Err wrong → r ≡ Err wrong
-end_err (Ok x) wrong e = absurd cc
-end_err (Err other) wrong e = cc
-
-mark_stays : (new others : List ℕ) (now : Option (List ℕ)) (wrong : XdrFault) → IsBytes new
-    → read_mark (start_of new) ≡ Err wrong → (wrong.kind ≡ kind.Short → IsAtEnd now) → now ≡ Some others
-    → read_mark (start_of (new ++ others)) ≡ Err wrong
-mark_stays new others now wrong fits e at_end reported = elim (short_or_not wrong.kind) [
-  | inl short ↦ ap (λ (t : List ℕ). read_mark (start_of (new ++ t)))
-      (nothing_after_end now others (at_end short) reported)
-      ∙ ap (λ (t : List ℕ). read_mark (start_of t)) (append-nil new) ∙ e
-  | inr other ↦ (faults_located (mark_laws max_record_len (omega arith))).stays (start_of new) wrong others fits e other
-]
-
 pub bad_end : (s : ClosingState) (at : ℕ) (text : List ℕ) (wrong : XdrFault) → 0 < length text
     → read_mark (start_of text) ≡ Err wrong → IsEnd s at text (silent (status.BadInput (at + wrong.at)))
 bad_end s at [] wrong some e = absurd (omega arith)
 bad_end s at (byte ∷ rest) wrong some e =
     subst (λ (r : Reading XdrFault (List ℕ)). IsStopped s r (silent (status.BadInput (at + wrong.at))))
     (sym (fault_after at (byte ∷ rest) wrong e)) refl
-
--- the text from an offset on is what is ahead, and more
-text_of : (ahead new given others : List ℕ) → new ≡ ahead ++ given → ahead ++ (given ++ others) ≡ new ++ others
-text_of ahead new given others e = sym (append_assoc ahead given others) ∙ ap (λ (t : List ℕ). t ++ others) (sym e)
 
 pub bad_mark : (s : ClosingState) (at : ℕ) (ahead new : List ℕ) (input out : Seen) (F : Type 0) (wrong : XdrFault)
     → Grown input.before input.now ahead new → IsBytes new → record_end new ≡ Err wrong
@@ -352,11 +291,6 @@ all_done s at ahead new input out F end wrong grown measured at_end none wrote =
 
 -- ---- what a record yields
 
-prefix_text : (ahead new given prefix rest others : List ℕ) → new ≡ ahead ++ given → new ≡ prefix ++ rest
-    → ahead ++ (given ++ others) ≡ prefix ++ (rest ++ others)
-prefix_text ahead new given prefix rest others e cut =
-    text_of ahead new given others e ∙ ap (λ (t : List ℕ). t ++ others) cut ∙ append_assoc prefix rest others
-
 pub refused_end : (s : ClosingState) (at : ℕ) (bytes rest : List ℕ) (wrong : CloseFault) → length bytes ≤ max_record_len
     → IsClose s bytes (Err wrong)
     → IsEnd s at (framed bytes ++ rest) (record { status = status.Refused; text = refused_line s.header wrong })
@@ -389,6 +323,7 @@ cut_short out F (status.BadInput at) h = absurd h
 cut_short out F (status.BadImage rule) h = absurd h
 cut_short out F status.Missing h = absurd h
 cut_short out F status.AlreadyThere h = absurd h
+cut_short out F status.TooLarge h = absurd h
 
 not_done : (out : Seen) (F : Type 0) (end : Status) → IsCut out F end → end ≡ status.Done → ⊥
 not_done out F end h e = subst (λ (x : Status). IsCut out F x) e h
@@ -409,6 +344,7 @@ cut_end out F (status.BadInput at) h = tt
 cut_end out F (status.BadImage rule) h = absurd h
 cut_end out F status.Missing h = absurd h
 cut_end out F status.AlreadyThere h = absurd h
+cut_end out F status.TooLarge h = absurd h
 
 -- a record closes the ledger, and a prefix of its lines was written
 pub cut_answer : (s : ClosingState) (bytes : List ℕ) (c : PreparedClose) (at : ℕ) (others prefix : List ℕ)
@@ -505,6 +441,7 @@ cut_wider out F G (status.BadInput at) wider cut = absurd cut
 cut_wider out F G (status.BadImage rule) wider cut = absurd cut
 cut_wider out F G status.Missing wider cut = absurd cut
 cut_wider out F G status.AlreadyThere wider cut = absurd cut
+cut_wider out F G status.TooLarge wider cut = absurd cut
 
 -- a record closed the ledger, and its lines were written
 pub closed_written : (s : ClosingState) (bytes : List ℕ) (closed : PreparedClose) (next : ClosingState) (out : Seen)
@@ -548,10 +485,6 @@ turned_at s at ahead mid end next new input out F (Some last) fits grown measure
     record_stops s at ahead mid (drop end mid) p.bytes input out F last grown
     (f.entire ∙ ap (λ (t : List ℕ). t ++ drop end mid) (f.framed_is ∙ sym p.framed_is)) p.short p.closes
 
-pub empty_or_some : (text : List ℕ) → (length text ≡ 0) ⊎ (0 < length text)
-empty_or_some [] = inl refl
-empty_or_some (byte ∷ rest) = inr (omega arith)
-
 -- no record was ahead
 pub turned_off : (s : ClosingState) (at : ℕ) (ahead mid : List ℕ) (input out : Seen) (F : Type 0) (why :
     PieceFault) (end : Status)
@@ -579,10 +512,6 @@ goes_seq old new input out g =
 pub goes_smaller : (old new : RunPosition) (input out : Seen) → Goes old new input out
     → 2147483648 - new.state.header.ledger_seq < 2147483648 - old.state.header.ledger_seq
 goes_smaller old new input out g = omega (arith, goes_seq old new input out g, g.low)
-
-low_after : (at len next seq up : ℕ) → at ≤ (seq + 1) * 2 ^ 64 → len ≤ 2 ^ 64 → next ≡ at + len → up ≡ seq + 1
-    → next ≤ (up + 1) * 2 ^ 64
-low_after at len next seq up h k e f = omega arith
 
 pub goes_low : (old new : RunPosition) (input out : Seen) → Goes old new input out
     → old.at ≤ (old.state.header.ledger_seq + 1) * 2 ^ 64 → new.at ≤ (new.state.header.ledger_seq + 1) * 2 ^ 64

@@ -2,6 +2,7 @@
 use Rattle.std.specs.Prelude.{◌≡◌, ℕ, ◌+◌, ◌<◌, ◌≤◌, List, [], ◌++◌, length, take, Option, Some, None, IfSome, Ok}
 use Rattle.std.specs.Prelude.{Err, ◌⊎◌}
 use Rattle.std.specs.Io.KnownBytes.{IsAtEnd}
+use Rattle.reports.specs.Ends.{Wrote}
 use Rattle.stored_outcome.specs.run_streams.Seen.{Seen, Failed, Gave, Received, ReceivedPrefix}
 use Rattle.record_stream.specs.declared.piece.PieceFault.{PieceFault}
 use Rattle.record_stream.specs.declared.piece.PieceFault.TheVariants as fault
@@ -17,21 +18,6 @@ use Rattle.stored_outcome.specs.run_outcome.Statuses.{IsRecordsEnd}
 use Rattle.stored_outcome.specs.run_outcome.Lines.{end_line, refused_line}
 use Rattle.stored_outcome.specs.run_outcome.Outcome.{framed, max_record_len, lines_of, IsRun, AreComplete, IsRunPrefix}
 use Rattle.stored_outcome.specs.run_outcome.Run.{Answered}
-
--- ---- writing
-
--- a text was written entirely, or a prefix of it where the sink failed, or nothing where memory was refused
-abbrev pub Wrote : (out : Seen) (text : List ℕ) (entire end : Status) → Type 0
-Wrote out text entire end =
-    ((end ≡ entire) × Received out text)
-    ⊎ ((end ≡ status.WriteFault) × Failed out × ReceivedPrefix out text)
-    ⊎ ((end ≡ status.NoMemory) × Received out [])
-
--- the same, where nothing is said of an end at which the text is complete
-abbrev pub WroteOn : (out : Seen) (text : List ℕ) → Option Status → Type 0
-WroteOn out text None = Received out text
-WroteOn out text (Some end) =
-    ((end ≡ status.WriteFault) × Failed out × ReceivedPrefix out text) ⊎ ((end ≡ status.NoMemory) × Received out [])
 
 -- ---- the rest of a run
 

@@ -1,5 +1,5 @@
 -- What the parts of `init` yield.
-use Rattle.std.specs.Prelude.{◌≡◌, ℕ, ◌<◌, List, [], ◌++◌, length, ◌⊎◌, IfSome, Ok, Err}
+use Rattle.std.specs.Prelude.{◌≡◌, ℕ, List, ◌⊎◌, IfSome, Ok, Err}
 use Rattle.std.specs.Io.KnownBytes.{IsAtEnd}
 use Rattle.ledger_types.specs.declared.ids.Hash.{Hash}
 use Rattle.xdr_header.specs.declared.image.StartImage.{StartImage}
@@ -17,24 +17,6 @@ use Rattle.stored_outcome.specs.Init.{IsBadInput, MomentsOfInit, Stored}
 use Rattle.replay.specs.Starting.{IsJudgedSo}
 
 -- ---- the input
-
--- nothing followed what is ahead, and nothing is ahead
-pub record IsEnded (ahead : List ℕ) (input : Seen) : Type 0 where
-  pub none : ahead ≡ []
-  pub gave : Gave input []
-  pub ended : IsAtEnd input.now
-
--- some bytes follow an image
-pub record IsFollowed (ahead : List ℕ) (input : Seen) : Type 0 where
-  pub more : List ℕ
-  pub gave : Gave input more
-  pub some : 0 < length (ahead ++ more)
-
--- why it isn't known that an input ends after an image, which ends at an offset
-abbrev pub IsUnended : (at : ℕ) → (ahead : List ℕ) → Seen → (end : Status) → Type 0
-IsUnended at ahead input (status.BadInput offset) = (offset ≡ at) × IsFollowed ahead input
-IsUnended at ahead input status.ReadFault = Failed input
-IsUnended at ahead input other = ⊥
 
 -- the entire input is this image
 pub record IsInput (image : StartImage) (input : Seen) : Type 0 where

@@ -2,7 +2,6 @@ pub mod Following
 pub mod Keeping
 pub mod Stored
 pub mod Starting
-pub mod Reporting
 pub mod ClosingAgain
 pub mod StoredRuns
 pub mod Outcomes
@@ -14,8 +13,12 @@ pub mod PossibleEvents
 pub mod LedgerEvents
 pub mod Beside
 pub mod Showing
+pub mod Asking
+pub mod PathLaws
 pub mod Sampling
 pub mod CommandLaws
+pub mod VerifyLaws
+pub mod FileLaws
 pub use Rattle.stored_outcome.specs.bucket_core
 pub use Rattle.worker_merges.specs.bucket_merge
 pub use Rattle.stored_outcome.specs.entry_sums

@@ -11,7 +11,7 @@ use Rattle.stored_outcome.specs.run_outcome.Outcome.{Outcome}
 use Rattle.worker_merges.specs.ledger_close.Answers.{FaultIs}
 use Rattle.stored_outcome.specs.sample_ledger.Samples.{Progress, HaveClosed, record_bytes}
 use Rattle.stored_outcome.specs.Sample.{IsSampled}
-use Rattle.replay.specs.Following.{Wrote}
+use Rattle.reports.specs.Ends.{Wrote}
 
 -- the first k records have closed ledgers: the state, how many transactions these have, and how many succeeded
 pub record HasReached (seed k : ℕ) (state : ClosingState) (transactions successes : ℕ) : Type 0 where

@@ -9,7 +9,7 @@ use Rattle.outside.specs.Disk.{Runs, Same}
 use Rattle.image_store.specs.Opening.{Kept, Holds}
 use Rattle.stored_outcome.specs.Opening.{Yields}
 use Rattle.stored_outcome.specs.Show.{lines_shown}
-use Rattle.replay.specs.Following.{Wrote}
+use Rattle.reports.specs.Ends.{Wrote}
 use Rattle.replay.specs.StoredRuns.{IsUnbegun, OpensNot}
 
 -- the lines of what the volume keeps

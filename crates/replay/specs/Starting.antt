@@ -1,5 +1,5 @@
 -- What the start image that an input begins with yields.
-use Rattle.std.specs.Prelude.{◌≡◌, ℕ, ◌≤◌, ◌^◌, List, [], ◌++◌, length, IfSome, Result, Ok, Err}
+use Rattle.std.specs.Prelude.{◌≡◌, ℕ, ◌≤◌, ◌^◌, List, [], ◌++◌, ◌⊎◌, length, IfSome, Result, Ok, Err}
 use Rattle.std.specs.Io.KnownBytes.{IsAtEnd}
 use Rattle.stored_outcome.specs.run_streams.Seen.{Seen, Failed, Gave, Received}
 use Rattle.ledger_types.specs.declared.ids.Hash.{Hash}
@@ -79,3 +79,10 @@ pub record StartsAt (passphrase : List ℕ) (s : ClosingState) (at : ℕ) (ahead
   pub image : StartImage
   pub cut : Cut image at ahead input
   pub judged : IsJudged (network_id_of passphrase) image (Ok s)
+
+-- why no ledger starts at the start of an input: no image was cut from it, or the image is none of a ledger
+abbrev pub IsBarred : (passphrase : List ℕ) (input : Seen) (end : Status) → Type 0
+IsBarred passphrase input end =
+    IsUncut input end
+    ⊎ ((image : StartImage) × (at : ℕ) × (ahead : List ℕ) × Cut image at ahead input
+    × IsJudgedSo (network_id_of passphrase) image (Err end))

@@ -5,36 +5,21 @@ ghost use Rattle.xdr_core.specs.Format.{IsBytes};
 ghost use Rattle.stored_outcome.specs.run_streams.Seen.{seen};
 ghost use Rattle.record_stream.specs.Measured.{record_end};
 ghost use Rattle.stored_outcome.specs.close_rules.Close.{IsClose};
-ghost use Rattle.stored_outcome.specs.run_outcome.Outcome.{framed, lines_of};
+ghost use Rattle.stored_outcome.specs.run_outcome.Outcome.{lines_of};
 ghost use Rattle.replay.specs.Following.{WroteClose, Turned, Refuses, Closes, Passes, EndsAt, Followed};
 ghost use Rattle.replay.specs.Keeping.{DiskFailed, Ready, KeptWriting, KeptClose, KeptPass, KeptTurn, KeptOn};
 
 use crate::crew::Crew;
-use crate::ends::{write_end, write_refusal};
 use crate::keeper::{KeepFault, Keeper};
 use outside::{Sink, Source, Steps, Volume, write_all};
 use record_stream::{PieceFault, RecordLength, read_piece, without_prefix};
+use reports::{prefix_record, write_end, write_refusal};
 use run_text::closed_text;
 use std::alloc::Global;
 use std::sync::ledger::Ledger as Count;
 use stored_outcome::close_rules::LAST_SEQ;
 use stored_outcome::run_outcome::Status;
 use worker_merges::ledger_close::{CloseFault, Ledger, Prepared};
-
-/// The bytes of a mark.
-const MARK_LEN: usize = 4;
-
-/// The bytes of the record after the mark at the start of a text.
-fn prefix_record(ahead: &[u8], end: usize) -> &[u8]
-    requires { record_end ahead.now ≡ Ok end }
-    ensures framed { framed result.now ≡ take end ahead.now }
-    ensures short { length result.now ≤ 16777216 }
-    ensures within { end ≤ length ahead.now }
-    ensures fits { IsBytes ahead.now }
-{
-    let (prefix, _) = ahead.split_at(end);
-    prefix.split_at(MARK_LEN).1
-}
 
 /// The lines of a close are written, and then what is due after them is done.
 fn write_close<K: Keeper, V: Volume, O: Sink>(

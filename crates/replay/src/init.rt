@@ -15,27 +15,11 @@ use hash_ids::network_id;
 use image_store::{Store, StoreFault};
 use item_list::ItemList;
 use ledger_types::Hash;
-use outside::{Failed, Source, Volume};
+use outside::{Source, Volume};
+use reports::end_input;
 use std::alloc::{AllocError, Global};
 use stored_outcome::run_outcome::Status;
 use xdr_header::StartImage;
-
-/// Sees to it that nothing follows an image, which ends at an offset. Bytes may be ahead.
-fn end_input<I: Source>(at: usize, input: &mut I, ahead: &[u8]) -> Result<(), Status>
-    ensures { MatchResult result (λ _. spec.IsEnded ahead.now (seen I.left I.faults input.old input.new))
-        (λ end. spec.IsUnended at ahead.now (seen I.left I.faults input.old input.new) end) }
-{
-    let followed = Status::BadInput { at: at as u128 };
-    if !ahead.is_empty() {
-        return Err(followed);
-    }
-    let mut byte = [0; 1];
-    match input.read(&mut byte) {
-        Ok(0) => Ok(()),
-        Ok(_) => Err(followed),
-        Err(Failed) => Err(Status::ReadFault),
-    }
-}
 
 /// Reads the input to its end, as an image.
 fn read_complete<I: Source>(alloc: Global, input: &mut I) -> Result<StartImage, Status>

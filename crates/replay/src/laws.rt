@@ -7,9 +7,15 @@ ghost use Rattle.replay.specs.PossibleEvents as possible;
 ghost use Rattle.replay.specs.LedgerEvents as ledger;
 ghost use Rattle.replay.specs.StoredLaws as stored;
 ghost use Rattle.replay.specs.CommandLaws as command;
+ghost use Rattle.replay.specs.VerifyLaws as verify;
+ghost use Rattle.replay.specs.PathLaws as query;
+ghost use Rattle.replay.specs.FileLaws as file;
 ghost use Rattle.stored_outcome.specs.run_streams.SeenVolume.{seen_volume};
+ghost use Rattle.stored_outcome.specs.run_outcome.HistoryRun.{history_file};
+ghost use Rattle.stored_outcome.specs.run_outcome.ChangesRun.{changes_file};
 
 use outside::Volume;
+use reports::answers_are_one;
 use sample_laws::samples_go_on;
 
 /// What the records after a state yield is one thing.
@@ -117,6 +123,18 @@ pub fn shows_are_answered<V: Volume>(old: &V, new: &V)
     ensures unopened { command.IsUnopenedShown (seen_volume V.reports V.disk V.faults old.now new.now) }
 {}
 
+/// What `path` answers on a volume that opens: the one answer of its ledger to the input, unless a count of faults rose
+/// or memory was refused. On one that doesn't open it answers why.
+pub fn paths_are_answered<V: Volume>(old: &V, new: &V)
+    ensures complete { query.Queries (seen_volume V.reports V.disk V.faults old.now new.now)
+        (query.IsQueryComplete (seen_volume V.reports V.disk V.faults old.now new.now)) }
+    ensures answered { query.Queries (seen_volume V.reports V.disk V.faults old.now new.now)
+        (query.IsQueryGiven (seen_volume V.reports V.disk V.faults old.now new.now)) }
+    ensures unopened { query.IsUnopenedAsked (seen_volume V.reports V.disk V.faults old.now new.now) }
+{
+    answers_are_one();
+}
+
 /// What a sample yields is one thing, and `sample` answers it unless a count of faults rose or memory was refused:
 /// all ledgers close, or the files of one would be too long.
 pub fn samples_are_answered()
@@ -127,9 +145,42 @@ pub fn samples_are_answered()
     samples_go_on();
 }
 
+/// An input of `verify` has one verdict. It is answered with its status and line, unless a count of faults rose or
+/// memory was refused.
+pub fn verdicts_are_answered<V: Volume>(old: &V, new: &V)
+    ensures one { verify.VerdictsAreOne }
+    ensures complete { verify.Verifications verify.IsVerifyComplete }
+    ensures answered { verify.Verifications verify.IsVerifyAnswered }
+    ensures complete_runs { verify.VerifyRuns (seen_volume V.reports V.disk V.faults old.now new.now)
+        verify.IsVerifyComplete }
+    ensures answered_runs { verify.VerifyRuns (seen_volume V.reports V.disk V.faults old.now new.now)
+        verify.IsVerifyAnswered }
+{}
+
 /// `catchup` after the image of a ledger writes what `run` writes of the same records on a store of it.
 pub fn catchups_agree()
     ensures { command.CatchupsAgree }
+{}
+
+// ---- files of closes
+
+/// An input has at most one outcome of `history`, and one of `changes`.
+pub fn file_outcomes_are_one()
+    ensures histories { file.FileOutcomesAreOne history_file }
+    ensures changes { file.FileOutcomesAreOne changes_file }
+{}
+
+/// What `history` answers: where no stream's count of faults rose it is the outcome of its input, with its text and its
+/// line, or an allocation failure. Each outcome is answered, but where a count rose or memory was refused.
+pub fn histories_are_answered()
+    ensures complete { file.Writings history_file (file.IsWritingComplete history_file) }
+    ensures answered { file.Writings history_file (file.IsWritingAnswered history_file) }
+{}
+
+/// The same of `changes`.
+pub fn changes_are_answered()
+    ensures complete { file.Writings changes_file (file.IsWritingComplete changes_file) }
+    ensures answered { file.Writings changes_file (file.IsWritingAnswered changes_file) }
 {}
 
 // ---- with merges beside it

@@ -7,20 +7,25 @@ mod catchup;
 mod closer;
 mod closes;
 mod crew;
-mod ends;
+mod files;
 mod init;
 mod keeper;
 pub mod laws;
 mod nowhere;
+mod path;
 mod run;
 mod sample;
 mod show;
 mod start;
 mod stored;
 mod stored_run;
+mod verify;
 
+pub use files::{do_changes, do_history};
+pub use path::do_path;
 pub use run::{
     do_catchup, do_init, do_run_alone, do_run_with, do_sample, do_show, end_without_memory,
     run_program,
 };
+pub use verify::do_verify;
 pub use worker_merges::{adopt, post_due};

@@ -17,13 +17,16 @@ ghost use Rattle.stored_outcome.specs.Program.{Ran, RanAs};
 
 use crate::beside::run_beside;
 use crate::catchup::catch_up;
-use crate::ends::{report, report_no_memory, report_usage};
+use crate::files::{changes, history};
 use crate::init::make;
+use crate::path::path;
 use crate::sample::sample;
 use crate::show::show;
 use crate::stored_run::run_stored;
+use crate::verify::verify_reported;
 use command_words::{Command, read_command};
 use outside::{Gate, Sink, Source, Steps, Volume};
+use reports::{report, report_no_memory, report_usage};
 use std::alloc::Global;
 use std::sync::Wait;
 use std::sync::ledger::Ledger as Count;
@@ -166,6 +169,10 @@ fn run_command<R: Threads + Wait + Sync, I: Source, O: Sink, E: Sink, V: Volume,
         }
         Command::Show => show_reported(alloc, out, err, vol, steps),
         Command::Sample { seed, ledgers } => sample_reported(alloc, seed, ledgers, out, err, steps),
+        Command::Verify => verify_reported(alloc, input, out, err),
+        Command::Path => path(alloc, input, out, err, vol, steps),
+        Command::History { passphrase } => history(alloc, passphrase, input, out, err, steps),
+        Command::Changes { passphrase } => changes(alloc, passphrase, input, out, err, steps),
     }
 }
 

@@ -6,13 +6,13 @@ ghost use Rattle.stored_outcome.specs.close_rules.Close.{IsClose};
 ghost use Rattle.stored_outcome.specs.run_outcome.Lines.{sample_line, success_count as success_count_of};
 ghost use Rattle.stored_outcome.specs.run_outcome.declared.status.Status.TheVariants as status;
 ghost use Rattle.stored_outcome.specs.sample_ledger.Samples.{first_state, record_bytes as bytes_of};
-ghost use Rattle.replay.specs.Following.{Wrote};
+ghost use Rattle.reports.specs.Ends.{Wrote};
 ghost use Rattle.replay.specs.Sampling.{HasReached, Advances, Samples};
 
 use crate::closes::refuse;
-use crate::ends::write_last;
 use crate::start::judge;
 use outside::{Sink, Steps};
+use reports::write_last;
 use run_text::{sample_text, success_count};
 use sample_laws::{first_states_close, samples_close};
 use std::alloc::{AllocError, Global};

@@ -9,13 +9,13 @@ ghost use Rattle.stored_outcome.specs.run_streams.SeenVolume.{seen_volume};
 ghost use Rattle.stored_outcome.specs.run_outcome.Lines.{shown_lines};
 ghost use Rattle.stored_outcome.specs.run_outcome.declared.status.Status.TheVariants as status;
 ghost use Rattle.stored_outcome.specs.StoredRun.{IsUnopenedEnd};
-ghost use Rattle.replay.specs.Following.{Wrote};
+ghost use Rattle.reports.specs.Ends.{Wrote};
 ghost use Rattle.replay.specs.Showing as spec;
 
 use crate::closer::Opened;
-use crate::ends::write_last;
 use crate::stored_run::open;
 use outside::{Sink, Steps, Volume};
+use reports::write_last;
 use run_text::shown_text;
 use std::alloc::Global;
 use std::sync::ledger::Ledger as Count;

@@ -5,7 +5,7 @@ ghost use Rattle.xdr_core.specs.Format.{IsBytes};
 ghost use Rattle.stored_outcome.specs.run_streams.Seen.{seen};
 ghost use Rattle.hash_ids.specs.Ids.{network_id_of};
 ghost use Rattle.stored_outcome.specs.run_outcome.declared.status.Status.TheVariants as status;
-ghost use Rattle.replay.specs.Starting.{Cut, IsUncut, IsUnstarted, StartsAt, IsJudgedSo};
+ghost use Rattle.replay.specs.Starting.{Cut, IsUncut, IsBarred, StartsAt, IsJudgedSo};
 
 use hash_ids::network_id;
 use outside::Source;
@@ -90,7 +90,7 @@ pub(crate) fn start<I: Source>(
     ensures { MatchResult result
         (λ started. StartsAt passphrase.now started.ledger.state started.at ahead.new.items
         (seen I.left I.faults input.old input.new))
-        (λ end. IsUnstarted passphrase.now (seen I.left I.faults input.old input.new) end) }
+        (λ end. IsBarred passphrase.now (seen I.left I.faults input.old input.new) end) }
 {
     let PrefixImage { image, at } = read_image(alloc, input, ahead)?;
     match judge(passphrase, image) {

@@ -1,5 +1,5 @@
 use Rattle.replay.proofs.Prelude.{seen, Appends-nil}
-use Rattle.replay.proofs.Starts.{caught_up}
+use Rattle.replay.proofs.Starts.{barred_unstarted, caught_up}
 use Rattle.replay.proofs.catchup.catch_up.Goals as goal
 
 pub returns-in-Ok : goal.returns-in-Ok
@@ -12,5 +12,6 @@ returns-in-Ok g c =
 
 pub returns : goal.returns
 returns g c =
-    c.in-Err.ensures (seen g.O.Sink.taken g.O.Sink.faults c.args.out.now c.args.out.now)
+    barred_unstarted c.args.passphrase.now (seen g.I.Source.left g.I.Source.faults c.args.input.now c.start.new.input)
+    c.in-Err.end c.in-Err.ensures (seen g.O.Sink.taken g.O.Sink.faults c.args.out.now c.args.out.now)
     (Appends-nil (g.O.Sink.taken c.args.out.now))

@@ -1,9 +1,10 @@
 use Rattle.replay.proofs.Prelude.{◌≡◌, [], List, ℕ, subst, arith, Appends-nil, Consumes-nil, Seen, seen, Disk}
 use Rattle.replay.proofs.Prelude.{ClosingState, OpensTo, Followed, DiskFailed, KeptOn}
 use Rattle.stored_outcome.specs.run_outcome.declared.status.Status.TheVariants as status
-use Rattle.replay.proofs.Turning.{nothing_followed, volume_failed, followed_later, rose_before}
+use Rattle.replay.proofs.Turning.{nothing_followed, volume_failed, followed_later}
 use Rattle.replay.proofs.Keeping.{nothing_kept, kept_rolled}
 use Rattle.replay.proofs.closer.follow_with.Goals as goal
+use Rattle.reports.proofs.Streams.{rose_before}
 
 pub returns-in-Err-DiskFault-clause-followed : goal.returns-in-Err-DiskFault-clause-followed
 returns-in-Err-DiskFault-clause-followed g c =

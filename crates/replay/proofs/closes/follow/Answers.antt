@@ -1,7 +1,8 @@
 use Rattle.replay.proofs.Prelude.{arith, refl, Disk}
-use Rattle.replay.proofs.Turning.{gone, goes_low, goes_smaller, rose_before}
+use Rattle.replay.proofs.Turning.{gone, goes_low, goes_smaller}
 use Rattle.replay.proofs.Keeping.{gone_on}
 use Rattle.replay.proofs.closes.follow.Goals as goal
+use Rattle.reports.proofs.Streams.{rose_before}
 
 pub returns-in-Some-clause-followed : goal.returns-in-Some-clause-followed
 returns-in-Some-clause-followed g c =

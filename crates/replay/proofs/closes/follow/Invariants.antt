@@ -1,7 +1,7 @@
 use Rattle.replay.proofs.Prelude.{ℕ, ◌+◌, ◌*◌, ◌-◌, ◌^◌, ◌≤◌, List, Option, seen, Status, Followed, Ready, DiskFailed}
-use Rattle.replay.proofs.Turning.{over}
 use Rattle.replay.proofs.Keeping.{CarriesKept}
 use Rattle.replay.proofs.closes.follow.Given as goal
+use Rattle.reports.proofs.Streams.{over}
 
 -- whatever the run yields from here, it yielded from its start
 abbrev pub invariant-loop-end : goal.invariant-loop-end

@@ -1,9 +1,10 @@
 use Rattle.replay.proofs.Prelude.{◌≡◌, ◌∙◌, ℕ, List, Ok, sym, subst, inl, inr, arith, rules, Appends-nil, Seen, seen}
 use Rattle.replay.proofs.Prelude.{ClosingState, PreparedClose, IsClose, lines_of, Disk, WroteClose, DiskFailed}
 use Rattle.replay.proofs.Prelude.{KeptWriting}
-use Rattle.replay.proofs.Turning.{closed_written, rose_before}
+use Rattle.replay.proofs.Turning.{closed_written}
 use Rattle.replay.proofs.Keeping.{keep_failed, kept_written, unkept_nothing}
 use Rattle.replay.proofs.closes.take_close.Goals as goal
+use Rattle.reports.proofs.Streams.{rose_before}
 
 pub keep-requires-clause-ready : goal.keep-requires-clause-ready
 keep-requires-clause-ready g c st te = (

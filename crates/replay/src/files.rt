@@ -1,0 +1,111 @@
+//! The commands `history` and `changes`, which write a file of the closes of the records after a start image.
+
+ghost use Rattle.std.specs.Prelude.{◌≡◌};
+ghost use Rattle.stored_outcome.specs.run_streams.Seen.{seen};
+ghost use Rattle.stored_outcome.specs.run_outcome.FileRun.{DidWriteFile};
+ghost use Rattle.stored_outcome.specs.run_outcome.HistoryRun.{history_file};
+ghost use Rattle.stored_outcome.specs.run_outcome.ChangesRun.{changes_file};
+ghost use Rattle.stored_outcome.specs.run_outcome.Statuses.{status_code};
+ghost use Rattle.stored_outcome.specs.run_outcome.declared.status.Status.{Status};
+
+use crate::start::{Started, start};
+use outside::{Sink, Source, Steps};
+use reports::{report, write_changes, write_history};
+use std::alloc::Global;
+use std::sync::ledger::Ledger as Count;
+use stored_outcome::run_outcome::Status;
+
+/// Runs `history`, with its line on standard error.
+pub(crate) fn history<I: Source, O: Sink, E: Sink, L: Count>(
+    alloc: Global,
+    passphrase: &str,
+    input: &mut I,
+    out: &mut O,
+    err: &mut E,
+    steps: &mut Steps<L>,
+) -> Status
+    ensures { DidWriteFile history_file passphrase.now (seen I.left I.faults input.old input.new)
+        (seen O.taken O.faults out.old out.new) (seen E.taken E.faults err.old err.new) result }
+{
+    let mut ahead = Vec::new(alloc);
+    match start(alloc, passphrase, input, &mut ahead) {
+        Ok(Started { mut ledger, at }) => {
+            write_history(
+                alloc,
+                &mut ledger,
+                at as u128,
+                input,
+                &mut ahead,
+                out,
+                err,
+                steps,
+            )
+        }
+        Err(end) => report(alloc, end, err),
+    }
+}
+
+/// Runs `changes`, with its line on standard error.
+pub(crate) fn changes<I: Source, O: Sink, E: Sink, L: Count>(
+    alloc: Global,
+    passphrase: &str,
+    input: &mut I,
+    out: &mut O,
+    err: &mut E,
+    steps: &mut Steps<L>,
+) -> Status
+    ensures { DidWriteFile changes_file passphrase.now (seen I.left I.faults input.old input.new)
+        (seen O.taken O.faults out.old out.new) (seen E.taken E.faults err.old err.new) result }
+{
+    let mut ahead = Vec::new(alloc);
+    match start(alloc, passphrase, input, &mut ahead) {
+        Ok(Started { mut ledger, at }) => {
+            write_changes(
+                alloc,
+                &mut ledger,
+                at as u128,
+                input,
+                &mut ahead,
+                out,
+                err,
+                steps,
+            )
+        }
+        Err(end) => report(alloc, end, err),
+    }
+}
+
+/// Runs `history` on the network with this passphrase: it closes a ledger in memory for each record after a start
+/// image, and at the end of the input writes the three files of an archive. It answers the exit status of the process.
+pub fn do_history<I: Source, O: Sink, E: Sink, L: Count>(
+    alloc: Global,
+    network: &str,
+    input: &mut I,
+    out: &mut O,
+    err: &mut E,
+    steps: &mut Steps<L>,
+) -> u8
+    ensures { (end : Status) × ((result ≡ status_code end)
+        × DidWriteFile history_file network.now (seen I.left I.faults input.old input.new)
+        (seen O.taken O.faults out.old out.new) (seen E.taken E.faults err.old err.new) end) }
+{
+    history(alloc, network, input, out, err, steps).code()
+}
+
+/// Runs `changes` on the network with this passphrase: it closes a ledger in memory for each record after a start
+/// image, and at the end of the input writes what each close changed of the entries. It answers the exit status of the
+/// process.
+pub fn do_changes<I: Source, O: Sink, E: Sink, L: Count>(
+    alloc: Global,
+    network: &str,
+    input: &mut I,
+    out: &mut O,
+    err: &mut E,
+    steps: &mut Steps<L>,
+) -> u8
+    ensures { (end : Status) × ((result ≡ status_code end)
+        × DidWriteFile changes_file network.now (seen I.left I.faults input.old input.new)
+        (seen O.taken O.faults out.old out.new) (seen E.taken E.faults err.old err.new) end) }
+{
+    changes(alloc, network, input, out, err, steps).code()
+}

@@ -33,7 +33,7 @@ def cases_by_command() -> collections.Counter:
     for name in names():
         words = read_case(name).words
         word = words[0].decode(errors="replace") if words else ""
-        counts[word if word in ("catchup", "init", "run", "show", "sample") else "other words"] += 1
+        counts[word if word in ("catchup", "init", "path", "run", "show", "sample") else "other words"] += 1
     return counts
 
 

@@ -13,12 +13,12 @@ from typing import Any, Dict, List, NamedTuple, Tuple
 from harness import TESTS
 
 sys.path.insert(0, os.path.join(TESTS, "models"))
+import archive_model as archive  # noqa: E402
 import ledger_model as model  # noqa: E402
-from entry_model import HEADER, RECORD, VALUE, many, marked, sha, u32, u64  # noqa: E402
+from entry_model import HEADER, RECORD, many, marked, sha, u32  # noqa: E402
 
 CHECKPOINT = 64
 FOLDERS = ("ledger", "transactions", "results")
-NO_EXT = u32(0)
 
 
 class Closed(NamedTuple):
@@ -32,11 +32,9 @@ class Closed(NamedTuple):
 
     def values(self) -> Tuple[bytes, bytes, bytes]:
         """The values of the three streams; no bytes where a stream has none of this ledger."""
-        header = marked(sha(self.header) + self.header + NO_EXT)
-        if self.set is None or self.set[32:] == u32(0):
-            return header, b"", b""
-        seq = u32(self.seq)
-        return header, marked(seq + self.set + NO_EXT), marked(seq + self.results + NO_EXT)
+        if self.set is None:
+            return marked(sha(self.header) + self.header + u32(0)), b"", b""
+        return archive.records_of(self.seq, self.header, self.set, self.results)
 
 
 class Made(NamedTuple):
@@ -46,12 +44,6 @@ class Made(NamedTuple):
     ledgers: List[Closed]
     output: str
     buckets: Dict[int, Tuple[List[model.Bucket], List[model.Bucket]]]
-
-
-def set_bytes(record: bytes) -> bytes:
-    """The set of a record, which is between its number and its value."""
-    value = VALUE.write(model.read_entire(RECORD, record)["value"])
-    return record[4:-len(value)]
 
 
 def next_buckets(levels: model.Levels) -> List[model.Bucket]:
@@ -72,7 +64,7 @@ def closed(passphrase: bytes, data: bytes) -> Made:
             break
         record = text.take(model.take_mark(text, 16777216))
         lines.append(ledger.close(record))
-        ledgers.append(Closed(seq + 1, HEADER.write(ledger.header), set_bytes(record), many(ledger.results)))
+        ledgers.append(Closed(seq + 1, HEADER.write(ledger.header), archive.set_bytes(model.read_entire(RECORD, record)), many(ledger.results)))
     lines.append(f"end {ledger.header['seq']} {ledger.hash.hex()}\n")
     return Made(ledgers, "".join(lines), buckets)
 
@@ -81,8 +73,7 @@ def history_of(made: Made) -> bytes:
     """The file of all three streams, of the ledgers after that of the image."""
     first, *rest = made.ledgers
     streams = [b"".join(parts) for parts in zip(*(ledger.values() for ledger in rest))] or [b""] * 3
-    start = b"SLH1" + sha(first.header) + u32(first.seq + 1)
-    return start + b"".join(u64(len(stream)) + stream for stream in streams)
+    return archive.history_text(archive.MAGIC + sha(first.header) + u32(first.seq + 1), *streams)
 
 
 def write_packed(folder: str, category: str, name: str, data: bytes) -> None:

@@ -27,6 +27,7 @@ from typing import Callable, List, Tuple
 
 import adopting
 import applies
+import archives
 import beside
 import bridge
 import bridge_archive
@@ -91,7 +92,7 @@ def built(name: str, words: List[str]) -> str:
 
 def jobs_of(program: Program) -> List[Job]:
     """What is to be tried of a program, longest first."""
-    modules = (beside, stops, store_bytes, locks, adopting, hostile, words)
+    modules = (beside, archives, stops, store_bytes, locks, adopting, hostile, words)
     parts = [(module.check, (program, part)) for module in modules for part in module.PARTS]
     parts += [(bridge_made.check_program, (program, part)) for part in bridge_made.PARTS]
     return parts + [(cases.check, (program, name)) for name in cases.names()]

@@ -30,7 +30,8 @@ def content(path):
 
 def read_apart(folder):
     """The words of a run, its input, what it must yield, and the files of the volume before and after it."""
-    out, err, status = (content(f"{folder}/expected_{kind}").decode() for kind in ("out", "err", "status"))
+    out = content(f"{folder}/expected_out")
+    err, status = (content(f"{folder}/expected_{kind}").decode() for kind in ("err", "status"))
     before, after = ([content(f"{folder}/{when}/{name}") for name in FILES] for when in ("before", "after"))
     if not os.path.isdir(f"{folder}/after"):
         after = before

@@ -244,7 +244,7 @@ def encoded(words, data, yielded, before, after):
     """The file of a case: a head of lines, the bytes that it counts, and the input."""
     out, err, status = yielded
     files = [(f"{when} {name}", file) for when, files in (("before", before), ("after", after)) for name, file in zip(FILES, files) if file]
-    parts = [("output", out.encode()), *files]
+    parts = [("output", out if isinstance(out, bytes) else out.encode()), *files]
     head = [f"word {word}" for word in words] + [f"status {status}"] + [f"error {line}" for line in err.splitlines()]
     head += [f"{kind} {len(part)}" for kind, part in parts]
     return "\n".join([*head, "", ""]).encode() + b"".join(part for _, part in parts) + data

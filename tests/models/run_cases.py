@@ -1,10 +1,11 @@
 #!/usr/bin/env python3
-"""Writes cases of the program's commands, with what it has to answer: of accounts and data, of assets, of stores, and of samples; and
-the image and records in examples/. The cases whose names begin with `apart` came from elsewhere
-(`apart_cases.py`), and stay as they are.
+"""Writes cases of the program's commands, with what it has to answer: of accounts and data, of assets, of stores, of
+samples, and of queries; and the image and records in examples/. The cases whose names begin with `apart` came from
+elsewhere (`apart_cases.py`), and stay as they are.
 
-What is expected comes from `ledger_model.py` and `store_model.py`, and each case says its end by hand as well, so that the models are held
-to it. Prints the name of each case. Python 3.9 or later and its standard library.
+What is expected comes from `ledger_model.py`, `store_model.py` and `path_query_model.py`, and each case says its end by
+hand as well, so that the models are held to it. Prints the name of each case. Python 3.9 or later and its standard
+library.
 
     run_cases.py [FOLDER]      FOLDER has cases from elsewhere, a folder each: they are compared alone
 """
@@ -15,10 +16,14 @@ import sys
 from ledger_model import DEAD, GREATEST, HEADER, INIT, LIVE, NO_HASH, catchup, i32, marked, sha, u32, u64
 import set_cases as sets
 from apart_cases import read_apart
+from archive_cases import PARTS as ARCHIVE_PARTS
+from archive_model import changes, history, verify
 from asset_cases import PARTS as ASSET_PARTS
 from offer_cases import PARTS as OFFER_PARTS
 from path_bound_cases import PARTS as PATH_BOUND_PARTS
 from path_cases import PARTS as PATH_PARTS
+from path_query_cases import PARTS as PATH_QUERY_PARTS
+from path_query_model import path
 from pool_cases import PARTS as POOL_PARTS
 from pool_image_cases import PARTS as POOL_IMAGE_PARTS
 from protocol_19_cases import PARTS as PROTOCOL_19_PARTS
@@ -421,13 +426,20 @@ def example():
 
 # ---- files
 
+# the commands that take an image and records in memory alone
+INPUTS = {"catchup": catchup, "history": history, "changes": changes}
+
 
 def yielded_by(words, data, before):
     """What a command yields by the model, and the files after it."""
-    if words[0] == "catchup":
-        return catchup(words[2], data), before
+    if words[0] in INPUTS:
+        return INPUTS[words[0]](words[-1].split("=", 1)[-1], data), before
+    if words[0] == "verify":
+        return verify(data), before
     if words[0] == "show":
         return show(before), before
+    if words[0] == "path":
+        return path(data, before), before
     return init(words[2], data, before) if words[0] == "init" else run(data, before)
 
 
@@ -436,9 +448,11 @@ def compare(folder):
     wrong = 0
     for name in sorted(os.listdir(folder)):
         words, data, yielded, before, after = read_apart(f"{folder}/{name}")
-        if words[0] not in ("catchup", "init", "run", "show"):
+        if words[0] not in (*INPUTS, "verify", "init", "path", "run", "show"):
             print(f"{name}: passed by, since the model has no {words[0]}")
-        elif yielded_by(words, data, before) != (yielded, after):
+            continue
+        (out, *ends), left = yielded_by(words, data, before)
+        if ((out if isinstance(out, bytes) else out.encode(), *ends), left) != (yielded, after):
             print(f"{name}: the model answers otherwise")
             wrong = 1
     sys.exit(wrong)
@@ -450,6 +464,8 @@ PARTS = [
     ("assets ", ASSET_PARTS), ("trades ", OFFER_PARTS), ("pools ", POOL_IMAGE_PARTS + SHARE_LINE_PARTS + POOL_PARTS + REVOCATION_PARTS),
     ("paths ", PATH_PARTS + PATH_BOUND_PARTS), ("stores ", STORE_PARTS), ("samples ", SAMPLE_PARTS),
     ("sets ", TABLE_PARTS), ("protocol 19 ", PROTOCOL_19_PARTS), ("vouches ", VOUCHED_PARTS),
+    ("archives ", ARCHIVE_PARTS),
+    ("queries ", PATH_QUERY_PARTS),
 ]
 
 

@@ -1,9 +1,8 @@
 -- An operation that isn't ACCOUNT_MERGE keeps each account that existed.
-use Rattle.account_laws.proofs.Existing.{Keeps, existing, keeps_itself}
+use Rattle.account_laws.proofs.Existing.{existing, keeps_itself}
 use Rattle.account_laws.specs.Existing.{OperationsKeepAccounts, is_merge}
 use Rattle.close_laws.proofs.SetsKeep.{Admits}
 use Rattle.close_laws.specs.entry_map.EntryMap.{EntryMap}
-use Rattle.close_laws.specs.op_laws.AnyOperation.{any_operation}
 use Rattle.close_laws.specs.op_types.declared.operation.OperationBody.{OperationBody}
 use Rattle.close_laws.specs.sponsor_rules.declared.context.Ctx.{Ctx}
 use Rattle.op_laws.proofs.AccountsAsked.{AccountAsked, IsOfAccounts, of_accounts}

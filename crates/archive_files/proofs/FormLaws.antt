@@ -7,7 +7,7 @@ use Rattle.xdr_core.proofs.Grammar.{prefix_free}
 use Rattle.xdr_entries.proofs.BasicLaws.{hash_laws}
 use Rattle.archive_files.specs.Added.{max_file_len}
 use Rattle.archive_files.specs.Form.{stated_fields, stated_history}
-use Rattle.archive_files.proofs.FileLaws.{file_laws}
+use Rattle.xdr_header.proofs.ImageLaws.{file_laws}
 
 pub stated_history_laws : Laws stated_history
 unfolding stated_history

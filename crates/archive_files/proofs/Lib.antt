@@ -2,7 +2,6 @@ mod Prelude
 pub mod Ascending
 pub mod Closes
 pub mod EmptySet
-pub mod FileLaws
 pub mod FormLaws
 pub mod Judged
 pub mod Lengths

@@ -11,14 +11,12 @@ ghost use Rattle.archive_files.specs.Records.{max_record_len};
 
 use crate::adding::{AddCloseFault, MAX_FILE_LEN};
 use crate::codec::{write_header_entry, write_results_entry, write_set_entry};
+use crate::records::MAX_RECORD_LEN;
 use ledger_types::LedgerHeader;
 use op_types::{TransactionResultSet, TransactionSet};
 use std::alloc::{AllocError, Global};
 use value_hashes::ledger_hash;
 use xdr_core::Builder;
-
-/// The greatest length that a record mark can state.
-const MAX_RECORD_LEN: u32 = 2_147_483_647;
 
 /// The records that a close has in the three files. One without transactions has none in the second and the third.
 #[derive(Drop)]

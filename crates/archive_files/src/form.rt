@@ -3,7 +3,6 @@
 ghost use Rattle.std.specs.Prelude.{◌≡◌, IfOk};
 ghost use Rattle.xdr_core.specs.Position.{Reads, ReadsBy, itself};
 ghost use Rattle.xdr_core.specs.ReadFault.{cause_of};
-ghost use Rattle.xdr_header.specs.Image.{file};
 ghost use Rattle.archive_files.specs.Form.{stated_history};
 ghost use Rattle.archive_files.specs.Stated as spec;
 
@@ -12,8 +11,9 @@ use crate::history::History;
 use item_list::ItemList;
 use ledger_types::Hash;
 use std::alloc::{AllocError, Global};
-use xdr_core::{Cursor, ReadFault, XdrFault, XdrKind};
+use xdr_core::{Cursor, ReadFault, XdrFault};
 use xdr_entries::read_hash;
+use xdr_header::read_file;
 
 /// What `history` writes: the hash of the ledger before a chain and the number of its first ledger, and the files.
 #[derive(Drop)]
@@ -36,21 +36,6 @@ pub(crate) struct Pieces<'a> {
     pub(crate) results: &'a [u8],
 }
 
-/// Reads at most `max` bytes after their number, a u64, without padding. A number above `max` is `TooLong`.
-#[tactic(auto, unfolding(xdr_header::specs::Image::file))]
-fn read_file<'a>(max: usize, cursor: &mut Cursor<'a>) -> Result<&'a [u8], XdrFault>
-    ensures { ReadsBy (λ bytes. bytes.now) itself result cursor.old cursor.new ((file max).read cursor.old) }
-{
-    let mut ahead = cursor.fork();
-    let len = ahead.u64()?;
-    if len > max as u64 {
-        return Err(cursor.fault(XdrKind::TooLong));
-    }
-    let bytes = ahead.bytes(len as usize)?;
-    *cursor = ahead;
-    Ok(bytes)
-}
-
 /// Reads a history and copies none of it. A failure leaves the cursor as it was.
 #[tactic(auto, unfolding(crate::specs::Form::stated_history))]
 fn read_pieces<'a>(cursor: &mut Cursor<'a>) -> Result<Pieces<'a>, XdrFault>
@@ -60,9 +45,9 @@ fn read_pieces<'a>(cursor: &mut Cursor<'a>) -> Result<Pieces<'a>, XdrFault>
     ahead.tag(MAGIC)?;
     let before = read_hash(&mut ahead)?;
     let first = ahead.u32()?;
-    let headers = read_file(MAX_FILE_LEN, &mut ahead)?;
-    let sets = read_file(MAX_FILE_LEN, &mut ahead)?;
-    let results = read_file(MAX_FILE_LEN, &mut ahead)?;
+    let headers = read_file(MAX_FILE_LEN as u64, &mut ahead)?;
+    let sets = read_file(MAX_FILE_LEN as u64, &mut ahead)?;
+    let results = read_file(MAX_FILE_LEN as u64, &mut ahead)?;
     *cursor = ahead;
     Ok(Pieces {
         before,

@@ -12,7 +12,7 @@ use std::alloc::Global;
 use xdr_core::{Cursor, ReadFault};
 
 /// The greatest length that a record mark can state.
-const MAX_RECORD_LEN: u32 = 2_147_483_647;
+pub(crate) const MAX_RECORD_LEN: u32 = 2_147_483_647;
 
 /// Whether no byte is ahead.
 pub(crate) fn is_at_end(ahead: &Cursor<'_>) -> bool

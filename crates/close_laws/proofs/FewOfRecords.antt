@@ -1,6 +1,6 @@
 -- A record has no more transactions than bytes.
 use Rattle.close_laws.proofs.Prelude.{◌≡◌, ℕ, ◌≤◌, List, [], ◌∷◌, ◌++◌, length, Ok, Err, refl, ap, subst, arith}
-use Rattle.close_laws.proofs.Prelude.{length-append, XdrFault, IsBytes, u32, Position, Reading, start_of, ◌>>=◌}
+use Rattle.close_laws.proofs.Prelude.{length-append, XdrFault, IsBytes, Position, Reading, start_of, ◌>>=◌}
 use Rattle.close_laws.proofs.Prelude.{transaction_set, CloseRecord, stellar_value, close_record, close_record_laws}
 use Rattle.close_laws.proofs.Prelude.{ended_by, ended, record_in}
 use Rattle.close_rules.specs.xdr_header.Records.{record_head, vouches_if}

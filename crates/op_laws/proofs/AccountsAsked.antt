@@ -21,7 +21,6 @@ use Rattle.op_payment.proofs.PathSteps.{IsPathNamed}
 use Rattle.op_trust.proofs.ShareTrustSteps.{DoesTrustFit}
 use Rattle.op_types.specs.declared.operation.OperationBody.{OperationBody}
 use Rattle.op_types.specs.declared.operation_result.OperationResult.{OperationResult}
-use Rattle.sponsor_rules.proofs.Entries.{Fits}
 use Rattle.sponsor_rules.specs.declared.context.Ctx.{Ctx}
 use Rattle.std.proofs.lemmas.List.Elements.{All-cons, All-nil}
 use Rattle.std.specs.Prelude.{All, List, Option, Some, [], false, ℤ, ◌∷◌, ◌≡◌}

@@ -13,7 +13,6 @@ use Rattle.ledger_types.specs.KeyOrder.{asset_cmp}
 use Rattle.op_laws.specs.legal_rules.Holdings.{none_more, for_one, HoldsMore}
 use Rattle.ledger_types.specs.declared.asset.Asset.{Asset}
 use Rattle.ledger_types.specs.declared.asset.Asset.TheVariants as asset
-use Rattle.ledger_types.specs.declared.entry.LedgerEntryBody.TheVariants as body
 use Rattle.ledger_types.specs.declared.key.LedgerKey.TheVariants as key
 use Rattle.op_laws.specs.legal_rules.Supply.{held, lumens_of, lumens_in}
 use Rattle.op_laws.proofs.legal_rules_proofs.Holdings.{no_lumens_more, account_holds, holds_itself, holds_as}

@@ -1,7 +1,7 @@
 -- The laws of the formats of files and images.
 use Rattle.xdr_header.proofs.Prelude as prelude
-use prelude.{◌≡◌, ℕ, zero, suc, ◌+◌, ◌-◌, ◌^◌, ◌<◌, ◌≤◌, pos, Bool, true, false, cond, ltb, List, [], ◌∷◌, ◌++◌, length}
-use prelude.{Ok, Err, refl, sym, ap, subst, ◌∙◌, append_assoc, arith, append-nil, XdrFault, Position, Reading, followed}
+use prelude.{◌≡◌, ℕ, zero, suc, ◌+◌, ◌-◌, ◌^◌, ◌<◌, ◌≤◌, pos, Bool, true, false, cond, ltb, List, [], ◌++◌, length}
+use prelude.{Ok, Err, refl, sym, ap, subst, ◌∙◌, append_assoc, arith, XdrFault, Position, Reading, followed}
 use prelude.{end_of, fault_at, ◌>>=◌, u64, bytes_at, Laws, mark_laws, ◌&◌, struct_laws, marked_laws, tag_laws, file_at}
 use prelude.{file, prefix_fields, files, image_fields, start_image}
 use Rattle.xdr_core.proofs.DependentLaws.{dependent_laws, known_laws, partial_laws}
@@ -68,7 +68,7 @@ file_locates max =
 
 -- ---- the laws
 
-file_laws : (max : ℕ) → max < 2 ^ 64 → Laws (file max)
+pub file_laws : (max : ℕ) → max < 2 ^ 64 → Laws (file max)
 file_laws max lt = record { lawful = file_lawful max lt; locates = file_locates max }
 
 files_laws : (n left : ℕ) → left < 2 ^ 64 → Laws (files n left)

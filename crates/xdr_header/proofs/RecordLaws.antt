@@ -1,5 +1,5 @@
 -- The laws of the formats of vouches and records.
-use Rattle.xdr_header.proofs.Prelude.{◌≡◌, ℕ, pos, Bool, true, false, refl, arith, Laws, written, u32_laws, ◌&◌}
+use Rattle.xdr_header.proofs.Prelude.{ℕ, Bool, refl, arith, Laws, written, u32_laws, ◌&◌}
 use Rattle.xdr_header.proofs.Prelude.{entire_laws, list_laws, arm_laws, found, union_laws}
 use Rattle.xdr_core.proofs.DependentLaws.{choice_laws, dependent_laws, known_laws, partial_laws}
 use Rattle.xdr_core.proofs.FormatLaws.{fixed_laws}
@@ -9,7 +9,7 @@ use Rattle.xdr_tx.proofs.TransactionLaws.{transaction_set_laws}
 use Rattle.op_types.specs.declared.vouch.Vouch.{Vouch}
 use Rattle.op_types.specs.declared.vouch.Vouch.TheVariants as vouching
 use Rattle.xdr_header.specs.Records.{close_record, form_2, head_fields, number_after, record_fields, record_head}
-use Rattle.xdr_header.specs.Records.{record_rest, vouches_fields, vouches_if}
+use Rattle.xdr_header.specs.Records.{vouches_fields, vouches_if}
 use Rattle.xdr_header.specs.Vouches.{vouch, vouch_arms, vouch_hash, vouch_part, vouch_payload}
 use Rattle.xdr_header.proofs.HeaderLaws.{stellar_value_laws}
 use Rattle.std.specs.Prelude.{nat_eq}

@@ -19,7 +19,7 @@ pub use header::{
 };
 pub use image::StartImage;
 pub use record::CloseRecord;
-pub use starting::{read_start_image, write_start_image};
+pub use starting::{read_file, read_start_image, write_start_image};
 pub use value::{
     read_ledger_close_value_signature, read_ledger_upgrade, read_stellar_value,
     write_ledger_close_value_signature, write_ledger_upgrade, write_stellar_value,

@@ -22,9 +22,9 @@ const FILES: u32 = 22;
 /// The most bytes of the files together.
 const MAX_FILES_LEN: u64 = 536870912;
 
-/// Reads at most `max` bytes after their number, with no padding. A number above `max` is `TooLong`.
+/// Reads at most `max` bytes after their number, a u64, with no padding. A number above `max` is `TooLong`.
 #[tactic(auto, unfolding(crate::specs::Image::file))]
-fn read_file<'a>(max: u64, cursor: &mut Cursor<'a>) -> Result<&'a [u8], XdrFault>
+pub fn read_file<'a>(max: u64, cursor: &mut Cursor<'a>) -> Result<&'a [u8], XdrFault>
     ensures reads { ReadsBy (λ bytes. bytes.now) itself result cursor.old cursor.new ((spec.file max).read cursor.old) }
     ensures fits { IfOk result (λ bytes. length bytes.now ≤ max) }
 {

@@ -5,13 +5,11 @@ ghost use Rattle.outside.specs.Streams.{GaveAll};
 ghost use Rattle.run_outcome.specs.run_streams.Seen.{seen};
 ghost use Rattle.run_outcome.specs.PathRun.{max_query_len, path_lines, query_context, unanswered_line};
 ghost use Rattle.run_outcome.specs.declared.status.Status.TheVariants as status;
-ghost use Rattle.tx_apply.specs.legal_rules.Headers.{header_flags};
 ghost use Rattle.reports.specs.Answering as spec;
 ghost use Rattle.reports.specs.Ends.{Wrote};
 
 use crate::ends::write_last;
 use entry_map::Entries;
-use item_list::ItemList;
 use ledger_close::Ledger;
 use ledger_types::LedgerHeader;
 use outside::{ReadAllFault, Sink, Source, read_all};
@@ -23,6 +21,7 @@ use run_outcome::Status;
 use run_text::{path_text, unanswered_text};
 use sponsor_rules::Ctx;
 use std::alloc::Global;
+use tx_apply::ctx_of;
 use xdr_core::{Cursor, ReadFault, XdrFault};
 
 /// The most bytes of a query.
@@ -83,33 +82,18 @@ fn read_query<I: Source>(alloc: Global, input: &mut I) -> Result<PathQuery, Stat
     }
 }
 
-/// Which operations of pools are disabled (CAP-0038).
-fn flags_of(header: &LedgerHeader) -> u32
-    ensures { result ≡ header_flags header.now }
-{
-    match &header.ext {
-        None => 0,
-        Some(ext) => ext.flags,
-    }
-}
-
 /// The context of a query under a ledger's header. Its source is that of the operation.
 fn context_of(alloc: Global, header: &LedgerHeader, query: &PathQuery) -> Ctx
     ensures { result ≡ query_context header.now query.now }
 {
-    Ctx {
-        seq: header.ledger_seq,
-        version: header.ledger_version,
-        base_reserve: header.base_reserve,
-        flags: flags_of(header),
-        close_time: header.scp_value.close_time,
-        tx_source: query.source,
-        tx_seq: 0,
-        op_index: 0,
-        op_source: query.source,
-        id_pool: header.id_pool,
-        sponsorships: ItemList::new(alloc),
-    }
+    ctx_of(
+        alloc,
+        header,
+        header.scp_value.close_time,
+        header.id_pool,
+        query.source,
+        0,
+    )
 }
 
 /// The cheapest path in the entries of a ledger.

@@ -19,8 +19,8 @@ fn header_flags(header: &LedgerHeader) -> u32
     }
 }
 
-/// The context of a transaction before its operations. It takes no memory.
-pub(crate) fn ctx_of(
+/// The context of a transaction before its operations, under the header of the ledger before. It takes no memory.
+pub fn ctx_of(
     alloc: Global,
     header: &LedgerHeader,
     close_time: u64,

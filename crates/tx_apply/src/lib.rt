@@ -22,6 +22,7 @@ mod signing;
 mod success;
 mod transaction;
 
+pub use contexts::ctx_of;
 pub use fault::SetFault;
 pub use laws::{
     fees_conserve, operations_are_lawful, sets_conserve, transactions_conserve, turns_conserve,

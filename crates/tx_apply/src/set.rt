@@ -147,8 +147,8 @@ fn apply_in_order<B: Base>(
 }
 
 /// Applies a set to the entries of the ledger before: all fees are taken first, and then the transactions are applied,
-/// both in the order of application (LedgerManagerImpl in stellar-core), which is `order`. A set that
-/// is refused leaves the entries. The ids of offers fit, since a set has few transactions.
+/// both in the order of application (LedgerManagerImpl in stellar-core), which is `order`. A set that is refused leaves
+/// the entries. The ids of offers fit, since a set has few transactions.
 pub fn apply_set_in_order<B: Base>(
     entries: &mut Entries<'_, B>,
     setting: &Setting<'_>,

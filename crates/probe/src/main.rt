@@ -1,16 +1,18 @@
 //! Runs cases: small ledgers to which an operation or a change of sponsorship is applied, maps of entries, levels of
-//! buckets, streams, and single calls. Prints a line a step, and `BAD` after its name where it can't be taken.
+//! buckets, streams, lists of changes, and single calls. Prints a line a step, and `BAD` after its name where it can't be
+//! taken.
 //!
 //! The program's one argument is the file of the cases. Blank lines part them. The first line of a case says what it is
-//! of: `ledgers`, `maps` with the files of levels, `levels`, `streams` or `calls`. Each further line is the name of a
-//! step and its arguments, as XDR in hexadecimal. The scripts in `tests/probe` at the top write the cases, and what is
-//! expected of them.
+//! of: `ledgers`, `maps` with the files of levels, `levels`, `streams`, `calls` or `changes`. Each further line is the
+//! name of a step and its arguments, as XDR in hexadecimal. The scripts in `tests/probe` at the top write the cases, and
+//! what is expected of them.
 #![tactic(auto)]
 
 mod answers;
 mod board;
 mod calls;
 mod case;
+mod change_lists;
 mod levels;
 mod machine;
 mod maps;
@@ -24,6 +26,7 @@ mod streams;
 use board::run_levels;
 use calls::Calls;
 use case::Ledgers;
+use change_lists::run_changes;
 use machine::take_all;
 use maps::run_maps;
 use output::Output;
@@ -40,6 +43,7 @@ fn run(alloc: Global, head: &str, lines: &str, output: &mut Output) -> Option<()
         b"levels" => run_levels(alloc, lines, output),
         b"streams" => Some(take_all(alloc, &mut Streams, lines, output)),
         b"calls" => Some(take_all(alloc, &mut Calls, lines, output)),
+        b"changes" => run_changes(alloc, lines, output),
         _ => None,
     }
 }

@@ -63,7 +63,7 @@ fn write_gone(output: &mut Output, keys: &[LedgerKey]) {
 }
 
 /// Writes what changed.
-fn write_changes(output: &mut Output, batch: &Batch) {
+pub fn write_changes(output: &mut Output, batch: &Batch) {
     write_entries(output, "new", batch.init.as_slice());
     write_entries(output, "changed", batch.live.as_slice());
     write_gone(output, batch.dead.as_slice());

@@ -1,5 +1,5 @@
-//! What the scripts in bench/ hold to a bound and the program `ledger` can't show apart: books of offers, and a store
-//! in a directory.
+//! What the scripts in bench/ hold to a bound and the program `ledger` can't show apart: books of offers, a store in a
+//! directory, what `verify` has to compute, and the hops of paths.
 //!
 //!     speed book COUNT              makes a map of so many offers, a thousand of them changed; walks their book for a
 //!                                   million answers
@@ -20,14 +20,28 @@
 //!
 //! These print how many stores were made, how many records were appended, or how many there were, and the sum of the
 //! hashes' first bytes.
+//!
+//!     speed history FILE            decodes the files of a history, and hashes each envelope twice and the rest once
+//!
+//! This prints the sum of the hashes' first bytes.
+//!
+//!     speed paths IMAGE QUERY       opens the ledger of an image, and makes the hops of each path of a query
+//!     speed paths-base IMAGE QUERY  opens the ledger alone
+//!
+//! These print how many paths were tried, how many of them had a cost, and the least cost.
 #![tactic(auto)]
 
+mod histories;
 mod order_books;
+mod paths;
 mod stores;
 
+use histories::pass_history;
 use order_books::{Seen, pass_book, pass_head, pass_index};
 use outside::LockFiles;
-use std::{env, io};
+use paths::{Served, pass_paths};
+use std::fs::Files;
+use std::{env, fs, io};
 use stores::pass_store;
 
 /// Runs a command on books of so many offers, where there is such a command.
@@ -79,6 +93,36 @@ fn report_store<R: LockFiles + Print + AllocGlobal>(
     }
 }
 
+/// Passes the history in a file, and prints what it answers.
+fn report_history<R: Files + Print + AllocGlobal>(rt: &R, path: &str) -> io::Result<()> {
+    let text = fs::read(rt, path)?;
+    match pass_history(rt.alloc(), text.as_slice()) {
+        Some(sum) => println!(rt; "history: sum {sum}"),
+        None => println!(rt; "history: nothing was done"),
+    }
+}
+
+/// Tries the paths of the query in a file over the ledger of the image in another one, and prints what was seen.
+fn report_paths<R: Files + Print + AllocGlobal>(
+    rt: &R,
+    command: &str,
+    image: &str,
+    query: &str,
+) -> io::Result<()> {
+    let image = fs::read(rt, image)?;
+    let query = fs::read(rt, query)?;
+    let calls = command == "paths";
+    let Some(seen) = pass_paths(rt.alloc(), image.as_slice(), query.as_slice(), calls) else {
+        return println!(rt; "{command}: nothing was done");
+    };
+    let Served {
+        tried,
+        served,
+        least,
+    } = seen;
+    println!(rt; "{command}: {tried} paths, {served} served, least {least}")
+}
+
 /// Runs a command on two words.
 fn report_two<R: LockFiles + Print + AllocGlobal>(
     rt: &R,
@@ -88,6 +132,7 @@ fn report_two<R: LockFiles + Print + AllocGlobal>(
 ) -> io::Result<()> {
     match command.as_bytes() {
         b"index" | b"index-base" => report_seen(rt, command, run_index(rt, command, first, second)),
+        b"paths" | b"paths-base" => report_paths(rt, command, first, second),
         _ => report_store(rt, command, first, second),
     }
 }
@@ -100,6 +145,7 @@ fn main(rt: HostRuntime) -> io::Result<()> {
     };
     match words.next() {
         Some(other) => report_two(&rt, command.as_str(), word.as_str(), other.as_str()),
+        None if command.as_str() == "history" => report_history(&rt, word.as_str()),
         None => report_seen(
             &rt,
             command.as_str(),

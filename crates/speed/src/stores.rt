@@ -32,7 +32,7 @@ fn image_text(alloc: Global, count: usize) -> Result<Vec<u8>, AllocError> {
 }
 
 /// The image with this encoding.
-fn image_in(alloc: Global, text: &[u8]) -> Option<StartImage>
+pub fn image_in(alloc: Global, text: &[u8]) -> Option<StartImage>
     ensures { IfSome result start_image.within }
 {
     reading_and_encoding_agree();

@@ -16,7 +16,7 @@ from fuzz_parts import Parts, cut
 from fuzz_repair import Extent, body_of, repair
 from fuzz_stores import stored
 from fuzz_trials import Trial, with_data, with_file
-from stellar_xdr import CLOSE_RECORD
+from stellar_xdr import RECORD
 from xdr import Value, XdrFault, read_entire, write
 
 # ways to repair what is left of an input; the last leaves it as it is
@@ -54,7 +54,7 @@ def view_of(trial: Trial) -> Optional[View]:
 
 
 def without_parts(record: Value) -> Iterator[Value]:
-    """A record without one of its transactions, operations or upgrades."""
+    """A record without one of its transactions, operations, upgrades or vouches."""
     count = len(record["txSet"]["txs"])
     for index in reversed(range(count)):
         new = copy.deepcopy(record)
@@ -66,10 +66,11 @@ def without_parts(record: Value) -> Iterator[Value]:
             new = copy.deepcopy(record)
             del body_of(new["txSet"]["txs"][index])[0]["tx"]["operations"][place]
             yield new
-    for index in range(len(record["scpValue"]["upgrades"])):
-        new = copy.deepcopy(record)
-        del new["scpValue"]["upgrades"][index]
-        yield new
+    for listed in (lambda value: value["scpValue"]["upgrades"], lambda value: value.get("vouches", [])):
+        for index in range(len(listed(record))):
+            new = copy.deepcopy(record)
+            del listed(new)[index]
+            yield new
 
 
 def smaller_records(parts: Parts) -> Iterator[Parts]:
@@ -79,12 +80,12 @@ def smaller_records(parts: Parts) -> Iterator[Parts]:
         yield new
     for index, record in enumerate(parts.records):
         try:
-            value = read_entire(CLOSE_RECORD, record)
+            value = read_entire(RECORD, record)
         except XdrFault:
             continue
         for less in without_parts(value):
             new = parts.copy()
-            new.records[index] = write(CLOSE_RECORD, less)
+            new.records[index] = write(RECORD, less)
             yield new
 
 

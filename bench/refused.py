@@ -42,7 +42,7 @@ from case_tools import predicate  # noqa: E402
 from closes import CATCHUP, image_of  # noqa: E402
 from fuzz_answers import Late, Limit  # noqa: E402
 from fuzz_bytes import with_bytes  # noqa: E402
-from fuzz_making import made  # noqa: E402
+from fuzz_making import by_kind, made  # noqa: E402
 from fuzz_parts import image_length  # noqa: E402
 from fuzz_trials import NO_FILES, Four, Trial, case_seeds, seeds, with_file  # noqa: E402
 from harness import FILES, lay_out  # noqa: E402
@@ -101,7 +101,7 @@ class Meter:
 
 
 def mutated(seed: int, runs: int) -> Iterator[Tuple[str, Trial]]:
-    listed = seeds()
+    listed = by_kind(seeds())
     for number in range(runs):
         try:
             with Limit(TO_MAKE):

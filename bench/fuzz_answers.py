@@ -234,6 +234,9 @@ def detail(what: str, one: Answer, other: Answer) -> str:
     """How an answer begins to differ from another: its outcome, and the first line that is another, without hashes."""
     if what not in ("out", "err"):
         return one.outcome
+    if b"\0" in getattr(one, what) + getattr(other, what):
+        # a history or changes, which are no lines
+        return f"{one.outcome}: {'more' if len(getattr(one, what)) > len(getattr(other, what)) else 'other'} bytes"
     lines = (getattr(answer, what).splitlines() for answer in (one, other))
     pairs = itertools.zip_longest(*lines, fillvalue=b"nothing")
     words = next((mine for mine, others in pairs if mine != others), b"").split()

@@ -10,7 +10,7 @@ from __future__ import annotations
 
 from dataclasses import dataclass
 from random import Random
-from typing import Callable, Dict, FrozenSet, Iterator, List, Optional, Tuple
+from typing import AbstractSet, Callable, Dict, FrozenSet, Iterator, List, Optional, Tuple
 
 import fuzz_paths  # noqa: F401
 import archive_model as archive
@@ -151,7 +151,7 @@ def drop_strays(history: History, numbers: List[int]) -> None:
         history.set_values(kind, [by_number[number] for number in sorted(by_number)])
 
 
-def repair_chain(history: History, headers: List[Value], repairs: Repairs) -> None:
+def repair_chain(history: History, headers: List[Value], repairs: AbstractSet[str]) -> None:
     """Repairs what headers say of their sets, of their results and of the header before."""
     sets = {value["ledgerSeq"]: value["txSet"] for value in history.values(SETS)}
     results = {value["ledgerSeq"]: value["txResultSet"] for value in history.values(RESULTS)}
@@ -172,7 +172,7 @@ def repair_chain(history: History, headers: List[Value], repairs: Repairs) -> No
         last = value["hash"]
 
 
-def repair_history(history: History, repairs: Repairs) -> None:
+def repair_history(history: History, repairs: AbstractSet[str]) -> None:
     """Repairs a history in place, where its records read."""
     try:
         headers = history.values(HEADERS)

@@ -77,7 +77,7 @@ def numbers(words: argparse.Namespace) -> Iterator[int]:
 def write(folder: str, trial: Trial, by: Dict[str, Optional[List[Answer]]]) -> None:
     """Writes a trial and what each answered into a folder."""
     os.makedirs(folder, exist_ok=True)
-    contents = {"input": trial.data, "query": trial.query or b"", **{name: data for name, data in zip(FILES, trial.files)}}
+    contents = {"input": trial.data, "query": trial.query or b"", **dict(zip(FILES, trial.files))}
     for name, data in contents.items():
         if data:
             with open(f"{folder}/{name}", "wb") as file:

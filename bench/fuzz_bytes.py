@@ -1,4 +1,4 @@
-"""Mutations of bytes: flipped, cut, inserted, repeated, exchanged, set to the bounds of numbers, and predicates deepened.
+"""Mutations of bytes: flipped, cut, inserted, repeated, exchanged, set to bounds of numbers, and predicates deepened.
 
 Each takes the source of chance and the bytes, of which there is at least one. Python 3.9 or later and its standard
 library.

@@ -1,5 +1,5 @@
-"""Queries of `path` and their mutations: what is sent and what arrives, amounts and candidates are those of the ledger in
-a store. Stores that are made of an input.
+"""Queries of `path` and their mutations: what is sent and what arrives, amounts and candidates are those of the ledger
+in a store. Stores that are made of an input.
 
 Python 3.9 or later and its standard library.
 """

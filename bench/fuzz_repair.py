@@ -3,7 +3,8 @@
 The hash of the levels is that of the files; each record's set follows the header before it, as the Python ledger of the
 tests closes it, and its value has the set's hash. Where it is asked for, a record is of the next ledger and of a later
 time, and transactions have the next numbers of their sources, enough fee, and the signatures whose pre-images are
-known, or that are vouched for in a record of form 2. Records after one that is refused stay as they are. Python 3.9 or later and its standard library.
+known, or that are vouched for in a record of form 2. Records after one that is refused stay as they are. Python 3.9 or
+later and its standard library.
 """
 
 from __future__ import annotations

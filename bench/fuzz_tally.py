@@ -1,5 +1,5 @@
-"""What runs of the fuzzer reached, as lines: commands by their outcomes, with the faults of histories and of queries that
-never came, and results of transactions and operations.
+"""What runs of the fuzzer reached, as lines: commands by their outcomes, with the faults of histories and of queries
+that never came, and results of transactions and operations.
 
 Python 3.9 or later and its standard library.
 """
@@ -108,7 +108,8 @@ class Tally:
         yield from rows(self.outcomes)
         for word, possible in FAULTS.items():
             never = [name for name in possible if not self.outcomes[f"{word:8}{name}"]]
-            yield f"{word}: {len(possible) - len(never)} of {len(possible)} answers; never: {', '.join(never) or 'none'}"
+            came = len(possible) - len(never)
+            yield f"{word}: {came} of {len(possible)} answers; never: {', '.join(never) or 'none'}"
         yield f"{self.closing} runs closed ledgers, {self.closed} of them, and {self.rolls} went on to another epoch"
         yield "transactions by their ends, with those in stores:"
         yield from rows(self.ends)

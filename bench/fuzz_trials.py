@@ -31,10 +31,10 @@ SAMPLES, SAMPLE_LEDGERS = (1, 2, 3), 3
 class Trial(NamedTuple):
     """Commands over the files of a store.
 
-    `kind` is `catchup` (of `data`), `history` (`history` and `changes` of `data`, `verify` of the history), `verify` (of
-    `data`), `made` (`init` of the image that `data` begins with, `run` of the rest, `show`), `stored` (`run` of `data`
-    over `files`, `show`) or `path` (of `query`, over `files`). After the runs of the two before it `query` is asked too,
-    if there is one. With `by_bytes` the program reads one byte at a time.
+    `kind` is `catchup` (of `data`), `history` (`history` and `changes` of `data`, `verify` of the history), `verify`
+    (of `data`), `made` (`init` of the image that `data` begins with, `run` of the rest, `show`), `stored` (`run` of
+    `data` over `files`, `show`) or `path` (of `query`, over `files`). After the runs of the two before it `query` is
+    asked too, if there is one. With `by_bytes` the program reads one byte at a time.
     """
 
     kind: str

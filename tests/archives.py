@@ -92,7 +92,8 @@ def failed_reads(program: Program, tally: Tally, words: List[bytes], given: byte
     for faults in (*long, *short):
         ran = program.run(words, given, **faults)
         is_so = (ran.status, ran.out, ran.err) == (4, b"", b"read fault\n")
-        tally.check(f"`{words[0].decode()}` writes nothing where a read fails", is_so, (faults, ran.status, ran.out, ran.err))
+        detail = (faults, ran.status, ran.out, ran.err)
+        tally.check(f"`{words[0].decode()}` writes nothing where a read fails", is_so, detail)
 
 
 def failed_writes(program: Program, tally: Tally, words: List[bytes], given: bytes, entire: bytes, status: int) -> None:
@@ -102,7 +103,8 @@ def failed_writes(program: Program, tally: Tally, words: List[bytes], given: byt
         for faults in ({"OUT_ROOM": room}, {"OUT_FAIL": room + 1, "ONE_BYTE": 1}):
             ran = program.run(words, given, **faults)
             is_so = (ran.status, ran.out, ran.err) == (5, entire[:room], b"write fault\n")
-            tally.check(f"`{word}` ends with a write fault where the output has no room", is_so, (faults, ran.status, ran.err))
+            detail = (faults, ran.status, ran.err)
+            tally.check(f"`{word}` ends with a write fault where the output has no room", is_so, detail)
     ran = program.run(words, given, ERR_ROOM=0)
     is_so = (ran.status, ran.out) == (status, entire)
     tally.check(f"`{word}` needs no room on standard error where all is done", is_so, (ran.status, ran.err))

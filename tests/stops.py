@@ -347,7 +347,7 @@ def check_long_writes(story: Story, tally: Tally) -> None:
 
 
 def check_other_writes(story: Story, tally: Tally) -> None:
-    """The same of `show`, `sample` and `path` at one byte a write, and where the output takes so many bytes and then none."""
+    """The same of `show`, `sample` and `path` at one byte a write, and where the output takes so many and then none."""
     for name in (*OTHERS, QUERY):
         case = read_case(name)
         for length in range(len(case.output)):
@@ -359,7 +359,7 @@ def check_other_writes(story: Story, tally: Tally) -> None:
 
 
 def check_queries(story: Story, tally: Tally) -> None:
-    """Fails each read of a query, of one byte or of all that is asked for: nothing is printed, and the store stays as it was."""
+    """Fails each read of a query, of one byte or of all that is asked for: nothing is printed, and the store stays."""
     case = read_case(QUERY)
     for faults in ({"ONE_BYTE": 1}, {}):
         for number in range(1, ENOUGH):
@@ -370,7 +370,8 @@ def check_queries(story: Story, tally: Tally) -> None:
             tally.check("path: a read that fails leaves the store as it was", holds, (number, ended(ran)))
         # the last read finds the end of the input
         expected = len(case.given) + 2 if faults else 3
-        tally.check("path: each read up to the end of the query fails", number == expected and ran.out == case.output, number)
+        is_whole = number == expected and ran.out == case.output
+        tally.check("path: each read up to the end of the query fails", is_whole, number)
 
 
 def check_ends(story: Story, tally: Tally) -> None:

@@ -4,7 +4,8 @@ it, vouches for what the keys signed, and compares an output with it.
 
 An archive has no vouches: without new ones the records close to other headers, and with those that `vouch` finds to the
 same ones. The built program does the same: its `history` writes what the archive is packed from, and its `catchup`
-closes what was taken out of the archive to equal headers. It needs the Python package cryptography; bridge_vouch.py says where that is missing.
+closes what was taken out of the archive to equal headers. It needs the Python package cryptography; bridge_vouch.py says
+where that is missing.
 """
 
 from __future__ import annotations
@@ -158,7 +159,8 @@ def take_out(tally: Tally, folder: str, made: made_archive.Made) -> None:
 
 def try_whole(tally: Tally, folder: str) -> None:
     closing = closed_by(folder)
-    tally.check("transactions succeed by a secret and by a key, and don't by another key", set(closing.codes) == {0, -6, -10}, closing.codes)
+    codes = set(closing.codes)
+    tally.check("transactions succeed by a secret and by a key, and don't by another key", codes == {0, -6, -10}, codes)
     take_out(tally, folder, made_archive.closed(NETWORK.encode(), closing.input))
     image, records = bridge.bytes_at(f"{folder}/image"), bridge.bytes_at(f"{folder}/records")
     is_same = records == b"".join(map(marked, closing.plain[IMAGE_AT - 1:LAST - 2]))

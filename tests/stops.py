@@ -329,7 +329,7 @@ def check_writes(story: Story, tally: Tally) -> None:
 
 
 def check_long_writes(story: Story, tally: Tally) -> None:
-    """Fails each write of an output whose writes take what they are given, also those of `show`, `sample` and `path`."""
+    """Fails each write of an output whose writes take what they are given, those of `show`, `sample` and `path` too."""
     text = story.text(0, CLOSES)
     listed = [(command.name, command.words, command.begun, command.given, text) for command in commands(story)[1:]]
     for name in (*OTHERS, QUERY):

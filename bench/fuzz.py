@@ -7,10 +7,11 @@ PROGRAM and OTHER are built programs, crates/ledger/out/ledger and crates/ledger
 repository. Each run takes an image with records, or a store with records, of the tests or made by the tools, and
 mutates it: its bytes, its values by the table of types of tools/, or its sequences of records and items. After most
 mutations hashes are repaired, and sums of the image, the numbers of ledgers and transactions, and signatures
-(`fuzz_repair.py`), so that a mutation gets past the first tests. Then `catchup`, or `init`, `run` and `show`, or `run`
-and `show` over the mutated store, are run by each program and by the Python ledger, and statuses, outputs, standard
-errors and files of the store compared. A tenth of the runs are at one byte a read, half of those over stores beside
-workers.
+(`fuzz_repair.py`), so that a mutation gets past the first tests. Then `catchup`, or `history`, `changes` and `verify`,
+or `init`, `run` and `show`, or `run` and `show` over the mutated store, are run by each program and by the Python
+ledger, and statuses, outputs, standard errors and files of the store compared. Histories for `verify` are mutated
+likewise (`fuzz_history.py`), and queries of `path` with the stores that they are for (`fuzz_queries.py`). A tenth of
+the runs are at one byte a read, half of those that close into stores beside workers.
 
 A run is made from the seed (0 where none is given) and its number alone: `--seed S --only NUMBER` makes it again.
 Where answers differ, a command is ended by a signal or takes longer than 10 seconds, or the Python ledger fails, a line
@@ -33,10 +34,10 @@ from typing import Counter as Count
 from typing import Dict, Iterator, List, Optional
 
 from fuzz_answers import Answer, Difference, Late, Limit, Program, WatchedLedger, difference, model_answers
-from fuzz_making import Made, made
+from fuzz_making import Made, Seeds, by_kind, made
 from fuzz_reduce import reduced
 from fuzz_tally import Tally, first_said
-from fuzz_trials import Seed, Trial, seeds
+from fuzz_trials import Trial, seeds
 from harness import FILES
 
 MODEL = "the Python ledger"
@@ -76,10 +77,11 @@ def numbers(words: argparse.Namespace) -> Iterator[int]:
 def write(folder: str, trial: Trial, by: Dict[str, Optional[List[Answer]]]) -> None:
     """Writes a trial and what each answered into a folder."""
     os.makedirs(folder, exist_ok=True)
-    contents = {"input": trial.data, **{name: data for name, data in zip(FILES, trial.files) if data}}
+    contents = {"input": trial.data, "query": trial.query or b"", **dict(zip(FILES, trial.files))}
     for name, data in contents.items():
-        with open(f"{folder}/{name}", "wb") as file:
-            file.write(data)
+        if data:
+            with open(f"{folder}/{name}", "wb") as file:
+                file.write(data)
     with open(f"{folder}/answers", "wb") as file:
         way = f"{trial.workers} workers, one byte a read: {trial.by_bytes}, passphrase {trial.passphrase!r}"
         file.write(f"{trial.kind}, {way}\n".encode())
@@ -101,7 +103,7 @@ class Fuzzer:
     def __init__(self, words: argparse.Namespace) -> None:
         self.seed, self.keep = words.seed, words.keep
         self.programs = [Program(path) for path in words.programs]
-        self.seeds: List[Seed] = seeds()
+        self.seeds: Seeds = by_kind(seeds())
         self.tally, self.late = Tally(), 0
         self.found: Count[Difference] = Counter()
 

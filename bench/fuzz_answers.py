@@ -13,12 +13,14 @@ import subprocess
 import tempfile
 import threading
 import traceback
-from typing import Dict, List, NamedTuple, Optional, Tuple
+from typing import Dict, List, NamedTuple, Optional, Sequence, Tuple
 
 import fuzz_paths  # noqa: F401
+import archive_model as archive
 import ledger_model as model
+import path_query_model
 import store_model
-from fuzz_trials import Four, Step, Trial, four_of
+from fuzz_trials import Four, Trial, four_of
 from harness import FILES, files_in, lay_out
 
 # more seconds than any command here takes
@@ -43,8 +45,9 @@ class Answer(NamedTuple):
     def outcome(self) -> str:
         """The status, with the fault's name where there is one, and without hashes, offsets and numbers of ledgers."""
         if self.status == "3":
-            words = (self.out.splitlines() or [b""])[-1].decode(errors="replace").split()
-            return f"3 refused {' '.join(words[2:3] + words[4:] if words[2:3] == ['BadXdr'] else words[2:3])}"
+            return f"3 refused {refusal((self.out or self.err).decode(errors='replace'))}"
+        if self.status == "0" and self.out[:5] in (b"cost ", b"none\n"):
+            return f"0 {'none' if self.out[:4] == b'none' else 'cost, by %d assets' % self.out.count(b'via ')}"
         if self.status == "10":
             return f"10 {self.err.decode(errors='replace').strip()}"
         if self.status == "7":
@@ -56,6 +59,19 @@ class Answer(NamedTuple):
 
 class Late(BaseException):
     """The Python ledger took too long. Nothing that takes an Exception for an answer catches it."""
+
+
+def refusal(text: str) -> str:
+    """What a line says that refuses a record, a history or a query: the fault's name, and what tells it from others."""
+    words = (text.splitlines() or [""])[-1].split()[1:]
+    if words and words[0].isdigit():
+        # a record, of which the ledger stands first
+        return " ".join(words[1:2] + words[3:] if words[1:2] == ["BadXdr"] else words[1:2])
+    if words[:1] == ["Xdr"]:
+        return " ".join(words[:2] + words[3:])
+    if words[:1] == ["BadQuery"]:
+        return f"BadQuery {min(int(words[1]), 3)}"
+    return " ".join(words[:2] if words[:1] == ["Stray"] else words[:1])
 
 
 def too_late(*_: object) -> None:
@@ -129,7 +145,8 @@ class Program:
         try:
             lay_out(folder, dict(zip(FILES, trial.files)))
             for words, data in trial.steps:
-                ended = ran([os.fsencode(self.path), *words], data, folder, trial.by_bytes)
+                given = found[0].out if data is None else data
+                ended = ran([os.fsencode(self.path), *words], given, folder, trial.by_bytes)
                 found.append(Answer(*ended, four_of(files_in(folder))))
                 if not found[-1].ended:
                     break
@@ -155,18 +172,23 @@ class WatchedLedger(model.Ledger):
 model.Ledger = WatchedLedger
 
 
-def by_model(step: Step, files: Four) -> Answer:
+def by_model(words: List[bytes], data: bytes, files: Four) -> Answer:
     """What the Python ledger answers to a command."""
-    words, data = step
-    if words[0] == b"catchup":
-        (out, err, status), after = model.catchup(words[2].decode(), data), files
-    elif words[0] == b"init":
+    after: Sequence[bytes] = files
+    if words[0] == b"init":
         (out, err, status), after = store_model.init(words[2].decode(), data, files)
     elif words[0] == b"run":
         (out, err, status), after = store_model.run(data, files)
+    elif words[0] == b"show":
+        out, err, status = store_model.show(files)
+    elif words[0] == b"path":
+        out, err, status = path_query_model.path(data, files)
+    elif words[0] == b"verify":
+        out, err, status = archive.verify(data)
     else:
-        (out, err, status), after = store_model.show(files), files
-    return Answer(str(status), out.encode(), err.encode(), tuple(after))
+        close = {b"catchup": model.catchup, b"history": archive.history, b"changes": archive.changes}[words[0]]
+        out, err, status = close(words[2].decode(), data)
+    return Answer(str(status), out if isinstance(out, bytes) else out.encode(), err.encode(), tuple(after))
 
 
 def place_of(error: BaseException) -> str:
@@ -181,8 +203,8 @@ def model_answers(trial: Trial) -> Optional[List[Answer]]:
     WatchedLedger.noted.clear()
     try:
         with Limit(LIMIT):
-            for step in trial.steps:
-                found.append(by_model(step, files))
+            for words, data in trial.steps:
+                found.append(by_model(words, found[0].out if data is None else data, files))
                 files = found[-1].files
     except Late:
         return None
@@ -212,6 +234,9 @@ def detail(what: str, one: Answer, other: Answer) -> str:
     """How an answer begins to differ from another: its outcome, and the first line that is another, without hashes."""
     if what not in ("out", "err"):
         return one.outcome
+    if b"\0" in getattr(one, what) + getattr(other, what):
+        # a history or changes, which are no lines
+        return f"{one.outcome}: {'more' if len(getattr(one, what)) > len(getattr(other, what)) else 'other'} bytes"
     lines = (getattr(answer, what).splitlines() for answer in (one, other))
     pairs = itertools.zip_longest(*lines, fillvalue=b"nothing")
     words = next((mine for mine, others in pairs if mine != others), b"").split()

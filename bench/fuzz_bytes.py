@@ -1,4 +1,4 @@
-"""Mutations of bytes: flipped, cut, inserted, repeated, exchanged, and set to the bounds of numbers.
+"""Mutations of bytes: flipped, cut, inserted, repeated, exchanged, set to bounds of numbers, and predicates deepened.
 
 Each takes the source of chance and the bytes, of which there is at least one. Python 3.9 or later and its standard
 library.
@@ -15,6 +15,8 @@ BOUNDS = (0, 1, 2, 5, 18, 20, 21, 32, 64, 100, 101, 127, 128, 255, 256, 2**31 - 
 LONG_BOUNDS = (*BOUNDS, 2**32, 2**63 - 1, 2**63, 2**64 - 1, 536870912, 536870913)
 TOP = 0x80000000
 MOST = 16777216
+# the negation of a predicate, which then follows
+NOT = bytes.fromhex("0000000300000001")
 MARKS = (0, 1, MOST, MOST + 1, TOP, TOP | 1, TOP | MOST, TOP | (MOST + 1), 2**32 - 1, 2**31 - 1)
 
 
@@ -86,8 +88,15 @@ def set_long(rng: Random, data: bytes) -> bytes:
     return with_bytes(data, at, (new % 2**64).to_bytes(8, "big"))
 
 
+def deepen(rng: Random, data: bytes) -> bytes:
+    """Some negations more before one of a predicate; other bytes where there is none."""
+    at = data.find(NOT, rng.randrange(len(data)))
+    at = data.find(NOT) if at < 0 else at
+    return data[:at] + NOT * rng.choice((1, 2, 29, 30, 31, 32, 33)) + data[at:] if at >= 0 else set_word(rng, data)
+
+
 CHANGES: Sequence[Callable[[Random, bytes], bytes]] = (
-    flip, set_byte, cut_out, cut_end, insert, append, repeat, copy_over, set_word, set_word, set_long,
+    flip, set_byte, cut_out, cut_end, insert, append, repeat, copy_over, set_word, set_word, set_long, deepen,
 )
 
 

@@ -13,7 +13,7 @@ from typing import Any, Dict, Iterator, List
 import fuzz_paths  # noqa: F401
 import entry_model as entries
 from fuzz_parts import Parts
-from stellar_xdr import CLOSE_RECORD, LEDGER_HEADER
+from stellar_xdr import LEDGER_HEADER, RECORD
 from xdr import XdrFault, read_entire, write
 
 
@@ -41,7 +41,7 @@ def of_entry(entry: Dict[str, Any], reserve: int, seq: int, closes: List[int]) -
 def times(parts: Parts) -> List[int]:
     """The close times of the image and of the records that read."""
     found = []
-    for kind, data in [(LEDGER_HEADER, parts.header[0]), *((CLOSE_RECORD, record) for record in parts.records)]:
+    for kind, data in [(LEDGER_HEADER, parts.header[0]), *((RECORD, record) for record in parts.records)]:
         try:
             found.append(read_entire(kind, data)["scpValue"]["closeTime"])
         except XdrFault:
@@ -76,7 +76,7 @@ def set_turn(rng: Random, parts: Parts) -> None:
         return
     index = rng.randrange(len(parts.records))
     try:
-        record = read_entire(CLOSE_RECORD, parts.records[index])
+        record = read_entire(RECORD, parts.records[index])
     except XdrFault:
         return
     if rng.random() < 0.3:
@@ -84,4 +84,4 @@ def set_turn(rng: Random, parts: Parts) -> None:
     else:
         before = times(Parts(parts.header, [], parts.records[:index])) or [0]
         record["scpValue"]["closeTime"] = max(0, min(2**64 - 1, before[-1] + rng.choice((-1, 0, 0, 1))))
-    parts.records[index] = write(CLOSE_RECORD, record)
+    parts.records[index] = write(RECORD, record)

@@ -7,16 +7,19 @@ from __future__ import annotations
 
 import hashlib
 from random import Random
-from typing import List, NamedTuple, Optional
+from typing import Dict, List, NamedTuple, Optional, Tuple
 
 import fuzz_bytes
 from fuzz_edges import edges, set_turn
+from fuzz_history import changed_history, history_of
 from fuzz_parts import Parts, cut, lengths
+from fuzz_queries import drawn_query, store_of
 from fuzz_repair import drawn_extent, learn, repair
 from fuzz_sequences import change_sequence
 from fuzz_stores import changed_layout, stored
-from fuzz_trials import Seed, Trial, with_data, with_file
+from fuzz_trials import NO_FILES, Seed, Trial, with_data, with_file
 from fuzz_values import Pool, exchanged, mutated
+from fuzz_vouches import change_form
 from stellar_xdr import LEDGER_HEADER
 from xdr import XdrFault, read_entire, write
 
@@ -25,6 +28,10 @@ LARGE = 30000
 # up to so many values are changed
 MOST_PIECES = 40
 LEVELS = ("bytes", "values", "sequences")
+# the kinds of trials of an input, and how often inputs, stores, histories and queries are taken
+INPUT_KINDS, WEIGHTS = ("catchup", "made", "history"), (35, 20, 25, 20)
+# seeds by their kinds
+Seeds = Dict[str, List[Seed]]
 
 
 class Made(NamedTuple):
@@ -33,6 +40,13 @@ class Made(NamedTuple):
     trial: Trial
     seed: str
     level: str
+
+
+def by_kind(listed: List[Seed]) -> Seeds:
+    found: Seeds = {}
+    for seed in listed:
+        found.setdefault(seed.kind, []).append(seed)
+    return found
 
 
 def drawn(rng: Random, seeds: List[Seed]) -> Seed:
@@ -45,7 +59,7 @@ def drawn(rng: Random, seeds: List[Seed]) -> Seed:
 
 
 def parts_of(seed: Seed) -> Optional[Parts]:
-    found = stored(seed.trial) if seed.is_store else None
+    found = stored(seed.trial) if seed.kind == "stored" else None
     return found.parts if found else cut(seed.trial.data)
 
 
@@ -106,6 +120,8 @@ def change_parts(rng: Random, parts: Parts, donor: Optional[Parts], network_id: 
                 change_sequence(rng, parts, donor)
         if level == "values" or rng.random() < 0.3:
             change_values(rng, parts, pool)
+    if rng.random() < 0.12:
+        change_form(rng, parts)
     if rng.random() < 0.15:
         change_ledger(rng, parts)
     if rng.random() < 0.07:
@@ -139,21 +155,66 @@ def store_made(rng: Random, seed: Seed, donor: Optional[Parts]) -> Made:
 
 def input_made(rng: Random, seed: Seed, donor: Optional[Parts]) -> Made:
     trial, parts = seed.trial, cut(seed.trial.data)
-    if rng.random() < 0.4:
-        trial = trial._replace(kind="made")
+    trial = trial._replace(kind=rng.choices(INPUT_KINDS, (4, 3, 3))[0])
     if parts is None or rng.random() < 0.12:
         return Made(changed_bytes(rng, trial), seed.name, "bytes, nothing repaired")
-    level = change_parts(rng, parts, donor, hashlib.sha256(trial.passphrase).digest())
+    level = change_parts(rng, parts, donor, network_id_of(trial))
     return Made(with_data(trial, parts.image + parts.stream), seed.name, level)
 
 
-def made(seeds: List[Seed], seed: int, number: int) -> Made:
+def network_id_of(trial: Trial) -> bytes:
+    return hashlib.sha256(trial.passphrase).digest()
+
+
+def history_made(rng: Random, seeds: Seeds) -> Made:
+    """A history that a case has, or that an input or a mutation of it closes."""
+    def history() -> Tuple[bytes, str]:
+        if rng.random() < 0.4:
+            chosen = rng.choice(seeds["verify"])
+            return chosen.trial.data, chosen.name
+        chosen = drawn(rng, seeds["catchup"])
+        data, parts = chosen.trial.data, cut(chosen.trial.data)
+        if parts is not None and rng.random() < 0.3:
+            change_parts(rng, parts, None, network_id_of(chosen.trial))
+            data = parts.image + parts.stream
+        return history_of(chosen.trial.passphrase, data) or b"SLH1" + bytes(60), chosen.name
+
+    data, name = history()
+    donor = history()[0] if rng.random() < 0.6 else None
+    changed, level = changed_history(rng, data, donor)
+    return Made(Trial("verify", b"", NO_FILES, changed), name, level)
+
+
+def query_made(rng: Random, seeds: Seeds) -> Made:
+    """A query, and a store or a mutation of it, which is a case of queries or made of an input."""
+    chosen = drawn(rng, seeds["path" if rng.random() < 0.5 else "catchup"])
+    trial, given = chosen.trial, chosen.trial.query or b""
+    if chosen.kind == "catchup":
+        parts = cut(trial.data)
+        if parts is not None:
+            trial = store_of(rng, trial, parts, network_id_of(trial))
+    is_closing = rng.random() < 0.25
+    level = "a store as it was"
+    if rng.random() < 0.4:
+        trial, _, level = store_made(rng, Seed(chosen.name, trial._replace(kind="stored")), None)
+    found = stored(trial)
+    query = drawn_query(rng, found.parts, given) if found else given
+    kind = "stored" if is_closing else "path"
+    return Made(trial._replace(kind=kind, query=query), chosen.name, f"query, {level}")
+
+
+def made(seeds: Seeds, seed: int, number: int) -> Made:
     """The trial of a run."""
     rng = Random(f"{seed} {number}")
-    is_store = rng.random() < 0.3
-    chosen = drawn(rng, [each for each in seeds if each.is_store == is_store])
-    donor = parts_of(drawn(rng, seeds)) if rng.random() < 0.7 else None
-    trial, name, level = (store_made if is_store else input_made)(rng, chosen, donor)
-    workers = rng.choice((0, 0, 0, 1, 2, 8)) if trial.kind != "catchup" else 0
+    way = rng.choices(("catchup", "stored", "verify", "path"), WEIGHTS)[0]
+    if way == "verify":
+        trial, name, level = history_made(rng, seeds)
+    elif way == "path":
+        trial, name, level = query_made(rng, seeds)
+    else:
+        chosen = drawn(rng, seeds[way])
+        donor = parts_of(drawn(rng, seeds["catchup"] + seeds["stored"])) if rng.random() < 0.7 else None
+        trial, name, level = (store_made if way == "stored" else input_made)(rng, chosen, donor)
+    workers = rng.choice((0, 0, 0, 1, 2, 8)) if trial.kind in ("made", "stored") else 0
     by_bytes = rng.random() < 0.1 and len(trial.data) < 20000
     return Made(trial._replace(workers=workers, by_bytes=by_bytes), name, level)

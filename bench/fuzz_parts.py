@@ -13,7 +13,7 @@ import fuzz_paths  # noqa: F401
 from image_bytes import image_bytes, marked
 from record_stream import MOST_RECORD, TOP_BIT
 from start_image import LENGTH_SIZE, LEVELS, MAGIC
-from stellar_xdr import BUCKET_ENTRY, CLOSE_RECORD, LEDGER_HEADER
+from stellar_xdr import BUCKET_ENTRY, LEDGER_HEADER, RECORD
 from xdr import Type
 
 # an offset and a size in bytes
@@ -102,7 +102,7 @@ class Parts:
 
     def record_pieces(self) -> Iterator[Piece]:
         for index in range(len(self.records)):
-            yield Piece(CLOSE_RECORD, self.records, index)
+            yield Piece(RECORD, self.records, index)
 
 
 def cut_image(data: bytes) -> Tuple[Parts, int]:

@@ -1,5 +1,5 @@
-"""Reduces a trial whose answers differ: records, transactions, operations and items of files are dropped, and then
-bytes, while it still differs in the same way.
+"""Reduces a trial whose answers differ: records, transactions, operations, items of files, records of histories and
+candidates of queries are dropped, and then bytes, while it still differs in the same way.
 
 Python 3.9 or later and its standard library.
 """
@@ -12,11 +12,13 @@ import time
 from typing import Callable, Iterator, List, NamedTuple, Optional
 
 import fuzz_paths  # noqa: F401
+from fuzz_history import REPAIRS, cut_history, repair_history
 from fuzz_parts import Parts, cut
+from fuzz_queries import QUERY
 from fuzz_repair import Extent, body_of, repair
 from fuzz_stores import stored
 from fuzz_trials import Trial, with_data, with_file
-from stellar_xdr import CLOSE_RECORD
+from stellar_xdr import RECORD
 from xdr import Value, XdrFault, read_entire, write
 
 # ways to repair what is left of an input; the last leaves it as it is
@@ -38,7 +40,7 @@ class View(NamedTuple):
 
 
 def view_of(trial: Trial) -> Optional[View]:
-    if trial.kind == "stored":
+    if trial.kind in ("stored", "path"):
         found = stored(trial)
         if found is None:
             return None
@@ -54,7 +56,7 @@ def view_of(trial: Trial) -> Optional[View]:
 
 
 def without_parts(record: Value) -> Iterator[Value]:
-    """A record without one of its transactions, operations or upgrades."""
+    """A record without one of its transactions, operations, upgrades or vouches."""
     count = len(record["txSet"]["txs"])
     for index in reversed(range(count)):
         new = copy.deepcopy(record)
@@ -66,10 +68,11 @@ def without_parts(record: Value) -> Iterator[Value]:
             new = copy.deepcopy(record)
             del body_of(new["txSet"]["txs"][index])[0]["tx"]["operations"][place]
             yield new
-    for index in range(len(record["scpValue"]["upgrades"])):
-        new = copy.deepcopy(record)
-        del new["scpValue"]["upgrades"][index]
-        yield new
+    for listed in (lambda value: value["scpValue"]["upgrades"], lambda value: value.get("vouches", [])):
+        for index in range(len(listed(record))):
+            new = copy.deepcopy(record)
+            del listed(new)[index]
+            yield new
 
 
 def smaller_records(parts: Parts) -> Iterator[Parts]:
@@ -79,12 +82,12 @@ def smaller_records(parts: Parts) -> Iterator[Parts]:
         yield new
     for index, record in enumerate(parts.records):
         try:
-            value = read_entire(CLOSE_RECORD, record)
+            value = read_entire(RECORD, record)
         except XdrFault:
             continue
         for less in without_parts(value):
             new = parts.copy()
-            new.records[index] = write(CLOSE_RECORD, less)
+            new.records[index] = write(RECORD, less)
             yield new
 
 
@@ -100,10 +103,41 @@ def smaller_files(parts: Parts) -> Iterator[Parts]:
             yield new
 
 
+def smaller_histories(data: bytes) -> Iterator[bytes]:
+    """A history without some records of a stream, half of them or one, as it is and repaired."""
+    history = cut_history(data)
+    for kind, listed in enumerate(history.streams if history else []):
+        halves = [(0, len(listed) // 2), (len(listed) // 2, len(listed))]
+        for start, end in halves + [(index, index + 1) for index in range(len(listed))]:
+            for repairs in (frozenset(REPAIRS), frozenset()):
+                new = history.copy()
+                del new.streams[kind][start:end]
+                repair_history(new, repairs)
+                yield new.data
+
+
+def smaller_queries(query: bytes) -> Iterator[bytes]:
+    """A query without one of its candidates."""
+    try:
+        value = read_entire(QUERY, query)
+    except XdrFault:
+        return
+    for index in range(len(value["candidates"])):
+        listed = value["candidates"][:index] + value["candidates"][index + 1:]
+        yield write(QUERY, {**value, "candidates": listed})
+
+
 def smaller(trial: Trial) -> Iterator[Trial]:
     """Trials with a part less than one."""
-    if trial.kind == "made":
+    if trial.kind in ("made", "history"):
         yield trial._replace(kind="catchup")
+    if trial.kind == "verify":
+        yield from (with_data(trial, data) for data in smaller_histories(trial.data))
+        return
+    if trial.query is not None:
+        if trial.kind != "path":
+            yield from (trial._replace(query=None), trial._replace(kind="path"))
+        yield from (trial._replace(query=query) for query in smaller_queries(trial.query))
     for field, plain in (("by_bytes", False), ("workers", 0)):
         if getattr(trial, field) != plain:
             yield trial._replace(**{field: plain})
@@ -134,6 +168,7 @@ def shorter(data: bytes) -> Iterator[bytes]:
 
 def shorter_trials(trial: Trial) -> Iterator[Trial]:
     yield from (with_data(trial, data) for data in shorter(trial.data))
+    yield from (trial._replace(query=query) for query in shorter(trial.query or b""))
     for index, file in enumerate(trial.files):
         yield from (with_file(trial, index, data) for data in shorter(file))
 

@@ -3,7 +3,8 @@
 The hash of the levels is that of the files; each record's set follows the header before it, as the Python ledger of the
 tests closes it, and its value has the set's hash. Where it is asked for, a record is of the next ledger and of a later
 time, and transactions have the next numbers of their sources, enough fee, and the signatures whose pre-images are
-known. Records after one that is refused stay as they are. Python 3.9 or later and its standard library.
+known, or that are vouched for in a record of form 2. Records after one that is refused stay as they are. Python 3.9 or
+later and its standard library.
 """
 
 from __future__ import annotations
@@ -11,16 +12,17 @@ from __future__ import annotations
 import hashlib
 from dataclasses import dataclass, field
 from random import Random
-from typing import Dict, List, Optional, Tuple
+from typing import Any, Dict, List, Optional, Tuple
 
 import fuzz_paths  # noqa: F401
 import ledger_model as model
 from fuzz_parts import Parts
 from fuzz_sums import repair_sums
 from fuzz_values import places
+from fuzz_vouches import Signer, repair_vouches, signer_of
 from image_bytes import NO_HASH
 from set_cases import secret_of
-from stellar_xdr import CLOSE_RECORD, SIGNATURES, TRANSACTION_ENVELOPE
+from stellar_xdr import RECORD, SIGNATURES, TRANSACTION_ENVELOPE
 from xdr import Value, XdrFault, read_entire, write
 
 
@@ -65,10 +67,10 @@ def learn(known: Dict[bytes, bytes], records: List[bytes]) -> None:
         known.update((sha256(secret_of(name)), secret_of(name)) for name in "abcdefghijklmnopqrstuvwxyz")
     for record in records:
         try:
-            root = [read_entire(CLOSE_RECORD, record)]
+            root = [read_entire(RECORD, record)]
         except XdrFault:
             continue
-        for place in places(CLOSE_RECORD, root, 0):
+        for place in places(RECORD, root, 0):
             if place.type is SIGNATURES:
                 known.update((sha256(row["signature"]), row["signature"]) for row in place.value)
 
@@ -114,32 +116,47 @@ def body_of(envelope: Value) -> Tuple[Value, bytes]:
 
 
 class Chain:
-    """The ledger that an input's records are repaired after."""
+    """The ledger that an input's records are repaired after. `vouched` are the signers that sign in a record of form 2
+    and are vouched for; in one of form 1 there are none."""
 
-    def __init__(self, ledger: "model.Ledger", extent: Extent) -> None:
-        self.ledger, self.extent = ledger, extent
+    def __init__(self, ledger: "model.Ledger", network_id: bytes, extent: Extent) -> None:
+        self.ledger, self.network_id, self.extent = ledger, network_id, extent
+        self.vouched: Optional[List[Signer]] = None
 
     def account(self, key: bytes) -> Optional[Dict]:
         entry = self.ledger.entries.get((0, key))
         return None if entry is None else entry["body"][1]
 
     def signatures(self, keys: List[bytes], types: List[str]) -> Optional[List[Value]]:
-        """Signatures by known pre-images, as many as thresholds need; None where an account has none."""
+        """Signatures by known pre-images or that are vouched for, as many as thresholds need; None where an account has
+        none."""
         rows: List[Value] = []
         for key in dict.fromkeys(keys):
             account = self.account(key)
             if account is None:
                 continue
             reached, needed = 0, max(1, *account["thresholds"][thresholds_of(types)])
-            for signer in account["signers"]:
-                arm, digest = signer["key"]
-                if arm == 2 and digest in self.extent.known and reached < needed:
-                    rows.append({"hint": digest[-4:], "signature": self.extent.known[digest]})
+            own = {"key": (0, key), "weight": account["thresholds"][0]}
+            for signer in [*account["signers"], *([own] if own["weight"] else [])]:
+                row = self.signature(signer["key"]) if reached < needed else None
+                if row is not None:
+                    rows.append(row)
                     reached += signer["weight"]
             if not reached:
                 return None
         unique = {row["signature"]: row for row in rows}
         return list(unique.values())[:20]
+
+    def signature(self, key: Tuple[int, Any]) -> Optional[Dict[str, bytes]]:
+        """The signature of a signer, if it can be made."""
+        arm, digest = key
+        if arm == 2 and digest in self.extent.known:
+            return {"hint": digest[-4:], "signature": self.extent.known[digest]}
+        signer = None if self.vouched is None else signer_of(key)
+        if self.vouched is None or signer is None:
+            return None
+        self.vouched.append(signer)
+        return signer.row
 
     def repair_envelope(self, envelope: Value, turns: Dict[bytes, int]) -> None:
         body, source = body_of(envelope)
@@ -160,17 +177,20 @@ class Chain:
 
     def repaired(self, data: bytes) -> bytes:
         """A record that follows the ledger. Raises XdrFault where it doesn't read."""
-        record, header = read_entire(CLOSE_RECORD, data), self.ledger.header
+        record, header = read_entire(RECORD, data), self.ledger.header
         if self.extent.turns:
             record["ledgerSeq"] = min(header["seq"] + 1, 2**32 - 1)
             if record["scpValue"]["closeTime"] <= header["value"]["time"]:
                 record["scpValue"]["closeTime"] = min(header["value"]["time"] + 5, 2**64 - 1)
         turns: Dict[bytes, int] = {}
+        self.vouched = [] if "vouches" in record else None
         for envelope in record["txSet"]["txs"]:
             self.repair_envelope(envelope, turns)
+        if self.vouched is not None and self.extent.signatures:
+            repair_vouches(self.network_id, record, self.vouched)
         record["txSet"]["previousLedgerHash"] = self.ledger.hash
         record["scpValue"]["txSetHash"] = set_hash(self.ledger.hash, record["txSet"]["txs"])
-        return write(CLOSE_RECORD, record)
+        return write(RECORD, record)
 
     def repair(self, records: List[bytes]) -> List[bytes]:
         made: List[bytes] = []
@@ -194,5 +214,5 @@ def repair(parts: Parts, network_id: bytes, extent: Extent) -> None:
         ledger = model.ledger_of(network_id, *model.cut_image(model.Text(parts.image)))
     except (model.Wrong, model.BadImage):
         return
-    parts.records = Chain(ledger, extent).repair(parts.records)
+    parts.records = Chain(ledger, network_id, extent).repair(parts.records)
 

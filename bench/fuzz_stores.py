@@ -14,17 +14,13 @@ from fuzz_bytes import LONG_BOUNDS, with_bytes
 from fuzz_parts import Parts, cut
 from fuzz_trials import Four, Trial, with_file
 from image_bytes import marked
-from ledger_store import EPOCH_AT, HEAD_SIZES, LENGTH_AT, NETWORK_AT, OPEN
-from store_model import image_file, journal_file
-
-# that of the stores which are made here
-HEAD_SIZE = HEAD_SIZES[1]
+from ledger_store import EPOCH_AT, HASH_AT, HEAD_SIZES, LEAST_SIZE, LENGTH_AT, NETWORK_AT, OPEN
+from store_model import epoch_of, form_of, image_file, in_format_1, is_open, journal_file
 
 
 def open_image(files: Four) -> Optional[int]:
     """The file of the image that counts."""
-    epochs = [(int.from_bytes(file[EPOCH_AT:NETWORK_AT], "big"), index)
-              for index, file in enumerate(files[:2]) if len(file) >= HEAD_SIZE and file[0] == OPEN]
+    epochs = [(epoch_of(file), index) for index, file in enumerate(files[:2]) if is_open(file)]
     return max(epochs)[1] if epochs else None
 
 
@@ -46,14 +42,14 @@ class Stored:
     def __init__(self, trial: Trial, index: int, parts: Parts) -> None:
         self.trial, self.index, image = trial, index, trial.files[index]
         self.network_id = image[NETWORK_AT:LENGTH_AT]
-        self.epoch = int.from_bytes(image[EPOCH_AT:NETWORK_AT], "big")
+        self.epoch, self.format = epoch_of(image), form_of(image)
         kept, self.rest = journal_records(trial.files[2 + index])
         self.kept, self.parts = len(kept), parts
         parts.records = kept + parts.records
 
     def joined(self, kept: int) -> Trial:
         """The store again, with so many records in the journal."""
-        image = image_file(self.epoch, self.network_id, self.parts.image)
+        image = image_file(self.epoch, self.network_id, self.parts.image, form=self.format)
         journal = journal_file(self.parts.records[:kept], self.rest)
         given = b"".join(map(marked, self.parts.records[kept:])) + self.parts.rest
         made = with_file(with_file(self.trial, self.index, image), 2 + self.index, journal)
@@ -65,16 +61,17 @@ def stored(trial: Trial) -> Optional[Stored]:
     index = open_image(trial.files)
     if index is None:
         return None
-    parts = cut(trial.files[index][HEAD_SIZE:] + trial.data)
+    image = trial.files[index]
+    parts = cut(image[HEAD_SIZES[form_of(image)]:] + trial.data)
     return None if parts is None else Stored(trial, index, parts)
 
 
 def changed_head(rng: Random, file: bytes) -> bytes:
-    """An image file with another gate, epoch, network id or length."""
+    """An image file with another gate, epoch, network id, length or hash, or of the other format."""
     if not file:
         return image_file(rng.choice((0, 1)), bytes(32), b"")
     epoch, length = (int.from_bytes(file[at:at + 8], "big") for at in (EPOCH_AT, LENGTH_AT))
-    which = rng.randrange(4)
+    which = rng.randrange(6)
     if which == 0:
         return with_bytes(file, 0, bytes([rng.choice((0, 1, 1, 2, 255))]))
     if which == 1:
@@ -82,8 +79,19 @@ def changed_head(rng: Random, file: bytes) -> bytes:
         return with_bytes(file, EPOCH_AT, (new % 2**64).to_bytes(8, "big"))
     if which == 2:
         return with_bytes(file, NETWORK_AT + rng.randrange(32), bytes([rng.randrange(256)]))
+    if which == 3:
+        return with_bytes(file, HASH_AT + rng.randrange(32), bytes([rng.randrange(256)]))
+    if which == 4:
+        return in_other_format(file)
     new = rng.choice((length + 1, length - 1, *LONG_BOUNDS))
     return with_bytes(file, LENGTH_AT, (new % 2**64).to_bytes(8, "big"))
+
+
+def in_other_format(file: bytes) -> bytes:
+    """An image file in format 1 where it is in format 2, and in format 2 where it is in format 1."""
+    if form_of(file) == 2:
+        return in_format_1(file)
+    return image_file(epoch_of(file), file[NETWORK_AT:LENGTH_AT], file[HEAD_SIZES[1]:], file[0])
 
 
 def changed_journal(rng: Random, file: bytes) -> bytes:
@@ -117,7 +125,7 @@ def changed_files(rng: Random, files: Four) -> Four:
     elif which == 2:
         new[one] = new[other]
     else:
-        new[one] = new[one][:rng.choice((0, 1, 41, HEAD_SIZE - 1, HEAD_SIZE, len(new[one]) // 2))]
+        new[one] = new[one][:rng.choice((0, 1, 41, LEAST_SIZE - 1, LEAST_SIZE, 80, 81, len(new[one]) // 2))]
     return tuple(new)
 
 

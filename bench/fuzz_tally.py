@@ -1,4 +1,5 @@
-"""What runs of the fuzzer reached, as lines: commands by their outcomes, and results of transactions and operations.
+"""What runs of the fuzzer reached, as lines: commands by their outcomes, with the faults of histories and of queries
+that never came, and results of transactions and operations.
 
 Python 3.9 or later and its standard library.
 """
@@ -18,6 +19,22 @@ from xdr import Value, XdrFault, read_entire
 
 # kinds of results that never came are listed where there are at most so many
 MOST_LISTED = 30
+
+
+# what `verify` and `path` can answer to a history and to a query that read, as `Answer.outcome` says it
+IN_ANY = ("Short", "BadEnum", "BadMark", "Trailing")
+IN_FILES = ((*IN_ANY, "Padding", "TooLong"), (*IN_ANY, "Padding", "TooLong", "BadFlag", "TooDeep"), IN_ANY)
+FAULTS = {
+    "verify": (
+        *(f"3 refused Xdr {file} {kind}" for file, kinds in enumerate(IN_FILES) for kind in kinds), "3 refused Stray 1",
+        "3 refused Stray 2", "3 refused Seq", "3 refused HeaderHash", "3 refused Link", "3 refused SetHash",
+        "3 refused ResultHash", "9 bad input", "0 done",
+    ),
+    "path": (
+        *(f"3 refused BadQuery {index}" for index in range(4)), "3 refused TooMany", "9 bad input", "0 none",
+        *(f"0 cost, by {count} assets" for count in range(3)), "11 missing",
+    ),
+}
 
 
 def names_of_results() -> List[str]:
@@ -89,9 +106,16 @@ class Tally:
             yield f"{count:8} {kind}{note}"
         yield "commands by their outcomes:"
         yield from rows(self.outcomes)
+        for word, possible in FAULTS.items():
+            never = [name for name in possible if not self.outcomes[f"{word:8}{name}"]]
+            came = len(possible) - len(never)
+            yield f"{word}: {came} of {len(possible)} answers; never: {', '.join(never) or 'none'}"
         yield f"{self.closing} runs closed ledgers, {self.closed} of them, and {self.rolls} went on to another epoch"
         yield "transactions by their ends, with those in stores:"
         yield from rows(self.ends)
+        yield from self.lines_of_results()
+
+    def lines_of_results(self) -> Iterator[str]:
         possible = names_of_results()
         never = [name for name in possible if name not in self.results]
         count = sum(self.results.values())

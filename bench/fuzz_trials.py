@@ -7,7 +7,7 @@ from __future__ import annotations
 
 import os
 from dataclasses import dataclass
-from typing import Iterator, List, NamedTuple, Tuple
+from typing import Iterator, List, NamedTuple, Optional, Tuple
 
 import fuzz_paths  # noqa: F401
 import cases
@@ -20,8 +20,8 @@ from sample_files import Sample
 # the files of a store, in the order of their names
 Four = Tuple[bytes, ...]
 NO_FILES: Four = (b"",) * len(FILES)
-# a command's words and its input
-Step = Tuple[List[bytes], bytes]
+# a command's words and its input; None is for the output of the first command
+Step = Tuple[List[bytes], Optional[bytes]]
 # the status of words that are no command
 NO_COMMAND = 2
 # a sample of so many ledgers, from each of these seeds
@@ -31,8 +31,10 @@ SAMPLES, SAMPLE_LEDGERS = (1, 2, 3), 3
 class Trial(NamedTuple):
     """Commands over the files of a store.
 
-    `kind` is `catchup` (of `data`), `made` (`init` of the image that `data` begins with, `run` of the rest, `show`) or
-    `stored` (`run` of `data` over `files`, `show`). With `by_bytes` the program reads one byte at a time.
+    `kind` is `catchup` (of `data`), `history` (`history` and `changes` of `data`, `verify` of the history), `verify`
+    (of `data`), `made` (`init` of the image that `data` begins with, `run` of the rest, `show`), `stored` (`run` of
+    `data` over `files`, `show`) or `path` (of `query`, over `files`). After the runs of the two before it `query` is
+    asked too, if there is one. With `by_bytes` the program reads one byte at a time.
     """
 
     kind: str
@@ -41,21 +43,34 @@ class Trial(NamedTuple):
     data: bytes
     workers: int = 0
     by_bytes: bool = False
+    query: Optional[bytes] = None
 
     @property
     def steps(self) -> List[Step]:
         network = [b"--network", self.passphrase]
         if self.kind == "catchup":
             return [([b"catchup", *network], self.data)]
+        if self.kind == "history":
+            words: List[List[bytes]] = [[b"history", *network], [b"changes", *network]]
+            return [*((each, self.data) for each in words), ([b"verify"], None)]
+        if self.kind == "verify":
+            return [([b"verify"], self.data)]
+        asked: List[Step] = [] if self.query is None else [([b"path"], self.query)]
+        if self.kind == "path":
+            return asked
+        return [*self.run_steps(network), ([b"show"], b""), *asked]
+
+    def run_steps(self, network: List[bytes]) -> List[Step]:
+        """A run, after the making of its store where it has none."""
         run = [b"run", *([b"--workers", b"%d" % self.workers] if self.workers else [])]
         if self.kind == "stored":
-            return [(run, self.data), ([b"show"], b"")]
+            return [(run, self.data)]
         end = image_length(self.data)
-        return [([b"init", *network], self.data[:end]), (run, self.data[end:]), ([b"show"], b"")]
+        return [([b"init", *network], self.data[:end]), (run, self.data[end:])]
 
     @property
     def size(self) -> int:
-        return len(self.data) + sum(map(len, self.files))
+        return len(self.data) + sum(map(len, self.files)) + len(self.query or b"")
 
 
 @dataclass(frozen=True)
@@ -66,8 +81,8 @@ class Seed:
     trial: Trial
 
     @property
-    def is_store(self) -> bool:
-        return self.trial.kind == "stored"
+    def kind(self) -> str:
+        return self.trial.kind
 
 
 def four_of(store: Store) -> Four:
@@ -75,17 +90,21 @@ def four_of(store: Store) -> Four:
 
 
 def case_seeds() -> Iterator[Seed]:
-    """The cases of `catchup`, `init`, `run` and `show`."""
+    """The cases of commands that have an input or a store; those of `changes` have the inputs of `history`."""
     for name in cases.names():
         case = cases.read_case(name)
         if case.status == NO_COMMAND:
             continue
         word = case.words[0] if case.words else b""
         passphrase = case.words[2] if len(case.words) > 2 else NETWORK.encode()
-        if word in (b"catchup", b"init") and case.given:
+        if word in (b"catchup", b"init", b"history") and case.given:
             yield Seed(name, Trial("catchup", passphrase, NO_FILES, case.given))
         elif word in (b"run", b"show") and case.before:
             yield Seed(name, Trial("stored", NETWORK.encode(), four_of(case.before), case.given))
+        elif word == b"verify" and case.given:
+            yield Seed(name, Trial("verify", b"", NO_FILES, case.given))
+        elif word == b"path" and case.before:
+            yield Seed(name, Trial("path", NETWORK.encode(), four_of(case.before), b"", query=case.given))
 
 
 def story_seeds() -> Iterator[Seed]:

@@ -13,8 +13,8 @@ import fuzz_paths  # noqa: F401
 from fuzz_parts import Piece
 from stellar_xdr import OPERATION, TRANSACTION_ENVELOPE
 from xdr import (
-    Array, Choice, Code, Fixed, Items, Number, Opaque, Option, Refused, Struct, Type, Value, XdrFault, read_entire,
-    write,
+    Array, Choice, Code, Fixed, Formed, Items, Number, Opaque, Option, Refused, Struct, Type, Value, XdrFault,
+    read_entire, write,
 )
 
 # numbers at which rules change: ledgers of rolls and spills, bounds of counts, and bounds of numbers
@@ -44,10 +44,17 @@ def arms_of(kind: Choice) -> Dict[Any, Tuple[Optional[str], Optional[Type]]]:
     return {name: (field, arm) for name, field, arm in kind.arms.values()}
 
 
+def form_of(kind: Formed, value: Value) -> Struct:
+    """The struct that a value of one of two forms is of."""
+    return kind.other if value.keys() == kind.other.fields.keys() else kind.plain
+
+
 def places(kind: Type, of: Any, key: Union[str, int]) -> Iterator[Place]:
     """All places of a value, from the outermost on."""
     yield Place(kind, of, key)
     value = of[key]
+    if isinstance(kind, Formed):
+        kind = form_of(kind, value)
     if isinstance(kind, Struct):
         for name, part in kind.fields.items():
             yield from places(part, value, name)
@@ -101,6 +108,8 @@ class Maker:
         seen = self.pool.drawn(self.rng, kind) if self.rng.random() < 0.7 else None
         if seen is not None:
             return seen
+        if isinstance(kind, Formed):
+            return self.made(self.rng.choice((kind.plain, kind.other)), depth)
         if isinstance(kind, Struct):
             return {name: self.made(part, depth + 1) for name, part in kind.fields.items()}
         if isinstance(kind, Choice):

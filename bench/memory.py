@@ -5,13 +5,15 @@
 
 PROGRAM is the built program, crates/ledger/out/ledger of this repository where none is given.
 
-It runs `catchup`, `init`, `run`, `run` beside one and beside two workers, and `show`, over an image and three records, those in
-examples/; `run` over a store of format 1 too, which it brings over first; and `sample`. Each runs once for each call for memory that it
-makes of the C library. A library that is loaded before that one counts the calls and refuses one of them. Each run has to answer 8,
-report `no memory`, and write a prefix of the text that the ledger in Python in tests/models gives; or, where the directory of the store
-is refused memory, 6 with `disk fault`; or it passes over the refusal, and answers 0 with all of the text. After `init`, `run` and `show`
-the store is opened again, by a `run` without input: after 8 and 0 at the last ledger whose `closed` line was written, after 6 there or
-one further on. An `init` that answered 8 has made no store, and one that answered 6 may have.
+It runs `catchup`, `init`, `run`, `run` beside one and beside two workers, `show`, `history` and `changes` over an image
+and three records, those in examples/; `run` over a store of format 1 too, which it brings over first; `verify` of that
+history; `path` over a store of offers; and `sample`. Each runs once for each call for memory that it makes of the C
+library. A library that is loaded before that one counts the calls and refuses one of them. Each run has to answer 8,
+report `no memory`, and write a prefix of the text that the ledger and the archive in Python in tests/models give; or,
+where the directory of the store is refused memory, 6 with `disk fault`; or it passes over the refusal, and answers 0
+with all of the text. After `init`, `run`, `show` and `path` the store is opened again, by a `run` without input: after
+8 and 0 at the last ledger whose `closed` line was written, after 6 there or one further on. An `init` that answered 8
+has made no store, and one that answered 6 may have.
 
 Beside workers the calls of all threads count, so which of them is refused differs from run to run. Then the calls of the workers alone
 count: a job whose merge is refused memory is given back, so each of these runs has to answer 0 with all of the text.
@@ -31,11 +33,12 @@ import tempfile
 from measuring import TOP, built, stop
 
 sys.path[:0] = [f"{TOP}/tests", f"{TOP}/tests/models"]
+import archive_model as archive  # noqa: E402
 from cases import read_case  # noqa: E402
 from harness import FILES, NETWORK, files_in, lay_out  # noqa: E402
 from ledger_model import catchup  # noqa: E402
 from stops import in_format_1  # noqa: E402
-from store_model import show  # noqa: E402
+from store_model import run, show  # noqa: E402
 
 
 def content(path):
@@ -144,11 +147,29 @@ def commands(program, folder):
     ]
 
 
+def other_commands(program, folder):
+    """Commands on histories, and a query over a store of its own."""
+    given = content(f"{TOP}/examples/accounts.image") + content(f"{TOP}/examples/accounts.records")
+    history, _, _ = archive.history(NETWORK, given)
+    query = read_case("queries-by-two-costs-less")
+    asked = f"{folder}/asked"
+    os.mkdir(asked)
+    lay_out(asked, query.before)
+    opened = run(b"", [query.before.get(name, b"") for name in FILES])[0][0].encode()
+    return [
+        Command(program, ["history", "--network", NETWORK], given, history, None, None),
+        Command(program, ["changes", "--network", NETWORK], given, archive.changes(NETWORK, given)[0], None, None),
+        Command(program, ["verify"], history, archive.verify(history)[0].encode(), None, None),
+        Command(program, ["path"], query.given, query.output, f"{asked}/ledger-store", [opened]),
+    ]
+
+
 def main():
     program = os.path.abspath(sys.argv[1]) if len(sys.argv) > 1 else built("ledger")
     with tempfile.TemporaryDirectory() as folder:
         library = compiled(folder)
-        wrong = sum([tried(command, library, folder) for command in commands(program, folder)])
+        listed = commands(program, folder) + other_commands(program, folder)
+        wrong = sum([tried(command, library, folder) for command in listed])
     sys.exit(1 if wrong else 0)
 
 

@@ -7,14 +7,14 @@ PROGRAM is the built program, crates/ledger/out/ledger of this repository where 
 before the C library (heap.c) notes the greatest number of bytes of the heap that a run had at once. Measured are
 
     cases    the cases of tests/cases, and mutations of them and of stores, made as in fuzz.py (--runs, 2000, --seed, 0)
-    words    three cases and a store in which one word of four bytes after another is 2^32 - 1, or the longest length
-             that a record or a file may have, or a little one: false lengths among them
-    large    records and images of some MB (--megabytes, 4) that are accepted, and the same cut, with another byte at
-             their end, with another hash, or with lumens that aren't there; and a long record that is no record
+    words    three cases, a store, a history and a query in which one word of four bytes after another is 2^32 - 1, or
+             the longest length that a record or a file may have, or a little one: false lengths among them
+    large    records, images and histories of some MB (--megabytes, 4) that are accepted, and the same cut, with another
+             byte at their end, with another hash, or with lumens that aren't there; and a long record that is no record
 
 A refused input of the cases is compared with the accepted ones that have at most as many bytes, of commands that read
-an image and of those that open a store; those of words with the case as it was, and large ones with what they were made
-of.
+an image, of those that open a store, of `history` and `changes`, of `verify` and of `path`; those of words with the
+case as it was, and large ones with what they were made of.
 
 It prints what takes most, and ends with 1 where a large refused input takes more than the accepted one, or another
 more than 2 MB above it. Exit status: 0 where that holds, 2 where the script can't be run. Linux, Python 3.9 or later
@@ -30,7 +30,7 @@ import sys
 import tempfile
 from bisect import bisect_right
 from itertools import accumulate
-from typing import Dict, Iterator, List, NamedTuple, Sequence, Tuple
+from typing import Callable, Dict, Iterator, List, NamedTuple, Sequence, Tuple
 
 from measuring import TOP, built, stop
 
@@ -42,8 +42,9 @@ from case_tools import predicate  # noqa: E402
 from closes import CATCHUP, image_of  # noqa: E402
 from fuzz_answers import Late, Limit  # noqa: E402
 from fuzz_bytes import with_bytes  # noqa: E402
-from fuzz_making import made  # noqa: E402
+from fuzz_making import by_kind, made  # noqa: E402
 from fuzz_parts import image_length  # noqa: E402
+from fuzz_queries import MOST_BYTES as MOST_QUERY  # noqa: E402
 from fuzz_trials import NO_FILES, Four, Trial, case_seeds, seeds, with_file  # noqa: E402
 from harness import FILES, lay_out  # noqa: E402
 
@@ -53,7 +54,14 @@ WORDS = (2**32 - 1, 2**24, 0x81000000, 0x20000000, 100)
 SWEPT = (
     "all-kinds-of-changes", "protocol-19-a-record-with-all-preconditions", "assets-each-operation-in-one-transaction",
 )
-SWEPT_STORE = "stores-show-a-store-with-three-records"
+# a store, a history and a query
+SWEPT_OTHERS = (
+    "stores-show-a-store-with-three-records", "archives-verify-five-ledgers", "queries-equal-direct-by-one-by-two",
+)
+# so many bytes of a store's file are swept
+SWEPT_HEAD = 600
+COMMANDS = (("catchup", "init"), ("run", "show"), ("history", "changes"), ("verify",), ("path",))
+HISTORY, VERIFY = ["history", *CATCHUP[1:]], ["verify"]
 TO_MAKE = 30
 
 
@@ -101,7 +109,7 @@ class Meter:
 
 
 def mutated(seed: int, runs: int) -> Iterator[Tuple[str, Trial]]:
-    listed = seeds()
+    listed = by_kind(seeds())
     for number in range(runs):
         try:
             with Limit(TO_MAKE):
@@ -115,14 +123,15 @@ def measure_cases(meter: Meter, seed: int, runs: int) -> List[Ran]:
     listed = list(case_seeds())
     found = [meter.first_step(each.name, each.trial) for each in listed]
     inputs = [each for each in listed if each.trial.kind == "catchup"]
-    found += [meter.first_step(each.name, each.trial._replace(kind="made")) for each in inputs[::5]]
+    for kind, listed in (("made", inputs[::5]), ("history", inputs[1::5])):
+        found += [meter.first_step(each.name, each.trial._replace(kind=kind)) for each in listed]
     return found + [meter.first_step(name, trial) for name, trial in mutated(seed, runs)]
 
 
 def above_accepted(found: List[Ran]) -> List[Tuple[int, Ran]]:
     """Of each refused input how many bytes it takes above accepted ones of such commands with at most as many bytes."""
     above = []
-    for commands in (("catchup", "init"), ("run", "show")):
+    for commands in COMMANDS:
         listed = [ran for ran in found if ran.command in commands]
         accepted = sorted((ran.size, ran.peak) for ran in listed if ran.status == 0)
         sizes, most = [size for size, _ in accepted], list(accumulate((peak for _, peak in accepted), max))
@@ -134,27 +143,34 @@ def above_accepted(found: List[Ran]) -> List[Tuple[int, Ran]]:
 # ---- words
 
 
+def other_words(data: bytes, start: int, end: int) -> Iterator[Tuple[str, bytes]]:
+    """Bytes with another word at each offset of one from a start to an end, and what was done to them."""
+    for at in range(start, min(len(data), end) - 3, 4):
+        for word in WORDS:
+            yield f"{word} at {at}", with_bytes(data, at, word.to_bytes(4, "big"))
+
+
+def swept(trial: Trial) -> Iterator[Tuple[str, Trial]]:
+    """A trial with other words in its input, its files and its query."""
+    for what, data in other_words(trial.data, 0, len(trial.data)):
+        yield what, trial._replace(data=data)
+    for index, file in enumerate(trial.files):
+        # the fields of these files stand after a gate of one byte
+        for what, data in other_words(file, 1, SWEPT_HEAD):
+            yield f"{what} of {FILES[index]}", with_file(trial, index, data)
+    for what, data in other_words(trial.query or b"", 0, MOST_QUERY):
+        yield f"{what} of the query", trial._replace(query=data)
+
+
 def measure_words(meter: Meter) -> List[Tuple[int, Ran]]:
     """Of each input with another word how many bytes it takes above what it was before."""
     by_name = {each.name: each.trial for each in case_seeds()}
     above = []
-    for name in SWEPT:
-        trial = by_name[name]
-        start = meter.first_step(name, trial)
-        for at in range(0, len(trial.data) - 3, 4):
-            for word in WORDS:
-                data = with_bytes(trial.data, at, word.to_bytes(4, "big"))
-                ran = meter.first_step(f"{name} with {word} at {at}", trial._replace(data=data))
-                above.append((ran.peak - start.peak, ran))
-    trial = by_name[SWEPT_STORE]
-    start = meter.first_step(SWEPT_STORE, trial)
-    for index, file in enumerate(trial.files):
-        for at in range(1, min(len(file), 600) - 3, 4):
-            for word in WORDS:
-                changed = with_bytes(file, at, word.to_bytes(4, "big"))
-                name = f"{SWEPT_STORE} with {word} at {at} of {FILES[index]}"
-                ran = meter.first_step(name, with_file(trial, index, changed))
-                above.append((ran.peak - start.peak, ran))
+    for name in (*SWEPT, *SWEPT_OTHERS):
+        start = meter.first_step(name, by_name[name])
+        for what, trial in swept(by_name[name]):
+            ran = meter.first_step(f"{name} with {what}", trial)
+            above.append((ran.peak - start.peak, ran))
     return above
 
 
@@ -171,8 +187,9 @@ def records(size: int) -> Iterator[Tuple[str, List[bytes]]]:
         yield name, [large.sent(number, *operations) for number in range(size // each)]
 
 
-def refused_records(data: bytes, start: int) -> Dict[str, bytes]:
+def refused_records(data: bytes) -> Dict[str, bytes]:
     """What is refused in place of a record after an image."""
+    start = image_length(data)
     middle = (start + len(data)) // 2
     return {
         "cut": data[:-1], "another byte at its end": data[:-1] + b"\7",
@@ -189,33 +206,51 @@ def image(size: int, lumens: int = 0) -> bytes:
     return image_of([b""] * 8 + files + [b""] * 12, coins + lumens, 0)[0]
 
 
-def measure_large(meter: Meter, size: int) -> List[Tuple[float, Ran]]:
-    """Of each refused input its heap as a part of that of the accepted one which it was made of."""
-    parts = []
-    for name, listed in records(size):
-        data = large.after_small(listed)
-        start = meter.ran(name, CATCHUP, data)
-        if start.status:
-            stop(f"{start} isn't accepted")
-        print(start, flush=True)
-        for what, other in refused_records(data, image_length(data)).items():
-            ran = meter.ran(f"{name}, {what}", CATCHUP, other)
-            parts.append((ran.peak / start.peak, ran))
-    data = image(size)
-    start = meter.ran("accounts", CATCHUP, data)
-    print(start, flush=True)
+def refused_images(data: bytes, size: int) -> Dict[str, bytes]:
+    """What is refused in place of an image of so many bytes."""
     first = 8 + (int.from_bytes(data[4:8], "big") & 0x7FFFFFFF)
-    changed = {
+    return {
         "the greatest length of the first file": with_bytes(data, first, (2**29).to_bytes(8, "big")),
         "cut": data[:-1], "another byte at their end": data[:-1] + b"\7", "a lumen too many": image(size, 1),
         "another hash of the levels": with_bytes(data, 4 + 4 + 4 + 32 + 32 + 8 + 4 + 4 + 32, bytes(32)),
         "other bytes in their middle": with_bytes(data, len(data) // 2, b"\xff" * 8),
         "the greatest length of the last file": with_bytes(data, len(data) - 8, b"\xff" * 8),
     }
-    for what, other in changed.items():
-        ran = meter.ran(f"accounts, {what}", CATCHUP, other)
-        parts.append((ran.peak / start.peak, ran))
-    return parts
+
+
+def refused_histories(data: bytes) -> Dict[str, bytes]:
+    """What is refused in place of a history."""
+    return {
+        "cut": data[:-1], "a byte after it": data + b"\7", "another byte at its end": data[:-1] + b"\7",
+        "other bytes in its middle": with_bytes(data, len(data) // 2, b"\xff" * 8),
+        "another hash before": with_bytes(data, 4, bytes(32)), "another number": with_bytes(data, 36, bytes(4)),
+        "the greatest length of the headers": with_bytes(data, 40, (2**28).to_bytes(8, "big")),
+        "another hash of the header": with_bytes(data, 52, bytes(32)), "zeros": data[:48] + bytes(len(data) - 48),
+    }
+
+
+Refused = Callable[[bytes], Dict[str, bytes]]
+
+
+def compared(meter: Meter, name: str, words: List[str], data: bytes, refused: Refused) -> List[Tuple[float, Ran]]:
+    """Of each refused input its heap as a part of that of the accepted one which it is made of."""
+    start = meter.ran(name, words, data)
+    if start.status:
+        stop(f"{start} isn't accepted")
+    print(start, flush=True)
+    found = ((meter.ran(f"{name}, {what}", words, other), start) for what, other in refused(data).items())
+    return [(ran.peak / start.peak, ran) for ran, start in found]
+
+
+def measure_large(meter: Meter, size: int) -> List[Tuple[float, Ran]]:
+    parts = []
+    for name, listed in records(size):
+        data = large.after_small(listed)
+        for words in (CATCHUP, HISTORY):
+            parts += compared(meter, name, words, data, refused_records)
+        history = subprocess.run([meter.program, *HISTORY], input=data, capture_output=True, check=True).stdout
+        parts += compared(meter, name, VERIFY, history, refused_histories)
+    return parts + compared(meter, "accounts", CATCHUP, image(size), lambda data: refused_images(data, size))
 
 
 # ---- the runs

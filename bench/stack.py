@@ -21,6 +21,10 @@ system puts there moves by up to 8 kB from run to run. The inputs:
     deep levels  ten records of payments that commit merges of the levels, of 20 MB (--megabytes)
     beside       the same by `run --workers 2`
     offers       an image of 100,000 offers in 20 books (--offers)
+    history      "operations" and then "both" by `history` and `changes`, and what is written by `verify`
+    33 levels    a history of a predicate of 33 levels by `verify`: it is refused
+    2 million    the same of a predicate of two million levels
+    path         a query of twelve candidates over a small store
 
 Exit status: 0, or 2 where a run with 8 MB ends otherwise than it should. Linux, Python 3.9 or later and its standard library.
 """
@@ -38,8 +42,13 @@ from measuring import TOP, built, stop
 sys.path.insert(0, f"{TOP}/tests/models")
 import deep_levels as deep  # noqa: E402
 import set_cases as sets  # noqa: E402
+import fuzz_paths  # noqa: E402, F401
+from cases import read_case  # noqa: E402
 from case_tools import META_18, claimable, image, key, raw  # noqa: E402
 from closes import CATCHUP, NETWORK, image_of  # noqa: E402
+from fuzz_bytes import NOT  # noqa: E402
+from fuzz_history import cut_history  # noqa: E402
+from harness import lay_out  # noqa: E402
 from large import FIRST, after_small, offers, payments, sent  # noqa: E402
 from ledger_model import ENTRY, INIT, i32, sha, u32  # noqa: E402
 
@@ -118,11 +127,34 @@ def offered(count):
     return image_of([b""] * 8 + files + [b""] * 12, coins, count)[0]
 
 
+def written(program, words, data):
+    return subprocess.run([program, *words], input=data, capture_output=True, check=True).stdout
+
+
+def deepened(history, levels):
+    """A history of a set with a predicate, which gets so many levels more."""
+    parts = cut_history(history)
+    parts.streams[1][0] = parts.streams[1][0].replace(NOT, NOT * (1 + levels), 1)
+    return parts.data
+
+
 # ---- the runs
 
 
 def row(name, trial):
-    print(f"{name:14}{os.path.getsize(trial.source) / 1e6:8.1f} MB{trial.least():8} kB", flush=True)
+    print(f"{name:20}{os.path.getsize(trial.source) / 1e6:8.1f} MB{trial.least():8} kB", flush=True)
+
+
+def history_rows(program, kept):
+    """Commands on histories."""
+    for name, listed in [("operations", [sent(0, *[sets.payment(1, 1)] * 100)]), ("both", claims(50, 100, 32))]:
+        data = after_small(listed)
+        for word in ("history", "changes"):
+            row(f"{name}, {word}", Trial(program, [word, *CATCHUP[1:]], kept(data)))
+        row(f"{name}, verify", Trial(program, ["verify"], kept(written(program, ["history", *CATCHUP[1:]], data))))
+    one = written(program, ["history", *CATCHUP[1:]], after_small(claims(1, 1, 32, 1)))
+    for name, more in (("33 levels", 1), ("2 million", DEEP)):
+        row(f"{name}, verify", Trial(program, ["verify"], kept(deepened(one, more)), status=3))
 
 
 def main():
@@ -156,6 +188,11 @@ def main():
         subprocess.run([program, "init", "--network", NETWORK], input=data, check=True, cwd=folder)
         row("beside", Trial(program, ["run", "--workers", "2"], kept(records), f"{folder}/ledger-store"))
         row("offers", Trial(program, CATCHUP, kept(offered(given.offers))))
+        history_rows(program, kept)
+        query = read_case("queries-twelve-candidates")
+        os.mkdir(f"{folder}/asked")
+        lay_out(f"{folder}/asked", query.before)
+        row("path", Trial(program, ["path"], kept(query.given), f"{folder}/asked/ledger-store"))
 
 
 if __name__ == "__main__":

@@ -20,6 +20,8 @@ import archive_model as archive  # noqa: E402
 VERIFY = ["verify"]
 # the offsets at which a byte is changed are dealt to so many parts
 DEALT = 4
+# where there are more reads or writes than that, a part of them fails
+MANY = 500
 
 
 def written(name: str) -> Case:
@@ -78,30 +80,53 @@ def verified(program: Program, tally: Tally) -> None:
         tally.check("what `history` writes verifies with the last hash of `catchup`", is_so, (name, ran.out, ran.err))
 
 
-def failed(program: Program, tally: Tally, words: List[bytes], given: bytes, entire: bytes, status: int) -> None:
-    """A read that fails leaves nothing on the output, a write that fails a beginning of the text."""
-    word = words[0].decode()
-    for number in range(1, 4):
-        ran = program.run(words, given, IN_FAIL=number, ONE_BYTE=number - 1)
+def places(count: int) -> List[int]:
+    """The numbers below a count, of which there are some thousands at most: each, or each seventh and the last ones."""
+    return [number for number in range(count) if count < MANY or number % 7 == 0 or number >= count - 7]
+
+
+def failed_reads(program: Program, tally: Tally, words: List[bytes], given: bytes) -> None:
+    """Reads of one byte fail, up to the one that finds the end, and the first reads of more: nothing is written."""
+    long = ({"IN_FAIL": number} for number in (1, 2))
+    short = ({"IN_FAIL": number + 1, "ONE_BYTE": 1} for number in places(len(given) + 1))
+    for faults in (*long, *short):
+        ran = program.run(words, given, **faults)
         is_so = (ran.status, ran.out, ran.err) == (4, b"", b"read fault\n")
-        tally.check(f"`{word}` writes nothing where a read fails", is_so, (number, ran.status, ran.out, ran.err))
-    for room in {0, 1, len(entire) // 2, max(0, len(entire) - 1)}:
-        if room < len(entire):
-            ran = program.run(words, given, OUT_ROOM=room)
+        detail = (faults, ran.status, ran.out, ran.err)
+        tally.check(f"`{words[0].decode()}` writes nothing where a read fails", is_so, detail)
+
+
+def failed_writes(program: Program, tally: Tally, words: List[bytes], given: bytes, entire: bytes, status: int) -> None:
+    """A write that fails, or takes a part, leaves a beginning of the text."""
+    word = words[0].decode()
+    for room in places(len(entire)):
+        for faults in ({"OUT_ROOM": room}, {"OUT_FAIL": room + 1, "ONE_BYTE": 1}):
+            ran = program.run(words, given, **faults)
             is_so = (ran.status, ran.out, ran.err) == (5, entire[:room], b"write fault\n")
-            tally.check(f"`{word}` ends with a write fault where the output has no room", is_so, (room, ran.status, ran.err))
+            detail = (faults, ran.status, ran.err)
+            tally.check(f"`{word}` ends with a write fault where the output has no room", is_so, detail)
     ran = program.run(words, given, ERR_ROOM=0)
     is_so = (ran.status, ran.out) == (status, entire)
     tally.check(f"`{word}` needs no room on standard error where all is done", is_so, (ran.status, ran.err))
 
 
-def failing_streams(program: Program, tally: Tally) -> None:
-    for name in ("history", "changes"):
-        case = written(name)
-        failed(program, tally, case.words, case.given, case.output, 0)
+def failing_histories(program: Program, tally: Tally) -> None:
+    case = written("history")
+    failed_reads(program, tally, case.words, case.given)
+    failed_writes(program, tally, case.words, case.given, case.output, 0)
+
+
+def failing_changes(program: Program, tally: Tally) -> None:
+    case = written("changes")
+    failed_reads(program, tally, case.words, case.given)
+    failed_writes(program, tally, case.words, case.given, case.output, 0)
+
+
+def failing_verifications(program: Program, tally: Tally) -> None:
     data = written("history").output
     line, _, status = archive.verify(data)
-    failed(program, tally, [b"verify"], data, line.encode(), status)
+    failed_reads(program, tally, [b"verify"], data)
+    failed_writes(program, tally, [b"verify"], data, line.encode(), status)
 
 
 def refusals_unsaid(program: Program, tally: Tally) -> None:
@@ -114,7 +139,10 @@ def refusals_unsaid(program: Program, tally: Tally) -> None:
             tally.check(f"`{name}` ends with a write fault where a refusal can't be said", is_so, (room, ran.status, ran.err))
 
 
-PARTS = [first_bytes, second_bytes, third_bytes, fourth_bytes, cuts, verified, failing_streams, refusals_unsaid]
+PARTS = [
+    first_bytes, second_bytes, third_bytes, fourth_bytes, cuts, verified, failing_histories, failing_changes,
+    failing_verifications, refusals_unsaid,
+]
 
 
 def check(program: Program, part) -> Tally:

@@ -21,6 +21,7 @@ import json
 import os
 import random
 import re
+import stat
 import subprocess
 import sys
 import tempfile
@@ -485,6 +486,11 @@ def try_old_files(tally: Tally, at: str, words: Tuple[str, ...]) -> None:
     for first, second in ((f"{at}/ledger-store/image0", f"{at}/r"), (f"{at}/i", f"{at}/i")):
         answer = run("store", "export", f"{at}/ledger-store", "--image", first, "--records", second, "--force")
         tally.check("nothing is written into the store, or twice into a file", is_refused(answer), answer)
+    os.mkfifo(f"{at}/pipe")
+    answer = run("store", "export", f"{at}/ledger-store", "--image", f"{at}/i", "--records", f"{at}/pipe", "--force")
+    is_kept = is_refused(answer) and stat.S_ISFIFO(os.stat(f"{at}/pipe").st_mode)
+    tally.check("what is no file, as a pipe or a device, isn't replaced", is_kept, answer)
+    os.remove(f"{at}/pipe")
     answer = run("store", "export", f"{at}/ledger-store", "--image", f"{at}/i", "--records", f"{at}/none/r")
     tally.check("no file is left where one can't be written", is_refused(answer), answer)
     tally.check("nothing else is left", sorted(os.listdir(at)) == ["image", "ledger-store", "records"], os.listdir(at))

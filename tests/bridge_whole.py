@@ -3,7 +3,9 @@ vouches, what it closed is packed into the usual layout, and tools/stellar_files
 it, vouches for what the keys signed, and compares an output with it.
 
 An archive has no vouches: without new ones the records close to other headers, and with those that `vouch` finds to the
-same ones. It needs the Python package cryptography; bridge_vouch.py says where that is missing.
+same ones. The built program does the same: its `history` writes what the archive is packed from, and its `catchup`
+closes what was taken out of the archive to equal headers. It needs the Python package cryptography; bridge_vouch.py says
+where that is missing.
 """
 
 from __future__ import annotations
@@ -11,14 +13,14 @@ from __future__ import annotations
 import json
 import os
 import sys
-from typing import Any, Dict, List, Set, Tuple
+from typing import Any, Callable, Dict, List, Set, Tuple
 
 import bridge
 import bridge_forms
 import bridge_vouch
 import made_archive
 from bridge_vouch import BUMP, Signer, enveloped, named, operation, set_signer, transaction
-from harness import TESTS, Tally
+from harness import TESTS, Program, Tally
 
 import ledger_model  # noqa: E402
 import stellar_xdr as xdr  # noqa: E402
@@ -32,6 +34,7 @@ Value = Any
 NETWORK, LAST, IMAGE_AT = bridge_vouch.NETWORK, 128, 63
 SECRET = "a secret of everybody"
 NAMES = ("a", "b", "c")
+EQUAL = (0, "equal  ledgers 64 to 127  transactions 6\n", "")
 
 
 class Closing:
@@ -45,6 +48,10 @@ class Closing:
         self.numbers: Dict[str, int] = {}
         self.signed: Dict[int, Set[Tuple[bytes, bytes, bytes]]] = {}
         self.codes: List[int] = []
+
+    @property
+    def input(self) -> bytes:
+        return self.image + b"".join(map(marked, self.records))
 
     def sent(self, source: str, op: Value, *signers: str) -> Value:
         """A transaction, signed by these keys, or by the secret where there is none."""
@@ -107,21 +114,25 @@ def closed_by(folder: str) -> Closing:
     return closing
 
 
-def compared(folder: str, image: bytes, records: bytes) -> bridge.Answer:
+def compared(folder: str, output: bytes) -> bridge.Answer:
     """What `compare` says of an output beside the archive's history."""
+    return bridge.run("compare", f"{folder}/history", bridge.write_file(f"{folder}/output", output))
+
+
+def closed_again(image: bytes, records: bytes) -> bytes:
+    """What the ledger in Python prints."""
     output, _, status = ledger_model.catchup(NETWORK, image + records)
     assert status in (0, 3), status
-    return bridge.run("compare", f"{folder}/history", bridge.write_file(f"{folder}/output", output.encode()))
+    return output.encode()
 
 
 def try_compared(tally: Tally, folder: str, image: bytes, records: bytes) -> None:
     """Without vouches the first ledger that keys signed differs; with those that are found all are equal."""
-    answer = compared(folder, image, records)
+    answer = compared(folder, closed_again(image, records))
     differs = answer.status == 1 and f"ledger {IMAGE_AT + 1}" in answer.out
     tally.check("an archive's records without vouches close to another header", differs, answer)
-    answer = compared(folder, image, bridge.bytes_at(f"{folder}/vouched"))
-    expected = "equal  ledgers 64 to 127  transactions 6\n"
-    tally.check("an archive's records with vouches close to equal headers", answer == (0, expected, ""), answer)
+    answer = compared(folder, closed_again(image, bridge.bytes_at(f"{folder}/vouched")))
+    tally.check("an archive's records with vouches close to equal headers", answer == EQUAL, answer)
 
 
 def try_vouched(tally: Tally, folder: str, closing: Closing) -> None:
@@ -136,16 +147,21 @@ def try_vouched(tally: Tally, folder: str, closing: Closing) -> None:
     tally.check("some signatures of an archive are of Ed25519", count == 4 and answer.out.endswith(" 4\n"), answer)
 
 
-def try_whole(tally: Tally, folder: str) -> None:
-    closing = closed_by(folder)
-    tally.check("transactions succeed by a secret and by a key, and don't by another key", set(closing.codes) == {0, -6, -10}, closing.codes)
-    made = made_archive.closed(NETWORK.encode(), closing.image + b"".join(map(marked, closing.records)))
+def take_out(tally: Tally, folder: str, made: made_archive.Made) -> None:
+    """Packs an archive, and takes an image and records out of it."""
     made_archive.write_archive(f"{folder}/archive", made)
     answers = [
         bridge.run("image", "from-archive", f"{folder}/archive", str(IMAGE_AT), "--out", f"{folder}/image"),
         bridge.run("records", "from-archive", f"{folder}/archive", str(IMAGE_AT + 1), str(LAST - 1),
                    "--out", f"{folder}/records", "--results", f"{folder}/history")]
     tally.check("an image and records are taken out of an archive", answers == [(0, "", "")] * 2, answers)
+
+
+def try_whole(tally: Tally, folder: str) -> None:
+    closing = closed_by(folder)
+    codes = set(closing.codes)
+    tally.check("transactions succeed by a secret and by a key, and don't by another key", codes == {0, -6, -10}, codes)
+    take_out(tally, folder, made_archive.closed(NETWORK.encode(), closing.input))
     image, records = bridge.bytes_at(f"{folder}/image"), bridge.bytes_at(f"{folder}/records")
     is_same = records == b"".join(map(marked, closing.plain[IMAGE_AT - 1:LAST - 2]))
     tally.check("an archive's records are those that closed, without vouches", is_same)
@@ -158,4 +174,30 @@ def check(top: str) -> Tally:
     if bridge_vouch.Ed25519PrivateKey is not None:
         with bridge_forms.scratch() as folder:
             try_whole(tally, folder)
+    return tally
+
+
+def try_program(program: Program, tally: Tally, folder: str) -> None:
+    closing = closed_by(folder)
+    made = made_archive.closed(NETWORK.encode(), closing.input)
+    ran = program.run(["history", "--network", NETWORK], closing.input)
+    is_same = (ran.status, ran.out) == (0, made_archive.history_of(made))
+    tally.check("the program's history is what the archive is packed from", is_same, (ran.status, ran.err))
+    take_out(tally, folder, made)
+    bridge.run("vouch", f"{folder}/image", f"{folder}/records", "--network", NETWORK, "--out", f"{folder}/vouched")
+    given = bridge.bytes_at(f"{folder}/image") + bridge.bytes_at(f"{folder}/vouched")
+    ran = program.run(["catchup", "--network", NETWORK], given)
+    answer = compared(folder, ran.out)
+    tally.check("the program closes what an archive has to equal headers", (ran.status, answer) == (0, EQUAL), answer)
+
+
+PARTS = (try_program,)
+
+
+def check_program(program: Program, part: Callable[[Program, Tally, str], None]) -> Tally:
+    """What `run.py` has a process try of a built program."""
+    tally = Tally()
+    if bridge_vouch.Ed25519PrivateKey is not None:
+        with bridge_forms.scratch() as folder:
+            part(program, tally, folder)
     return tally

@@ -94,7 +94,8 @@ def jobs_of(program: Program) -> List[Job]:
     """What is to be tried of a program, longest first."""
     modules = (beside, archives, stops, store_bytes, locks, adopting, hostile, words)
     parts = [(module.check, (program, part)) for module in modules for part in module.PARTS]
-    parts += [(bridge_made.check_program, (program, part)) for part in bridge_made.PARTS]
+    for module in (bridge_made, bridge_whole):
+        parts += [(module.check_program, (program, part)) for part in module.PARTS]
     return parts + [(cases.check, (program, name)) for name in cases.names()]
 
 

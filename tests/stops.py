@@ -35,6 +35,9 @@ BESIDE = [["run", "--workers", "1"], ["run", "--workers", "2"]]
 # journal, writes a closed gate there and syncs; and opens the image's gate and syncs.
 REOPENED = {0: (61, 61), 2: (61, 62), 4: (62, 62), 6: (62, 63), 8: (63, 63), 19: (63, 64), 21: (64, 64)}
 CHANGES = 21
+# cases of commands that take nothing of the story: without an input, and a query over a store
+OTHERS = ("stores-show-a-store-with-three-records", "samples-3-ledgers-of-seed-1")
+QUERY = "queries-by-two-costs-less"
 READ_FAULT, WRITE_FAULT, DISK_FAULT, MISSING = (4, b"read fault\n"), (5, b"write fault\n"), (6, b"disk fault\n"), (11, b"missing\n")
 DONE = (0, b"")
 
@@ -237,12 +240,14 @@ def check_making(story: Story, tally: Tally, begun: Store, fault: str, what: str
 def check_openings(story: Story, tally: Tally) -> None:
     """Fails each call that opens the store; the input isn't read where the opening failed, nor anything written."""
     stores = [("", story.store), (" of format 1", in_format_1(story.store))]
-    for words in (RUN, *BESIDE, ["show"]):
+    query = read_case(QUERY).given
+    for words in (RUN, *BESIDE, ["show"], ["path"]):
+        given = query if words == ["path"] else story.given(0, 1)
         for form, begun in stores:
             # where a store of format 1 has opened, a run goes on to the next epoch: that is no opening
             opening = story.program.run(["show"], b"", begun, FAIL_AT=0).notes
             for call in range(1, ENOUGH):
-                ran = story.program.run(words, story.given(0, 1), begun, FAIL_AT=call)
+                ran = story.program.run(words, given, begun, FAIL_AT=call)
                 if len(ran.notes) > len(opening) or ended(ran) == DONE:
                     break
                 holds = ended(ran) == DISK_FAULT and ran.store == begun and not ran.out
@@ -324,10 +329,10 @@ def check_writes(story: Story, tally: Tally) -> None:
 
 
 def check_long_writes(story: Story, tally: Tally) -> None:
-    """Fails each write of an output whose writes take what they are given, also those of `show` and `sample`."""
+    """Fails each write of an output whose writes take what they are given, those of `show`, `sample` and `path` too."""
     text = story.text(0, CLOSES)
     listed = [(command.name, command.words, command.begun, command.given, text) for command in commands(story)[1:]]
-    for name in ("stores-show-a-store-with-three-records", "samples-3-ledgers-of-seed-1"):
+    for name in (*OTHERS, QUERY):
         case = read_case(name)
         listed.append((case.words[0].decode(), case.words, case.before, case.given, case.output))
     for name, words, begun, given, entire in listed:
@@ -342,8 +347,8 @@ def check_long_writes(story: Story, tally: Tally) -> None:
 
 
 def check_other_writes(story: Story, tally: Tally) -> None:
-    """The same of `show` and `sample` at one byte a write, and where the output takes so many bytes and then none."""
-    for name in ("stores-show-a-store-with-three-records", "samples-3-ledgers-of-seed-1"):
+    """The same of `show`, `sample` and `path` at one byte a write, and where the output takes so many and then none."""
+    for name in (*OTHERS, QUERY):
         case = read_case(name)
         for length in range(len(case.output)):
             for faults in ({"OUT_FAIL": length + 1, "ONE_BYTE": 1}, {"OUT_ROOM": length}):
@@ -351,6 +356,22 @@ def check_other_writes(story: Story, tally: Tally) -> None:
                 holds = ended(ran) == WRITE_FAULT and ran.out == case.output[:length]
                 what = f"{case.words[0].decode()}: a write that fails or takes nothing leaves a prefix of the text"
                 tally.check(what, holds and ran.store == case.before, (length, ended(ran), faults))
+
+
+def check_queries(story: Story, tally: Tally) -> None:
+    """Fails each read of a query, of one byte or of all that is asked for: nothing is printed, and the store stays."""
+    case = read_case(QUERY)
+    for faults in ({"ONE_BYTE": 1}, {}):
+        for number in range(1, ENOUGH):
+            ran = story.program.run(case.words, case.given, case.before, IN_FAIL=number, **faults)
+            if ended(ran) == DONE:
+                break
+            holds = ended(ran) == READ_FAULT and not ran.out and ran.store == case.before
+            tally.check("path: a read that fails leaves the store as it was", holds, (number, ended(ran)))
+        # the last read finds the end of the input
+        expected = len(case.given) + 2 if faults else 3
+        is_whole = number == expected and ran.out == case.output
+        tally.check("path: each read up to the end of the query fails", is_whole, number)
 
 
 def check_ends(story: Story, tally: Tally) -> None:
@@ -363,7 +384,8 @@ def check_ends(story: Story, tally: Tally) -> None:
 
 PARTS = (
     check_runs, check_runs_beside, check_reopened, check_runs_over, check_migrations, check_old_shows, check_makings,
-    check_openings, check_reads, check_long_reads, check_writes, check_long_writes, check_other_writes, check_ends,
+    check_openings, check_reads, check_long_reads, check_writes, check_long_writes, check_other_writes, check_queries,
+    check_ends,
 )
 
 

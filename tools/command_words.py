@@ -97,8 +97,6 @@ def refuse_paths(outputs: Sequence[str], may_replace: bool, inputs: Sequence[str
     taken = [os.path.realpath(path) for path in inputs]
     for path in outputs:
         refuse_old(path, may_replace)
-        if os.path.lexists(path) and not os.path.isfile(path):
-            raise FileFault(path, "is no file of bytes")
         if os.path.realpath(path) in taken:
             raise FileFault(path, "is named twice")
         taken.append(os.path.realpath(path))

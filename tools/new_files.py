@@ -22,8 +22,11 @@ def faults_at(path: str) -> Iterator[None]:
 
 
 def refuse_old(path: str, may_replace: bool) -> None:
+    """Refuses what is there already, unless it may be replaced: never a device or a pipe, whose name would be lost."""
     if os.path.isdir(path):
         raise FileFault(path, "is a folder")
+    if os.path.lexists(path) and not os.path.isfile(path):
+        raise FileFault(path, "is no file of bytes")
     if os.path.lexists(path) and not may_replace:
         raise FileFault(path, "is there already; --force replaces it")
 

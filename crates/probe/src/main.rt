@@ -1,11 +1,11 @@
 //! Runs cases: small ledgers to which an operation or a change of sponsorship is applied, maps of entries, levels of
-//! buckets, streams, lists of changes, and single calls. Prints a line a step, and `BAD` after its name where it can't be
-//! taken.
+//! buckets, streams, lists of changes, and single calls. Prints a line a step, and `BAD` after its name where it
+//! can't be taken.
 //!
-//! The program's one argument is the file of the cases. Blank lines part them. The first line of a case says what it is
-//! of: `ledgers`, `maps` with the files of levels, `levels`, `streams`, `calls` or `changes`. Each further line is the
-//! name of a step and its arguments, as XDR in hexadecimal. The scripts in `tests/probe` at the top write the cases, and
-//! what is expected of them.
+//! The program's one argument is the file of the cases. Blank lines part them. The first line of a case says what it
+//! is of: `ledgers`, `maps` with the files of levels, `levels`, `streams`, `calls` or `changes`. Each further line is
+//! the name of a step and its arguments, as XDR in hexadecimal. The scripts in `tests/probe` at the top write the
+//! cases, and what is expected of them.
 #![tactic(auto)]
 
 mod answers;

@@ -4,7 +4,8 @@ use Rattle.archive_files.proofs.Prelude.{Result, Xdr, XdrFault, [], ap, append-n
 use Rattle.archive_files.proofs.Prelude.{facts_of, file_of, header_fact, length, max_record_len, record_of, refl}
 use Rattle.archive_files.proofs.Prelude.{results_fact, set_fact, sym, transaction_history_entry, ℕ, ◌++◌, ◌+◌, ◌>>=◌}
 use Rattle.archive_files.proofs.Prelude.{◌∙◌, ◌∷◌, ◌≡◌}
-use Rattle.xdr_core.proofs.FormatLaws.{lawful_of}
+use Rattle.xdr_core.proofs.FormatLaws.{faults_located, lawful_of}
+use Rattle.xdr_core.proofs.Grammar.{prefix_free}
 use Rattle.xdr_core.proofs.Marks.{mark_is_read}
 use Rattle.archive_files.specs.Encoded.{FilesAreRead}
 use Rattle.archive_files.specs.Entries.{ledger_header_history_entry, transaction_history_result_entry}
@@ -64,3 +65,6 @@ results_read = file_read transaction_history_result_entry results_fact (lawful_o
 
 pub ruleset all_laws =
     (lawful_of, header_entry_laws, set_entry_laws, results_entry_laws, headers_read, sets_read, results_read)
+
+pub ruleset entry_faults =
+    (prefix_free, lawful_of, faults_located, header_entry_laws, set_entry_laws, results_entry_laws)

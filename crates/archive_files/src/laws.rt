@@ -17,6 +17,18 @@ pub fn reading_and_encoding_agree()
     ensures results { Lawful entry.transaction_history_result_entry }
 {}
 
+/// No encoding of an entry is a prefix of another of that kind. A fault of a text that ends too early is at its end,
+/// and any other stays whatever bytes follow.
+#[tactic(auto, using(crate::proofs::Reread::entry_faults))]
+pub fn faults_of_entries_are_located()
+    ensures header_prefixes { IsPrefixFree entry.ledger_header_history_entry }
+    ensures set_prefixes { IsPrefixFree entry.transaction_history_entry }
+    ensures results_prefixes { IsPrefixFree entry.transaction_history_result_entry }
+    ensures headers { LocatesFaults entry.ledger_header_history_entry }
+    ensures sets { LocatesFaults entry.transaction_history_entry }
+    ensures results { LocatesFaults entry.transaction_history_result_entry }
+{}
+
 /// What `history` writes is read as it was, and no such text is a prefix of another. A fault of a text that ends too
 /// early is at its end, and any other stays whatever bytes follow.
 #[tactic(auto, using(crate::proofs::FormLaws::all_laws))]

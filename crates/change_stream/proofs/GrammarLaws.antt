@@ -1,6 +1,8 @@
 -- The laws of the format of changes.
 use Rattle.change_stream.proofs.Prelude.{Change, refl}
-use Rattle.xdr_core.proofs.FormatLaws.{Laws, arm_laws, entire_laws, found, lawful_of, union_laws, written, ◌&◌}
+use Rattle.xdr_core.proofs.FormatLaws.{Laws, arm_laws, entire_laws, faults_located, found, lawful_of, union_laws}
+use Rattle.xdr_core.proofs.FormatLaws.{written, ◌&◌}
+use Rattle.xdr_core.proofs.Grammar.{prefix_free}
 use Rattle.xdr_core.proofs.Unions.{IsFound}
 use Rattle.xdr_entries.proofs.EntryLaws.{ledger_entry_laws}
 use Rattle.change_stream.specs.Grammar.{change_arms, change_part, created, one_change, removed, updated}
@@ -25,4 +27,4 @@ change_laws = union_laws (
 
 pub ruleset change_written = (written, change_laws)
 
-pub ruleset all_laws = (lawful_of, change_laws)
+pub ruleset all_laws = (prefix_free, lawful_of, faults_located, change_laws)

@@ -1,6 +1,6 @@
 //! The laws of changes, as contracts.
 
-ghost use Rattle.xdr_core.specs.Format.{Lawful};
+ghost use Rattle.xdr_core.specs.Format.{Lawful, IsPrefixFree, LocatesFaults};
 ghost use Rattle.change_stream.specs.Grammar.{one_change};
 ghost use Rattle.change_stream.specs.Laws as spec;
 
@@ -30,8 +30,12 @@ pub fn applying_has_one_outcome()
     ensures apart { spec.AppliesOrMisfits }
 {}
 
-/// What is read is encoded so, what is encoded so is read whatever follows, and writing puts the encoding at the end.
+/// What is read is encoded so, what is encoded so is read whatever follows, and writing puts the encoding at the end;
+/// no encoding begins another. A fault of a text that ends too early is at its end, and any other stays whatever bytes
+/// follow.
 #[tactic(auto, using(crate::proofs::GrammarLaws::all_laws))]
 pub fn reading_and_encoding_agree()
-    ensures { Lawful one_change }
+    ensures lawful { Lawful one_change }
+    ensures prefixes { IsPrefixFree one_change }
+    ensures faults { LocatesFaults one_change }
 {}

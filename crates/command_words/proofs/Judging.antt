@@ -33,12 +33,12 @@ parts_of words one other at is is' =
     (ap words_of is ∙ sym (take-map string_bytes at words), ap words_of is' ∙ sym (drop-map string_bytes at words))
 
 -- the words are cut after the first, or after the second
-abbrev CutWhere : (List (List ℕ) → List (List ℕ) → Type 0) → List (List ℕ) → Type 0
+abbrev pub CutWhere : (List (List ℕ) → List (List ℕ) → Type 0) → List (List ℕ) → Type 0
 CutWhere P words = ((1 ≤ length words) × P (take 1 words) (drop 1 words))
     ⊎ ((2 ≤ length words) × P (take 2 words) (drop 2 words))
 
 -- an option is one word or two
-cut_after : (P : List (List ℕ) → List (List ℕ) → Type 0) (name value : List ℕ) (prefix back words : List (List ℕ))
+pub cut_after : (P : List (List ℕ) → List (List ℕ) → Type 0) (name value : List ℕ) (prefix back words : List (List ℕ))
     → IsOption name value prefix → words ≡ prefix ++ back → P prefix back → CutWhere P words
 cut_after P name value prefix back words (some, inl (is, plain)) e holds =
     let entire = sym (e ∙ ap (λ ws. ws ++ back) is) in

@@ -2,6 +2,7 @@
 use Rattle.std.proofs.Common.{◌≡◌, ◌∙◌, ℕ, arith, ap, refl, sym, inl, inr, List, [], ◌∷◌, ◌++◌, length, length-append}
 use Rattle.std.proofs.Common.{append-nil, append_assoc, codes, slice_index, false, nat_eq, eq-eqb, true≢false}
 use Rattle.command_words.specs.Words.{IsOption, IsNumberOption, option_word}
+use Rattle.command_words.specs.WatchOptions.{Differ}
 
 -- texts that differ at this byte, or at their third one
 pub apart_at : {P : Type 0} (at : ℕ) (a b : List ℕ) → nat_eq (slice_index a at) (slice_index b at) ≡ false → a ≡ b → P
@@ -78,11 +79,18 @@ never_none name n words is none =
 heads_same : (a b : List ℕ) (more others : List (List ℕ)) → a ∷ more ≡ b ∷ others → a ≡ b
 heads_same a b more others e = cc
 
+-- words don't begin with options of two names that differ
+pub never_apart : (n m : List ℕ) → Differ n m → (value other : List ℕ) (prefix prefix' rest rest' : List (List ℕ))
+    → IsOption n value prefix → IsOption m other prefix' → prefix ++ rest ≡ prefix' ++ rest' → ⊥
+never_apart n m differ value other prefix prefix' rest rest' is is' e =
+    let one = first_word n value prefix is in
+    let two = first_word m other prefix' is' in
+    let same = ap (λ ws. ws ++ rest) (sym one.2) ∙ (e ∙ ap (λ ws. ws ++ rest') two.2) in
+    apart (option_word n ++ one.0) (option_word m ++ two.0) (differ one.0 two.0) (heads_same _ _ _ _ same)
+
 -- words that begin with a seed don't begin with a number of ledgers
 pub never_both : (n m : ℕ) (prefix prefix' rest rest' : List (List ℕ)) → IsNumberOption (codes "seed") n prefix
     → IsNumberOption (codes "ledgers") m prefix' → prefix ++ rest ≡ prefix' ++ rest' → ⊥
 never_both n m prefix prefix' rest rest' is is' e =
-    let seed = first_word (codes "seed") is.value prefix is.option in
-    let ledgers = first_word (codes "ledgers") is'.value prefix' is'.option in
-    let same = ap (λ ws. ws ++ rest) (sym seed.2) ∙ (e ∙ ap (λ ws. ws ++ rest') ledgers.2) in
-    apart _ _ refl (heads_same _ _ _ _ same)
+    never_apart (codes "seed") (codes "ledgers") (λ a b. refl) is.value is'.value prefix prefix' rest rest' is.option
+    is'.option e

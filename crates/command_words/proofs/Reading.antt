@@ -25,13 +25,13 @@ module _ (name : Text) (n : ℕ) (options : List Text) (is : IsNumberOption name
   value_fits : digits_value 10 is.value < 2 ^ 32
   value_fits = subst (λ m. m < 2 ^ 32) is.is fits
 
-  number_taken : IsTaken any_u32 is.value
+  pub number_taken : IsTaken any_u32 is.value
   number_taken = record {
     accepted = u32_accepts is.value is.numeral value_fits;
     read = u32_reads is.value is.numeral;
   }
 
-  number_finds : (rows : List Row) → one_of name rows ≡ Some (read_as (reading_of any_u32) is.value)
+  pub number_finds : (rows : List Row) → one_of name rows ≡ Some (read_as (reading_of any_u32) is.value)
       → FindsNumber name n rows
   number_finds rows e = (is.value, e ∙ ap (λ t. Some t) (u32_reads is.value is.numeral), is.numeral, is.is, fits)
 

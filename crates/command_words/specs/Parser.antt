@@ -25,13 +25,13 @@ sample_app number =
     with_rule (with_one (codes "sample") (number_rule number (codes "seed"))) (number_rule number (codes "ledgers"))
 
 -- the first word isn't the program's name, and no word asks for help or for a version
-abbrev pub bare_app : App
-bare_app = on_top (λ s. record s {
+abbrev pub bare_app : Text → App
+bare_app name = on_top (λ s. record s {
   no_binary_name = true;
   disable_help_flag = true;
   disable_help_subcommand = true;
   disable_version_flag = true;
-}) (new_app (codes "ledger"))
+}) (new_app name)
 
 -- the program with the commands that make ledgers, close them and show them
 abbrev pub closing_app : ValueParser → App
@@ -40,7 +40,7 @@ closing_app number =
     let run = with_one (codes "run") (number_rule number (codes "workers")) in
     let catchup = with_one (codes "catchup") (text_rule (codes "network")) in
     let show = new_app (codes "show") in
-    let two = with_subcommand (with_subcommand bare_app init.top) run.top in
+    let two = with_subcommand (with_subcommand (bare_app (codes "ledger")) init.top) run.top in
     with_subcommand (with_subcommand (with_subcommand two catchup.top) show.top) (sample_app number).top
 
 -- the program with all its commands
@@ -52,3 +52,9 @@ program_app number =
     let path = new_app (codes "path") in
     let two = with_subcommand (with_subcommand (closing_app number) history.top) changes.top in
     with_subcommand (with_subcommand two verify.top) path.top
+
+-- the program `watch`: three options, and no command
+abbrev pub watch_app : ValueParser → App
+watch_app number =
+    let network = with_rule (bare_app (codes "watch")) (text_rule (codes "network")) in
+    with_rule (with_rule network (text_rule (codes "account"))) (number_rule number (codes "readers"))

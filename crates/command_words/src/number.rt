@@ -10,7 +10,7 @@ use crate::option::option_value;
 const MOST_DIGITS: usize = 10;
 
 /// The number of a text of one to ten digits.
-fn number_of(text: &str) -> Option<u64>
+pub(crate) fn number_of(text: &str) -> Option<u64>
     ensures { MatchOption result (IsNumeral 10 text.now → length text.now ≤ 10 → ⊥)
         (λ number. IsNumeral 10 text.now × (length text.now ≤ 10) × (number ≡ digits_value 10 text.now)) }
 {

@@ -11,7 +11,7 @@ use clap::{Arg, Command, value_parser};
 use std::alloc::{AllocError, Global};
 
 /// An option whose value is any text.
-fn text_option<'a>(alloc: Global, name: &'a str) -> Arg<'a>
+pub(crate) fn text_option<'a>(alloc: Global, name: &'a str) -> Arg<'a>
     ensures rule { rule_of result ≡ text_rule name.entry.now }
     ensures local { result.global ≡ false }
 {
@@ -19,7 +19,7 @@ fn text_option<'a>(alloc: Global, name: &'a str) -> Arg<'a>
 }
 
 /// An option whose value is a number.
-fn number_option<'a>(alloc: Global, name: &'a str) -> Arg<'a>
+pub(crate) fn number_option<'a>(alloc: Global, name: &'a str) -> Arg<'a>
     ensures rule { rule_of result ≡ number_rule any_u32 name.entry.now }
     ensures local { result.global ≡ false }
 {
@@ -59,11 +59,12 @@ fn sample_command<'a>(alloc: Global) -> Result<Command<'a>, AllocError>
     number_command(alloc, "sample", "seed")?.arg(number_option(alloc, "ledgers"))
 }
 
-/// A program without commands, to which no word asks for help or for a version.
-fn bare_program<'a>(alloc: Global) -> Command<'a>
-    ensures { app_of result ≡ bare_app }
+/// A program of this name without commands, to which no word asks for help or for a version.
+pub(crate) fn bare_program<'a>(alloc: Global, name: &'a str) -> Command<'a>
+    ensures app { app_of result ≡ bare_app name.entry.now }
+    ensures local { (fields_of result).has_globals ≡ false }
 {
-    Command::new(alloc, "ledger")
+    Command::new(alloc, name)
         .no_binary_name(true)
         .disable_help_flag(true)
         .disable_help_subcommand(true)
@@ -107,7 +108,7 @@ fn with_sample<'a>(alloc: Global, program: Command<'a>) -> Result<Command<'a>, A
 fn closing_program<'a>(alloc: Global) -> Result<Command<'a>, AllocError>
     ensures { IfOk result (λ program. app_of program ≡ closing_app any_u32) }
 {
-    let bare = bare_program(alloc);
+    let bare = bare_program(alloc, "ledger");
     let with_init = with_text_command(alloc, bare, "init", "network")?;
     let with_run = with_number_command(alloc, with_init, "run", "workers")?;
     let with_catchup = with_text_command(alloc, with_run, "catchup", "network")?;

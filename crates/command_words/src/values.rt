@@ -23,14 +23,14 @@ pub(crate) fn matches_of<'a>(alloc: Global, words: &'a [String]) -> Result<ArgMa
 }
 
 /// The text of an option. Words that are a command have it where it is asked for.
-fn text_in<'a>(values: &ArgMatches<'a>, name: &str) -> &'a str
+pub(crate) fn text_in<'a>(values: &ArgMatches<'a>, name: &str) -> &'a str
     ensures { (value : Text) → FindsText name.now value (rows_of (found_of values.now)) → result.now ≡ value }
 {
     values.get_str(name).unwrap_or("")
 }
 
 /// The number of an option, or 0 where there is none.
-fn number_in(values: &ArgMatches<'_>, name: &str) -> u32
+pub(crate) fn number_in(values: &ArgMatches<'_>, name: &str) -> u32
     ensures { (number : ℕ) → FindsNumberOrNone name.now number (rows_of (found_of values.now)) → result ≡ number }
 {
     values.get_one::<u32>(name).unwrap_or(0)

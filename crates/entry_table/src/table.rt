@@ -68,6 +68,16 @@ impl EntryTable {
     {
         self.tree.entry(index)
     }
+
+    /// The same table, for one owner more.
+    pub fn share(&self) -> Result<EntryTable, AllocError>
+        ensures { IfOk result (λ table. table ≡ self.now) }
+    {
+        Ok(EntryTable {
+            tree: self.tree.share()?,
+            offers: self.offers.share()?,
+        })
+    }
 }
 
 /// The first entry above a key, if there is one.

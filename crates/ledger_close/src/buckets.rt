@@ -74,7 +74,7 @@ fn read_pair(curr: ItemList<u8>, snap: ItemList<u8>) -> Result<LevelPair, ImageF
 }
 
 /// Puts the files of a level after those of others.
-fn push_pair(pairs: &mut Vec<LevelPair>, pair: LevelPair) -> Result<(), AllocError>
+pub(crate) fn push_pair(pairs: &mut Vec<LevelPair>, pair: LevelPair) -> Result<(), AllocError>
     ensures { OnOk result (pairs.new.items ≡ pairs.old.items ++ pair ∷ []) }
 {
     pairs.push(pair)?;

@@ -11,8 +11,10 @@ mod merges;
 mod prepare;
 mod prepared;
 mod refusals;
+mod view;
 
 pub use close_laws;
 pub use close_rules::{CloseFault, ImageFault, ImageRule};
 pub use ledger::Ledger;
 pub use prepared::{DetailedClose, Prepared};
+pub use view::View;

@@ -30,7 +30,7 @@ const MAX_FILE_TOTAL: u128 = 536870912;
 
 impl Ledger {
     /// Where the ledger takes its memory.
-    fn allocator(&self) -> Global {
+    pub(crate) fn allocator(&self) -> Global {
         self.levels.pair(0).curr.allocator()
     }
 

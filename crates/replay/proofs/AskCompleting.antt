@@ -1,5 +1,5 @@
 -- What `path` answers on a volume that opens, and on one that doesn't.
-use Rattle.replay.proofs.Prelude.{◌≡◌, ℕ, List, Option, Some, IfSome, refl, subst, inl, inr, ◌⊎◌, Seen}
+use Rattle.replay.proofs.Prelude.{◌≡◌, ◌∙◌, ℕ, List, Option, Some, IfSome, refl, ap, subst, inl, inr, ◌⊎◌, Seen}
 use Rattle.replay.proofs.Prelude.{Received, SeenVolume, ClosingState, Status, Outcome, IsCutShort, OpensTo}
 use Rattle.replay.proofs.Prelude.{IsUnshown, NothingFailed}
 use Rattle.stored_outcome.specs.run_outcome.declared.status.Status.TheVariants as status
@@ -7,9 +7,10 @@ use Rattle.stored_outcome.specs.run_outcome.PathRun.{IsPathAnswer, IsPathAnswerP
 use Rattle.stored_outcome.specs.run_outcome.Run.{Answered}
 use Rattle.stored_outcome.specs.Path.{DidPath}
 use Rattle.reports.specs.Answering.{AnswersAreOne}
+use Rattle.reports.proofs.OneAnswer.{valid_answer}
 use Rattle.replay.proofs.OneState.{opens_to_one, opens_not_missing, opens_not_bad}
 use Rattle.replay.proofs.ShowCompleting.{bad_unshown, missing_unshown, neither_failed}
-use Rattle.replay.specs.PathLaws.{Queries, IsQueryFault, IsQueryGiven, IsQueryComplete, IsUnopenedAsked}
+use Rattle.replay.specs.PathLaws.{Queries, IsQueryFault, IsQueryGiven, IsQueryComplete, IsQueryDone, IsUnopenedAsked}
 
 -- ---- where it opens
 
@@ -91,6 +92,18 @@ query_complete vol s bytes input out err end did te opens is none =
     elim (given_or_fault vol input out err s bytes end did te opens is) [
       | inl given ↦ inl given
       | inr failed ↦ inr (no_fault vol input out err end none failed)
+    ]
+
+pub query_done : (vol : SeenVolume) → Queries vol (IsQueryDone vol)
+query_done vol s bytes input out err end did te opens is asked none =
+    elim (query_complete vol s bytes input out err end did te opens is none) [
+      | inl (o, answer, e, received) ↦
+          let found = valid_answer s bytes asked o answer in
+          inl (
+            e ∙ ap (λ (x : Outcome). x.status) found.2,
+            (found.0, found.1, subst (λ (x : Outcome). Received out x.text) found.2 received),
+          )
+      | inr e ↦ inr e
     ]
 
 -- ---- where it doesn't open

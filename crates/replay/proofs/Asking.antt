@@ -8,7 +8,7 @@ use Rattle.stored_outcome.specs.run_outcome.declared.status.Status.TheVariants a
 use Rattle.stored_outcome.specs.run_outcome.PathRun.{IsPathAnswer, IsPathAnswerPrefix, IsPathEnd, IsPathless}
 use Rattle.stored_outcome.specs.run_outcome.PathRun.{IsQueryAnswered}
 use Rattle.stored_outcome.specs.run_outcome.Run.{Answered}
-use Rattle.stored_outcome.specs.Path.{DidPath}
+use Rattle.stored_outcome.specs.Path.{DidPath, IsAnsweredOrUntouched}
 use Rattle.reports.proofs.Prefixes.{complete_prefix}
 use Rattle.replay.proofs.Showing.{reads_stay, unshown}
 use Rattle.replay.specs.Asking.{AnsweredOrNot, Asks}
@@ -109,6 +109,16 @@ module _ (input out : Seen) (vol : SeenVolume) (end : Status) where
   ask_end (inl (s, x)) = inl x.is_end
   ask_end (inr (i, o, b)) = unbegun_end (VolumeFailed vol) end b
 
+  answered_or_untouched : AnsweredOrNot input out vol end → IsAnsweredOrUntouched input out end
+  answered_or_untouched (inl (s, x)) = inl (s, x.answered, x.is_end)
+  answered_or_untouched (inr (i, o, b)) = inr (i, o)
+
+  -- the same with a later end, at which an answer may be cut short
+  cut_or_untouched : (after : Status) → IsCutShort after → IsPathEnd after → AnsweredOrNot input out vol end
+      → IsAnsweredOrUntouched input out after
+  cut_or_untouched after short is (inl (s, x)) = inl (s, cut_answer s input out end after short x.answered, is)
+  cut_or_untouched after short is (inr (i, o, b)) = inr (i, o)
+
 -- ---- the line
 
 module _ (input out err : Seen) (vol : SeenVolume) (end : Status) (a : Asks input out vol end) where
@@ -130,6 +140,7 @@ module _ (input out err : Seen) (vol : SeenVolume) (end : Status) (a : Asks inpu
     ];
     runs = a.runs;
     reads = stays;
+    any = answered_or_untouched input out vol end a.any;
     unopened = untouched input out vol end a.any;
     ended = at_end input out vol end a.any;
     unwritten = none_written input out vol end a.any;
@@ -150,6 +161,7 @@ module _ (input out err : Seen) (vol : SeenVolume) (end : Status) (a : Asks inpu
     ];
     runs = a.runs;
     reads = stays;
+    any = cut_or_untouched input out vol end status.WriteFault tt tt a.any;
     unopened = λ un. absurd un;
     ended = λ e. absurd cc;
     unwritten = λ h. absurd h;
@@ -171,6 +183,7 @@ module _ (input out err : Seen) (vol : SeenVolume) (end : Status) (a : Asks inpu
     ];
     runs = a.runs;
     reads = stays;
+    any = cut_or_untouched input out vol end status.NoMemory tt tt a.any;
     unopened = λ un. absurd un;
     ended = λ e. absurd cc;
     unwritten = λ h. absurd h;

@@ -1,5 +1,5 @@
 -- What runs answer that write a file.
-use Rattle.replay.proofs.Prelude.{◌≡◌, ◌⊎◌, ℕ, List, Option, Some, IfSome, refl, subst, inl, inr, Seen, Status}
+use Rattle.replay.proofs.Prelude.{◌≡◌, ◌⊎◌, ℕ, List, Option, Some, IfSome, refl, subst, inl, inr, Seen, Failed, Status}
 use Rattle.stored_outcome.specs.run_outcome.declared.status.Status.TheVariants as status
 use Rattle.stored_outcome.specs.run_outcome.FileRun.{DidWriteFile, FileKind, FileOutcome, IsFileAnswer, IsFileCut}
 use Rattle.stored_outcome.specs.run_outcome.FileRun.{IsFileOutcome}
@@ -31,41 +31,49 @@ answer_of kind passphrase bytes input out err end did reported =
     subst (λ (before : Option (List ℕ)). IfSome before
     (λ x. IsFileAnswer (IsFileOutcome kind passphrase x) out err end)) reported did.answered
 
-complete_by : (kind : FileKind) (passphrase bytes : List ℕ) (input out err : Seen) (end : Status)
-    → DidWriteFile kind passphrase input out err end → NoneFailed input out err
-    → IsFileAnswer (IsFileOutcome kind passphrase bytes) out err end
-    → ((o : FileOutcome) × IsFileOutcome kind passphrase bytes o × IsAnsweredWith o out err end)
-    ⊎ (end ≡ status.NoMemory)
-complete_by kind passphrase bytes input out err end did none (inl (o, is, e, text, line)) = inl (o, is, (e, text, line))
-complete_by kind passphrase bytes input out err end did none (inr (inl h)) = absurd (none.no_read (did.read_fault h.0))
-complete_by kind passphrase bytes input out err end did none (inr (inr h)) = elim (cut_by end h.0) [
-  | inl e ↦ elim (did.write_fault e) [
+-- a fault of a stream is answered only where its count rose
+pub record HasCauses (input out err : Seen) (end : Status) : Type 0 where
+  pub read_fault : end ≡ status.ReadFault → Failed input
+  pub write_fault : end ≡ status.WriteFault → Failed out ⊎ Failed err
+
+pub complete_by : (IsOne : FileOutcome → Type 0) (input out err : Seen) (end : Status) → HasCauses input out err end
+    → NoneFailed input out err → IsFileAnswer IsOne out err end
+    → ((o : FileOutcome) × IsOne o × IsAnsweredWith o out err end) ⊎ (end ≡ status.NoMemory)
+complete_by IsOne input out err end has none (inl (o, is, e, text, line)) = inl (o, is, (e, text, line))
+complete_by IsOne input out err end has none (inr (inl h)) = absurd (none.no_read (has.read_fault h.0))
+complete_by IsOne input out err end has none (inr (inr h)) = elim (cut_by end h.0) [
+  | inl e ↦ elim (has.write_fault e) [
     | inl failed ↦ absurd (none.no_write failed)
     | inr failed ↦ absurd (none.no_line failed)
   ]
   | inr e ↦ inr e
 ]
 
+causes_of : (kind : FileKind) (passphrase : List ℕ) (input out err : Seen) (end : Status)
+    → DidWriteFile kind passphrase input out err end → HasCauses input out err end
+causes_of kind passphrase input out err end did =
+    record { read_fault = did.read_fault; write_fault = did.write_fault }
+
 pub writings_complete : (kind : FileKind) → Writings kind (IsWritingComplete kind)
 writings_complete kind passphrase bytes input out err end did reported none =
-    complete_by kind passphrase bytes input out err end did none
+    complete_by (IsFileOutcome kind passphrase bytes) input out err end
+    (causes_of kind passphrase input out err end did) none
     (answer_of kind passphrase bytes input out err end did reported)
 
-answered_by : (kind : FileKind) → IsDetermined kind → (passphrase bytes : List ℕ) (input out err : Seen)
-    (end : Status) → DidWriteFile kind passphrase input out err end → (o : FileOutcome)
-    → IsFileOutcome kind passphrase bytes o → IsFileAnswer (IsFileOutcome kind passphrase bytes) out err end
-    → IsAnsweredWith o out err end ⊎ IsWritingFault input out err end
-answered_by kind det passphrase bytes input out err end did o one (inl (p, is, e, text, line)) =
-    inl (subst (λ (x : FileOutcome). IsAnsweredWith x out err end) (one_outcome kind det passphrase bytes p o is one)
-    (e, text, line))
-answered_by kind det passphrase bytes input out err end did o one (inr (inl h)) =
-    inr (inl (h.0, did.read_fault h.0))
-answered_by kind det passphrase bytes input out err end did o one (inr (inr h)) = elim (cut_by end h.0) [
-  | inl e ↦ inr (inr (inl (e, did.write_fault e)))
+pub answered_by : (IsOne : FileOutcome → Type 0) → ((a b : FileOutcome) → IsOne a → IsOne b → a ≡ b)
+    → (input out err : Seen) (end : Status) → HasCauses input out err end → (o : FileOutcome) → IsOne o
+    → IsFileAnswer IsOne out err end → IsAnsweredWith o out err end ⊎ IsWritingFault input out err end
+answered_by IsOne same input out err end has o one (inl (p, is, e, text, line)) =
+    inl (subst (λ (x : FileOutcome). IsAnsweredWith x out err end) (same p o is one) (e, text, line))
+answered_by IsOne same input out err end has o one (inr (inl h)) = inr (inl (h.0, has.read_fault h.0))
+answered_by IsOne same input out err end has o one (inr (inr h)) = elim (cut_by end h.0) [
+  | inl e ↦ inr (inr (inl (e, has.write_fault e)))
   | inr e ↦ inr (inr (inr e))
 ]
 
 pub writings_answered : (kind : FileKind) → IsDetermined kind → Writings kind (IsWritingAnswered kind)
 writings_answered kind det passphrase bytes input out err end did reported o one =
-    answered_by kind det passphrase bytes input out err end did o one
+    answered_by (IsFileOutcome kind passphrase bytes)
+    (λ a b h i. one_outcome kind det passphrase bytes a b h i) input out err end
+    (causes_of kind passphrase input out err end did) o one
     (answer_of kind passphrase bytes input out err end did reported)

@@ -20,6 +20,7 @@ pub mod Starts
 pub mod WritingFiles
 pub mod OneFile
 pub mod FilesAnswered
+pub mod AllClosed
 pub mod Tellings
 pub mod StoredTellings
 pub mod LineEnds

@@ -10,7 +10,7 @@ use Rattle.stored_outcome.specs.close_rules.xdr_header.declared.record.CloseReco
 use Rattle.stored_outcome.specs.run_outcome.declared.status.Status.TheVariants as status
 use Rattle.stored_outcome.specs.run_outcome.Closes.{AreClosesOf, IsCloseOf, RecordClose}
 use Rattle.stored_outcome.specs.run_outcome.FileRun.{FileKind, FileOutcome, IsFileEnd, IsFileOutcome, IsFileOutcomeOf}
-use Rattle.stored_outcome.specs.run_outcome.FileRun.{IsFileRun, IsFileStarted, IsFileStop, refused_with, with_file}
+use Rattle.stored_outcome.specs.run_outcome.FileRun.{IsFileRun, IsFileStarted, IsFileStop, with_file}
 use Rattle.reports.proofs.Marking.{framed_is_read, read_mark}
 use Rattle.replay.proofs.Runs.{AreShort, framed_apart, not_both, nothing_framed, same_close, same_refusal}
 use Rattle.reports.proofs.OneKind.{IsDetermined}
@@ -24,7 +24,7 @@ read_of r = r
 record_of : (a b : CloseRecord) → read_of (Ok a) ≡ Ok b → a ≡ b
 record_of a b e = cc
 
-same_record_close : (s : ClosingState) (bytes : List ℕ) (c d : RecordClose) → IsCloseOf s bytes c
+pub same_record_close : (s : ClosingState) (bytes : List ℕ) (c d : RecordClose) → IsCloseOf s bytes c
     → IsCloseOf s bytes d → c ≡ d
 same_record_close s bytes c d h i =
     let befores : c.before ≡ d.before = h.before ∙ sym i.before in
@@ -44,7 +44,7 @@ same_file_stop : (kind : FileKind) (closes : List RecordClose) (s : ClosingState
     (a b : FileOutcome) → IsFileStop kind closes s r a → IsFileStop kind closes s r b → a ≡ b
 same_file_stop kind closes s (Err wrong) a b h i = h ∙ sym i
 same_file_stop kind closes s (Ok x) a b (inl h) (inl i) =
-    h.2 ∙ ap (λ (w : CloseFault). refused_with s.header w) (same_refusal s x.0 h.0 i.0 h.1 i.1) ∙ sym i.2
+    h.2 ∙ ap (λ (w : CloseFault). kind.refused s.header w) (same_refusal s x.0 h.0 i.0 h.1 i.1) ∙ sym i.2
 same_file_stop kind closes s (Ok x) a b (inl h) (inr i) = absurd (not_both s x.0 i.0.closed h.0 i.1.closes h.1)
 same_file_stop kind closes s (Ok x) a b (inr h) (inl i) = absurd (not_both s x.0 h.0.closed i.0 h.1.closes i.1)
 same_file_stop kind closes s (Ok x) a b (inr h) (inr i) = h.3 ∙ sym i.3
@@ -58,7 +58,7 @@ same_file_end kind det start closes s at (byte ∷ rest) a b h i =
     same_file_stop kind closes s (read_mark (record { at = at; rest = byte ∷ rest })) a b h i
 
 -- a record at the start of what is left stops the run: it doesn't close the ledger, or the close is too large
-stop_at : (kind : FileKind) (start : ClosingState) (closes : List RecordClose) (s : ClosingState) (at : ℕ)
+pub stop_at : (kind : FileKind) (start : ClosingState) (closes : List RecordClose) (s : ClosingState) (at : ℕ)
     (text bytes rest : List ℕ) (o : FileOutcome) → IsFileEnd kind start closes s at text o → text ≡ framed bytes ++ rest
     → length bytes ≤ max_record_len
     → IsFileStop kind closes s (Ok (bytes, record { at = at + length (framed bytes); rest = rest })) o
@@ -67,7 +67,7 @@ stop_at kind start closes s at (byte ∷ more) bytes rest o h e short =
     let r = ap (λ (t : List ℕ). read_mark (record { at = at; rest = t })) e ∙ framed_is_read at bytes rest short in
     subst (λ (x : Reading XdrFault (List ℕ)). IsFileStop kind closes s x o) r h
 
-no_stop : (kind : FileKind) → IsDetermined kind → (closes : List RecordClose) (s : ClosingState) (bytes : List ℕ)
+pub no_stop : (kind : FileKind) → IsDetermined kind → (closes : List RecordClose) (s : ClosingState) (bytes : List ℕ)
     (q : Position) (o : FileOutcome) (c : RecordClose) (more : List RecordClose)
     → IsFileStop kind closes s (Ok (bytes, q)) o → IsCloseOf s bytes c → kind.AreSmall (closes ++ c ∷ more) → ⊥
 no_stop kind det closes s bytes q o c more (inl h) is small = not_both s bytes c.closed h.0 is.closes h.1
@@ -89,7 +89,7 @@ pub record Rest (kind : FileKind) (start : ClosingState) (before : List RecordCl
   pub ends : IsFileEnd kind start (before ++ closes) state (at + length (frames records)) rest o
 
 -- nothing is left but the end
-at_its_end : (kind : FileKind) (start : ClosingState) (before : List RecordClose) (s : ClosingState) (at : ℕ)
+pub at_its_end : (kind : FileKind) (start : ClosingState) (before : List RecordClose) (s : ClosingState) (at : ℕ)
     (text : List ℕ) (o : FileOutcome) → Rest kind start before s at text [] [] o
     → IsFileEnd kind start before s at text o
 at_its_end kind start before s at text o h =
@@ -99,7 +99,7 @@ at_its_end kind start before s at text o h =
     let third = subst (λ (n : ℕ). IsFileEnd kind start before s n h.rest o) (add-zero at) second in
     subst (λ (t : List ℕ). IsFileEnd kind start before s at t o) (sym h.cut) third
 
-after_first : (kind : FileKind) (start : ClosingState) (before : List RecordClose) (s : ClosingState) (at : ℕ)
+pub after_first : (kind : FileKind) (start : ClosingState) (before : List RecordClose) (s : ClosingState) (at : ℕ)
     (text w others : List ℕ) (records : List (List ℕ)) (c : RecordClose) (closes : List RecordClose) (o : FileOutcome)
     → (h : Rest kind start before s at text (w ∷ records) (c ∷ closes) o) → others ≡ frames records ++ h.rest
     → Rest kind start (before ++ c ∷ []) c.closed.state (at + length (framed w)) others records closes o
@@ -165,7 +165,7 @@ same_rest kind det start before s at text (v ∷ vs) [] others more a b h i = ab
 same_rest kind det start before s at text records closes [] (d ∷ ds) a b h i = absurd i.closed
 same_rest kind det start before s at text records closes (w ∷ ws) [] a b h i = absurd i.closed
 
-rest_of : (kind : FileKind) (s : ClosingState) (p : Position) (o : FileOutcome) (run : IsFileRun kind s p o)
+pub rest_of : (kind : FileKind) (s : ClosingState) (p : Position) (o : FileOutcome) (run : IsFileRun kind s p o)
     → Rest kind s [] s p.at p.rest run.records run.closes o
 rest_of kind s p o run = record {
   rest = run.rest;

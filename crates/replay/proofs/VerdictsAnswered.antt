@@ -1,13 +1,15 @@
 -- Where nothing failed a run of `verify` is complete, and a verdict is answered unless something failed.
-use Rattle.replay.proofs.Prelude.{◌≡◌, ℕ, List, Option, Some, IfSome, subst, inl, inr, ◌⊎◌, Seen, Received, Status}
+use Rattle.replay.proofs.Prelude.{◌≡◌, ◌∙◌, ℕ, List, Option, Some, IfSome, ap, subst, inl, inr, ◌⊎◌, Seen, Received}
+use Rattle.replay.proofs.Prelude.{Status}
 use Rattle.replay.proofs.Prelude.{IsCutShort, Outcome, Answered, SeenVolume, Command, Parses, commands_are_one}
-use Rattle.replay.proofs.Prelude.{DidNothing, RanAs, Ran, refl}
+use Rattle.replay.proofs.Prelude.{DidNothing, Ok, RanAs, Ran, refl}
 use Rattle.stored_outcome.specs.run_outcome.declared.status.Status.TheVariants as status
 use Rattle.stored_outcome.specs.run_outcome.VerifyRun.{DidVerify, IsVerdict, IsVerdictPrefix, IsVerifyEnd}
 use Rattle.command_words.specs.Words.{Verify}
-use Rattle.reports.proofs.OneVerdict.{verdicts_are_one}
+use Rattle.stored_outcome.specs.run_outcome.VerifyRun.{verdict_outcome}
+use Rattle.reports.proofs.OneVerdict.{chain_verdict, verdicts_are_one}
 use Rattle.replay.specs.Completeness.{NoneFailed}
-use Rattle.replay.specs.VerifyLaws.{Verifications, VerifyRuns, IsVerifyComplete, IsVerifyAnswered}
+use Rattle.replay.specs.VerifyLaws.{Verifications, VerifyRuns, IsVerifyComplete, IsVerifyAnswered, IsVerifyDone}
 use Rattle.replay.proofs.Completing.{Failing, only_memory}
 
 -- the run that the words ask for
@@ -70,8 +72,21 @@ pub verifications_complete : Verifications IsVerifyComplete
 verifications_complete bytes input out err end did reported none =
     complete bytes input out err end did none (answered_to bytes input out err end did reported)
 
+pub verifications_done : Verifications IsVerifyDone
+verifications_done bytes input out err end did reported chain none =
+    elim (verifications_complete bytes input out err end did reported none) [
+      | inl (o, is, e, received) ↦
+          let same : o ≡ verdict_outcome (Ok chain.verified) =
+          verdicts_are_one bytes o (verdict_outcome (Ok chain.verified)) is (chain_verdict bytes chain) in
+          inl (e ∙ ap (λ (x : Outcome). x.status) same, subst (λ (x : Outcome). Received out x.text) same received)
+      | inr e ↦ inr e
+    ]
+
 pub verify_runs_answered : (vol : SeenVolume) → VerifyRuns vol IsVerifyAnswered
 verify_runs_answered vol = runs_of vol IsVerifyAnswered verifications_answered
 
 pub verify_runs_complete : (vol : SeenVolume) → VerifyRuns vol IsVerifyComplete
 verify_runs_complete vol = runs_of vol IsVerifyComplete verifications_complete
+
+pub verify_runs_done : (vol : SeenVolume) → VerifyRuns vol IsVerifyDone
+verify_runs_done vol = runs_of vol IsVerifyDone verifications_done

@@ -1,9 +1,18 @@
--- What runs answer that write a file: where nothing failed, and the outcome of their input.
-use Rattle.std.specs.Prelude.{◌≡◌, ◌⊎◌, ℕ, List, Some}
+-- What runs answer that write a file: where nothing failed, where all records are accepted, and the outcome of their
+-- input.
+use Rattle.std.specs.Prelude.{◌≡◌, ◌⊎◌, ℕ, ◌≤◌, List, length, All, Some, Ok}
+use Rattle.xdr_core.specs.Position.{Position, start_of}
+use Rattle.xdr_header.specs.declared.image.StartImage.{StartImage}
+use Rattle.xdr_header.specs.Image.{start_image}
+use Rattle.hash_ids.specs.Ids.{network_id_of}
+use Rattle.stored_outcome.specs.close_rules.State.{ClosingState}
+use Rattle.stored_outcome.specs.close_rules.Images.{IsJudged}
 use Rattle.stored_outcome.specs.run_streams.Seen.{Seen, Failed, Received}
+use Rattle.stored_outcome.specs.run_outcome.Closes.{RecordClose, AreClosesOf}
+use Rattle.stored_outcome.specs.run_outcome.Outcome.{frames, max_record_len}
 use Rattle.stored_outcome.specs.run_outcome.declared.status.Status.{Status}
 use Rattle.stored_outcome.specs.run_outcome.declared.status.Status.TheVariants as status
-use Rattle.stored_outcome.specs.run_outcome.FileRun.{DidWriteFile, FileKind, FileOutcome, IsFileOutcome}
+use Rattle.stored_outcome.specs.run_outcome.FileRun.{DidWriteFile, FileKind, FileOutcome, IsFileOutcome, with_file}
 use Rattle.replay.specs.Completeness.{NoneFailed}
 
 -- a claim of each run that writes a file of this kind
@@ -39,3 +48,24 @@ IsWritingAnswered kind passphrase bytes input out err end = (o : FileOutcome) �
 abbrev pub FileOutcomesAreOne : FileKind → Type 0
 FileOutcomesAreOne kind = (passphrase bytes : List ℕ) (a b : FileOutcome) → IsFileOutcome kind passphrase bytes a
     → IsFileOutcome kind passphrase bytes b → a ≡ b
+
+-- ---- where all records are accepted
+
+-- a legal image, and after it records that all close ledgers
+pub record AreAllClosed (passphrase bytes : List ℕ) (start : ClosingState) (closes : List RecordClose) : Type 0 where
+  pub image : StartImage
+  pub position : Position
+  pub reads : start_image.read (start_of bytes) ≡ Ok (image, position)
+  pub judged : IsJudged (network_id_of passphrase) image (Ok start)
+  pub records : List (List ℕ)
+  pub cut : position.rest ≡ frames records
+  pub short : All (λ record_bytes. length record_bytes ≤ max_record_len) records
+  pub now : ClosingState
+  pub closed : AreClosesOf start records closes now
+
+-- where none of the closes was too large, all is done and their file is complete, or memory was refused
+abbrev pub IsWritingDone : FileKind → (passphrase bytes : List ℕ) → (input out err : Seen) → (end : Status) → Type 0
+IsWritingDone kind passphrase bytes input out err end = (start : ClosingState) (closes : List RecordClose)
+    → AreAllClosed passphrase bytes start closes → kind.AreSmall closes → NoneFailed input out err
+    → ((text : List ℕ) × kind.IsText start closes text × IsAnsweredWith (with_file text) out err end)
+    ⊎ (end ≡ status.NoMemory)

@@ -10,6 +10,7 @@ use Rattle.stored_outcome.specs.run_outcome.PathRun.{IsPathAnswer}
 use Rattle.image_store.specs.Opening.{HoldsNothing}
 use Rattle.stored_outcome.specs.Opening.{OpensTo, IsBadStore}
 use Rattle.stored_outcome.specs.Path.{DidPath}
+use Rattle.reports.specs.Answering.{IsValidQuery, WroteFound}
 use Rattle.replay.specs.CommandLaws.{IsShowFault}
 use Rattle.replay.specs.StoredLaws.{NothingFailed}
 
@@ -36,6 +37,11 @@ IsQueryGiven vol s bytes input out err end = (o : Outcome) → IsPathAnswer s by
 abbrev pub IsQueryComplete : SeenVolume → ClosingState → (bytes : List ℕ) → (input out err : Seen) → Status → Type 0
 IsQueryComplete vol s bytes input out err end = NothingFailed input out err vol
     → ((o : Outcome) × IsPathAnswer s bytes o × (end ≡ o.status) × Received out o.text) ⊎ (end ≡ status.NoMemory)
+
+-- where nothing is wrong with the query and nothing failed, what the ledger finds is written, or memory was refused
+abbrev pub IsQueryDone : SeenVolume → ClosingState → (bytes : List ℕ) → (input out err : Seen) → Status → Type 0
+IsQueryDone vol s bytes input out err end = (asked : IsValidQuery bytes) → NothingFailed input out err vol
+    → ((end ≡ status.Done) × WroteFound s asked.query out) ⊎ (end ≡ status.NoMemory)
 
 -- where a volume has no store, or a bad one, that is answered
 abbrev pub IsUnopenedAsked : SeenVolume → Type 0

@@ -1,12 +1,13 @@
--- What runs of `verify` answer, as they are run by the words or alone: where nothing failed, and where an outcome is
--- another one.
+-- What runs of `verify` answer, as they are run by the words or alone: where nothing failed, where the input is a
+-- chain, and where the outcome is another one.
 use Rattle.std.specs.Prelude.{◌≡◌, List, ℕ, Some, ◌⊎◌}
 use Rattle.stored_outcome.specs.run_streams.Seen.{Seen, Failed, Received}
 use Rattle.stored_outcome.specs.run_streams.SeenVolume.{SeenVolume}
 use Rattle.stored_outcome.specs.run_outcome.declared.status.Status.{Status}
 use Rattle.stored_outcome.specs.run_outcome.declared.status.Status.TheVariants as status
 use Rattle.stored_outcome.specs.run_outcome.Outcome.{Outcome}
-use Rattle.stored_outcome.specs.run_outcome.VerifyRun.{DidVerify, IsVerdict}
+use Rattle.stored_outcome.specs.run_outcome.VerifyRun.{DidVerify, IsVerdict, verified_line}
+use Rattle.reports.specs.HistoryInput.{IsChain}
 use Rattle.command_words.specs.Words.{Verify, Parses}
 use Rattle.stored_outcome.specs.Program.{DidNothing, Ran}
 use Rattle.replay.specs.Completeness.{NoneFailed}
@@ -30,6 +31,11 @@ VerifyRuns vol P = (words : List (List ℕ)) (bytes : List ℕ) (input out err :
 abbrev pub IsVerifyComplete : (bytes : List ℕ) → (input out err : Seen) → (end : Status) → Type 0
 IsVerifyComplete bytes input out err end = NoneFailed input out err
     → ((o : Outcome) × IsVerdict bytes o × (end ≡ o.status) × Received out o.text) ⊎ (end ≡ status.NoMemory)
+
+-- where the input is a chain, and nothing failed, that is written, or memory was refused
+abbrev pub IsVerifyDone : (bytes : List ℕ) → (input out err : Seen) → (end : Status) → Type 0
+IsVerifyDone bytes input out err end = (chain : IsChain bytes) → NoneFailed input out err
+    → ((end ≡ status.Done) × Received out (verified_line chain.verified)) ⊎ (end ≡ status.NoMemory)
 
 -- a verdict is answered with its status and line, unless a stream failed or memory was refused
 abbrev pub IsVerifyAnswered : (bytes : List ℕ) → (input out err : Seen) → (end : Status) → Type 0

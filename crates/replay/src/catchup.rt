@@ -6,7 +6,7 @@ ghost use Rattle.replay.specs.Starting.{CaughtUp};
 use crate::closes::follow;
 use crate::crew::Nobody;
 use crate::nowhere::Nowhere;
-use crate::start::{Started, start};
+use crate::starting::{Started, start};
 use outside::{MemVolume, Sink, Source, Steps};
 use std::alloc::Global;
 use std::sync::ledger::Ledger as Count;

@@ -8,15 +8,15 @@ ghost use Rattle.stored_outcome.specs.run_outcome.ChangesRun.{changes_file};
 ghost use Rattle.stored_outcome.specs.run_outcome.Statuses.{status_code};
 ghost use Rattle.stored_outcome.specs.run_outcome.declared.status.Status.{Status};
 
-use crate::start::{Started, start};
+use crate::starting::{Started, start};
 use outside::{Sink, Source, Steps};
-use reports::{report, write_changes, write_history};
+use reports::{ChangeRecords, ClosesFile, StatedHistory, report, write_closes};
 use std::alloc::Global;
 use std::sync::ledger::Ledger as Count;
 use stored_outcome::run_outcome::Status;
 
-/// Runs `history`, with its line on standard error.
-pub(crate) fn history<I: Source, O: Sink, E: Sink, L: Count>(
+/// Runs a command that writes a file of its closes, with its line on standard error.
+pub(crate) fn write_file<F: ClosesFile, I: Source, O: Sink, E: Sink, L: Count>(
     alloc: Global,
     passphrase: &str,
     input: &mut I,
@@ -24,53 +24,21 @@ pub(crate) fn history<I: Source, O: Sink, E: Sink, L: Count>(
     err: &mut E,
     steps: &mut Steps<L>,
 ) -> Status
-    ensures { DidWriteFile history_file passphrase.now (seen I.left I.faults input.old input.new)
+    ensures { DidWriteFile F.kind passphrase.now (seen I.left I.faults input.old input.new)
         (seen O.taken O.faults out.old out.new) (seen E.taken E.faults err.old err.new) result }
 {
     let mut ahead = Vec::new(alloc);
     match start(alloc, passphrase, input, &mut ahead) {
-        Ok(Started { mut ledger, at }) => {
-            write_history(
-                alloc,
-                &mut ledger,
-                at as u128,
-                input,
-                &mut ahead,
-                out,
-                err,
-                steps,
-            )
-        }
-        Err(end) => report(alloc, end, err),
-    }
-}
-
-/// Runs `changes`, with its line on standard error.
-pub(crate) fn changes<I: Source, O: Sink, E: Sink, L: Count>(
-    alloc: Global,
-    passphrase: &str,
-    input: &mut I,
-    out: &mut O,
-    err: &mut E,
-    steps: &mut Steps<L>,
-) -> Status
-    ensures { DidWriteFile changes_file passphrase.now (seen I.left I.faults input.old input.new)
-        (seen O.taken O.faults out.old out.new) (seen E.taken E.faults err.old err.new) result }
-{
-    let mut ahead = Vec::new(alloc);
-    match start(alloc, passphrase, input, &mut ahead) {
-        Ok(Started { mut ledger, at }) => {
-            write_changes(
-                alloc,
-                &mut ledger,
-                at as u128,
-                input,
-                &mut ahead,
-                out,
-                err,
-                steps,
-            )
-        }
+        Ok(Started { mut ledger, at }) => write_closes::<F, I, O, E, L>(
+            alloc,
+            &mut ledger,
+            at as u128,
+            input,
+            &mut ahead,
+            out,
+            err,
+            steps,
+        ),
         Err(end) => report(alloc, end, err),
     }
 }
@@ -89,7 +57,7 @@ pub fn do_history<I: Source, O: Sink, E: Sink, L: Count>(
         × DidWriteFile history_file network.now (seen I.left I.faults input.old input.new)
         (seen O.taken O.faults out.old out.new) (seen E.taken E.faults err.old err.new) end) }
 {
-    history(alloc, network, input, out, err, steps).code()
+    write_file::<StatedHistory, I, O, E, L>(alloc, network, input, out, err, steps).code()
 }
 
 /// Runs `changes` on the network with this passphrase: it closes a ledger in memory for each record after a start
@@ -107,5 +75,5 @@ pub fn do_changes<I: Source, O: Sink, E: Sink, L: Count>(
         × DidWriteFile changes_file network.now (seen I.left I.faults input.old input.new)
         (seen O.taken O.faults out.old out.new) (seen E.taken E.faults err.old err.new) end) }
 {
-    changes(alloc, network, input, out, err, steps).code()
+    write_file::<ChangeRecords, I, O, E, L>(alloc, network, input, out, err, steps).code()
 }

@@ -10,7 +10,7 @@ ghost use Rattle.stored_outcome.specs.Init.{InitLeft};
 ghost use Rattle.replay.specs.Starting.{IsJudgedSo};
 ghost use Rattle.replay.specs.Initing as spec;
 
-use crate::start::{PrefixImage, judge, read_image};
+use crate::starting::{PrefixImage, judge, read_image};
 use hash_ids::network_id;
 use image_store::{Store, StoreFault};
 use item_list::ItemList;

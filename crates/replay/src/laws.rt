@@ -124,10 +124,13 @@ pub fn shows_are_answered<V: Volume>(old: &V, new: &V)
 {}
 
 /// What `path` answers on a volume that opens: the one answer of its ledger to the input, unless a count of faults rose
-/// or memory was refused. On one that doesn't open it answers why.
+/// or memory was refused; so what the ledger finds, where nothing is wrong with the query. On one that doesn't open it
+/// answers why.
 pub fn paths_are_answered<V: Volume>(old: &V, new: &V)
     ensures complete { query.Queries (seen_volume V.reports V.disk V.faults old.now new.now)
         (query.IsQueryComplete (seen_volume V.reports V.disk V.faults old.now new.now)) }
+    ensures done { query.Queries (seen_volume V.reports V.disk V.faults old.now new.now)
+        (query.IsQueryDone (seen_volume V.reports V.disk V.faults old.now new.now)) }
     ensures answered { query.Queries (seen_volume V.reports V.disk V.faults old.now new.now)
         (query.IsQueryGiven (seen_volume V.reports V.disk V.faults old.now new.now)) }
     ensures unopened { query.IsUnopenedAsked (seen_volume V.reports V.disk V.faults old.now new.now) }
@@ -146,13 +149,16 @@ pub fn samples_are_answered()
 }
 
 /// An input of `verify` has one verdict. It is answered with its status and line, unless a count of faults rose or
-/// memory was refused.
+/// memory was refused; so what is a chain is verified.
 pub fn verdicts_are_answered<V: Volume>(old: &V, new: &V)
     ensures one { verify.VerdictsAreOne }
     ensures complete { verify.Verifications verify.IsVerifyComplete }
+    ensures done { verify.Verifications verify.IsVerifyDone }
     ensures answered { verify.Verifications verify.IsVerifyAnswered }
     ensures complete_runs { verify.VerifyRuns (seen_volume V.reports V.disk V.faults old.now new.now)
         verify.IsVerifyComplete }
+    ensures done_runs { verify.VerifyRuns (seen_volume V.reports V.disk V.faults old.now new.now)
+        verify.IsVerifyDone }
     ensures answered_runs { verify.VerifyRuns (seen_volume V.reports V.disk V.faults old.now new.now)
         verify.IsVerifyAnswered }
 {}
@@ -171,15 +177,18 @@ pub fn file_outcomes_are_one()
 {}
 
 /// What `history` answers: where no stream's count of faults rose it is the outcome of its input, with its text and its
-/// line, or an allocation failure. Each outcome is answered, but where a count rose or memory was refused.
+/// line, or an allocation failure; so the files of all closes are written where all records close ledgers and none is
+/// too large. Each outcome is answered, but where a count rose or memory was refused.
 pub fn histories_are_answered()
     ensures complete { file.Writings history_file (file.IsWritingComplete history_file) }
+    ensures done { file.Writings history_file (file.IsWritingDone history_file) }
     ensures answered { file.Writings history_file (file.IsWritingAnswered history_file) }
 {}
 
-/// The same of `changes`.
+/// The same of `changes`, for which no close is too large.
 pub fn changes_are_answered()
     ensures complete { file.Writings changes_file (file.IsWritingComplete changes_file) }
+    ensures done { file.Writings changes_file (file.IsWritingDone changes_file) }
     ensures answered { file.Writings changes_file (file.IsWritingAnswered changes_file) }
 {}
 

@@ -16,7 +16,7 @@ mod path;
 mod run;
 mod sample;
 mod show;
-mod start;
+mod starting;
 mod stored;
 mod stored_run;
 mod verify;
@@ -27,5 +27,6 @@ pub use run::{
     do_catchup, do_init, do_run_alone, do_run_with, do_sample, do_show, end_without_memory,
     run_program,
 };
+pub use starting::{Started, start};
 pub use verify::do_verify;
 pub use worker_merges::{adopt, post_due};

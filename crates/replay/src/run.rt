@@ -17,7 +17,7 @@ ghost use Rattle.stored_outcome.specs.Program.{Ran, RanAs};
 
 use crate::beside::run_beside;
 use crate::catchup::catch_up;
-use crate::files::{changes, history};
+use crate::files::write_file;
 use crate::init::make;
 use crate::path::path;
 use crate::sample::sample;
@@ -26,7 +26,7 @@ use crate::stored_run::run_stored;
 use crate::verify::verify_reported;
 use command_words::{Command, read_command};
 use outside::{Gate, Sink, Source, Steps, Volume};
-use reports::{report, report_no_memory, report_usage};
+use reports::{ChangeRecords, StatedHistory, report, report_no_memory, report_usage};
 use std::alloc::Global;
 use std::sync::Wait;
 use std::sync::ledger::Ledger as Count;
@@ -171,8 +171,12 @@ fn run_command<R: Threads + Wait + Sync, I: Source, O: Sink, E: Sink, V: Volume,
         Command::Sample { seed, ledgers } => sample_reported(alloc, seed, ledgers, out, err, steps),
         Command::Verify => verify_reported(alloc, input, out, err),
         Command::Path => path(alloc, input, out, err, vol, steps),
-        Command::History { passphrase } => history(alloc, passphrase, input, out, err, steps),
-        Command::Changes { passphrase } => changes(alloc, passphrase, input, out, err, steps),
+        Command::History { passphrase } => {
+            write_file::<StatedHistory, I, O, E, L>(alloc, passphrase, input, out, err, steps)
+        }
+        Command::Changes { passphrase } => {
+            write_file::<ChangeRecords, I, O, E, L>(alloc, passphrase, input, out, err, steps)
+        }
     }
 }
 
@@ -202,8 +206,9 @@ fn run<R: Threads + Wait + Sync, I: Source, O: Sink, E: Sink, V: Volume, G: Gate
 /// Runs the command of the words and answers the exit status of the process. `init` reads a start image, and makes a
 /// store of it on the volume. `run` opens that store, closes a ledger for each record of the input, keeps the record,
 /// and prints what it yielded; with workers, merges are made beside it, each after the gate. `catchup` does so for the
-/// records after a start image, in memory alone. `show` prints the ledger of the store, and `sample` closes ledgers
-/// that are made from a number. It waits for its workers.
+/// records after a start image, in memory alone; `history` writes the files of an archive of these closes, and
+/// `changes` what they change of the entries. `verify` judges such files. `show` prints the ledger of the store, `path`
+/// answers a query from it, and `sample` closes ledgers that are made from a number. It waits for its workers.
 pub fn run_program<
     R: Threads + Wait + Sync,
     I: Source,

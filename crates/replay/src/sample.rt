@@ -10,7 +10,7 @@ ghost use Rattle.reports.specs.Ends.{Wrote};
 ghost use Rattle.replay.specs.Sampling.{HasReached, Advances, Samples};
 
 use crate::closes::refuse;
-use crate::start::judge;
+use crate::starting::judge;
 use outside::{Sink, Steps};
 use reports::write_last;
 use run_text::{sample_text, success_count};

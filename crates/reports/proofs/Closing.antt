@@ -1,6 +1,6 @@
 -- The close of a record, in detail.
-use Rattle.reports.proofs.Prelude.{◌≡◌, ◌≤◌, ℕ, List, length, Some, Ok, Err, refl, max_record_len, ClosingState}
-use Rattle.reports.proofs.Prelude.{IsClose}
+use Rattle.reports.proofs.Prelude.{◌≡◌, ◌≤◌, ℕ, List, length, Some, Ok, Err, refl, subst, max_record_len, ClosingState}
+use Rattle.reports.proofs.Prelude.{IsClose, PreparedClose}
 use Rattle.reports.proofs.Prelude.{RecordClose, IsCloseOf, FileKind, Gathers, IsDetailed, IsGathered, IsGatheredOrNot}
 use Rattle.reports.proofs.Prelude.{Closes, Status}
 use Rattle.ledger_close.specs.declared.prepared.DetailedClose.{DetailedClose}
@@ -26,6 +26,12 @@ pub close_of : (s : ClosingState) (bytes : List ℕ) (close : DetailedClose) (sh
     (closes : IsClose s bytes (Ok close.prepared)) (detail : IsDetail s bytes close)
     → IsCloseOf s bytes (detailed s bytes close short closes detail).0
 close_of s bytes close short closes detail = record { before = refl; reads = detail.1; closes = closes }
+
+-- the ledger may take a close of a record
+pub installable : (s : ClosingState) (close : DetailedClose) (c : RecordClose) → IsDetailed s close c
+    → (bytes : List ℕ) × IsClose s bytes (Ok close.prepared) × (length bytes ≤ max_record_len)
+installable s close c d =
+    (d.bytes, subst (λ (p : PreparedClose). IsClose s d.bytes (Ok p)) d.closed d.is.closes, d.short)
 
 -- a close that isn't gathered stops the run
 pub ungathered : (kind : FileKind) (old new : Gathers) (s : ClosingState) (bytes : List ℕ) (next : ClosingState)

@@ -247,7 +247,7 @@ abbrev RunOf : FileKind → RunPosition → List ℕ → FileOutcome → Type 0
 RunOf kind p bytes o = IsFileRun kind p.state (record { at = p.at; rest = p.ahead ++ bytes }) o
 
 writes_file : (kind : FileKind) (p : RunPosition) (input out err : Seen) (end : Status)
-    → AnswersFile (RunOf kind p) IsFileRecordsEnd input out err end
+    → AnswersFile (RunOf kind p) (IsFileRecordsEnd kind) input out err end
     → WritesFile kind p.state p.at p.ahead input out err end
 writes_file kind p input out err end a = record {
   answered = a.answered;
@@ -265,34 +265,37 @@ pub finished_at_end : (kind : FileKind) (now : Gathers) (p : RunPosition) (s : C
 finished_at_end kind now p s input out err mid end (at_end, (closes, gathered, runs)) wrote reported =
     let w = wrote p.state closes gathered in
     writes_file kind p input out err end
-    (text_reported (RunOf kind p) IsFileRecordsEnd input out err tt tt w.0 mid end tt at_end
+    (text_reported (RunOf kind p) (IsFileRecordsEnd kind) input out err tt tt w.0 mid end tt at_end
     (runs w.0 w.1) w.2 reported)
 
 pub finished_refused : (kind : FileKind) (now : Gathers) (p : RunPosition) (s : ClosingState) (input out err : Seen)
-    (wrong : CloseFault) (end : Status) → Stopped kind now p s input (stop.Refused wrong) → Received out []
-    → IsRefusalReported (refused_line s.header wrong) err end
+    (wrong : CloseFault) (end : Status) → kind.refused ≡ refused_with → Stopped kind now p s input (stop.Refused wrong)
+    → Received out [] → IsRefusalReported (refused_line s.header wrong) err end
     → WritesFile kind p.state p.at p.ahead input out err end
-finished_refused kind now p s input out err wrong end runs received reported =
+finished_refused kind now p s input out err wrong end on_error runs received reported =
+    let one = subst (λ (f : LedgerHeader → CloseFault → FileOutcome). RunsTo kind p input (f s.header wrong)) on_error
+    runs in
     writes_file kind p input out err end
-    (refusal_reported (RunOf kind p) IsFileRecordsEnd input out err tt tt s.header wrong end tt runs received reported)
+    (refusal_reported (RunOf kind p) (IsFileRecordsEnd kind) input out err tt tt s.header wrong end tt one received
+    reported)
 
 pub finished : (kind : FileKind) (now : Gathers) (p : RunPosition) (s : ClosingState) (input out err : Seen)
     (why end : Status) → Stopped kind now p s input (stop.Ended why) → Received out [] → IsReportedSo why err end
     → WritesFile kind p.state p.at p.ahead input out err end
 finished kind now p s input out err (status.BadInput at) end runs received reported =
     writes_file kind p input out err end
-    (silent_reported (RunOf kind p) IsFileRecordsEnd input out err tt tt (status.BadInput at) end
-    (bad_input_is_silent IsFileRecordsEnd err at tt) runs received reported)
+    (silent_reported (RunOf kind p) (IsFileRecordsEnd kind) input out err tt tt (status.BadInput at) end
+    (bad_input_is_silent (IsFileRecordsEnd kind) err at tt) runs received reported)
 finished kind now p s input out err status.TooLarge end runs received reported =
     writes_file kind p input out err end
-    (silent_reported (RunOf kind p) IsFileRecordsEnd input out err tt tt status.TooLarge end
-    (too_large_is_silent IsFileRecordsEnd err tt) runs received (inl reported))
+    (silent_reported (RunOf kind p) (IsFileRecordsEnd kind) input out err tt tt status.TooLarge end
+    (too_large_is_silent (IsFileRecordsEnd kind) err runs.1) runs.0 received (inl reported))
 finished kind now p s input out err status.ReadFault end failed received reported =
     writes_file kind p input out err end
-    (read_reported (RunOf kind p) IsFileRecordsEnd input out err tt tt end tt failed received reported)
+    (read_reported (RunOf kind p) (IsFileRecordsEnd kind) input out err tt tt end tt failed received reported)
 finished kind now p s input out err status.NoMemory end runs received reported =
     writes_file kind p input out err end
-    (memory_reported (RunOf kind p) IsFileRecordsEnd input out err tt tt end received reported)
+    (memory_reported (RunOf kind p) (IsFileRecordsEnd kind) input out err tt tt end received reported)
 finished kind now p s input out err status.Done end h received reported = absurd h
 finished kind now p s input out err status.Usage end h received reported = absurd h
 finished kind now p s input out err status.Refused end h received reported = absurd h

@@ -1,6 +1,6 @@
 -- One close more in the files of `history`, and how they are written.
 use Rattle.reports.proofs.Prelude.{◌≡◌, ℕ, ◌≤◌, List, [], ◌∷◌, ◌++◌, Result, Ok, Err, refl, sym, ap, subst, ◌∙◌, arith}
-use Rattle.reports.proofs.Prelude.{inl}
+use Rattle.reports.proofs.Prelude.{inl, length, max_record_len}
 use Rattle.reports.proofs.Prelude.{inr, ClosingState, RecordClose, IsCloseOf, Status, LedgerHeader, IsDetailed, Seen}
 use Rattle.reports.proofs.Prelude.{IsGatheredOrNot, WroteGathered, Wrote, PreparedClose}
 use Rattle.op_types.specs.declared.transaction.TransactionSet.{TransactionSet}
@@ -64,22 +64,27 @@ same_record : (a b : CloseRecord) → record_read (Ok a) ≡ Ok b → a ≡ b
 same_record a b e = cc
 
 -- the state after a close is one from which the next ledger closes
+pub closes_on : TakenIsClosable → NextIsClosing → (s : ClosingState) (bytes : List ℕ) (c : RecordClose)
+    → IsClosingState s → length bytes ≤ max_record_len → IsCloseOf s bytes c → IsClosingState c.closed.state
+closes_on closable closing s bytes c state short is =
+    let with = is.closes.1 in
+    closing s with.taken.closing c.closed (closable s bytes with.taken state short) with.closes
+    (omega (arith, with.files, is.closes.2))
+
 pub next_closing : TakenIsClosable → NextIsClosing → (s : ClosingState) (close : DetailedClose) (c : RecordClose)
     → IsClosingState s → IsDetailed s close c → IsClosingState c.closed.state
-next_closing closable closing s close c state d =
-    let with = d.is.closes.1 in
-    closing s with.taken.closing c.closed (closable s d.bytes with.taken state d.short) with.closes
-    (omega (arith, with.files, d.is.closes.2))
+next_closing closable closing s close c state d = closes_on closable closing s d.bytes c state d.short d.is
 
-pub within_bounds : TakenIsClosable → NextIsClosing → ResultsAreEncoded → (s : ClosingState) (close : DetailedClose)
-    (c : RecordClose) → IsClosingState s → IsDetailed s close c → IsWithinBounds (closed_of c)
-within_bounds closable closing results s close c state d =
-    let with = d.is.closes.1 in
-    let can = closable s d.bytes with.taken state d.short in
-    let next = next_closing closable closing s close c state d in
+pub bounds_of : TakenIsClosable → NextIsClosing → ResultsAreEncoded → (s : ClosingState) (bytes : List ℕ)
+    (c : RecordClose) → IsClosingState s → length bytes ≤ max_record_len → IsCloseOf s bytes c
+    → IsWithinBounds (closed_of c)
+bounds_of closable closing results s bytes c state short is =
+    let with = is.closes.1 in
+    let can = closable s bytes with.taken state short in
+    let next = closes_on closable closing s bytes c state short is in
     let seq : ℕ = c.closed.state.header.ledger_seq in
     let same : with.taken.closing ≡ c.closing =
-    same_record with.taken.closing c.closing (sym with.taken.reads ∙ d.is.reads) in
+    same_record with.taken.closing c.closing (sym with.taken.reads ∙ is.reads) in
     record {
       header = header_entry_within c.closed.state.header next.header.within;
       set = set_entry_within seq c.closing.tx_set
@@ -88,6 +93,11 @@ within_bounds closable closing results s close c state d =
           (subst (λ rs. transaction_result_set.within (result_set rs)) (sym with.closes.results)
           (results s with.taken.closing can));
     }
+
+pub within_bounds : TakenIsClosable → NextIsClosing → ResultsAreEncoded → (s : ClosingState) (close : DetailedClose)
+    (c : RecordClose) → IsClosingState s → IsDetailed s close c → IsWithinBounds (closed_of c)
+within_bounds closable closing results s close c state d =
+    bounds_of closable closing results s d.bytes c state d.short d.is
 
 -- what is added of a close is its header, its set and its results
 pub same_closed : (s : ClosingState) (close : DetailedClose) (c : RecordClose) (header : LedgerHeader)

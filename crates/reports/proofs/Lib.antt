@@ -18,3 +18,5 @@ pub mod Recordings
 pub mod Streams
 pub mod Turns
 pub mod Verdict
+pub mod Verifiable
+pub mod Changing

@@ -1,5 +1,5 @@
 -- An input of `verify` has one verdict.
-use Rattle.std.proofs.Common.{◌≡◌, ℕ, List, [], ◌∷◌, Ok, Err, sym, ap, ◌∙◌}
+use Rattle.std.proofs.Common.{◌≡◌, ℕ, List, [], ◌∷◌, Ok, Err, refl, sym, ap, subst, ◌∙◌}
 use Rattle.xdr_core.specs.declared.fault.XdrFault.{XdrFault}
 use Rattle.xdr_core.specs.Position.{Reading, start_of}
 use Rattle.archive_files.specs.declared.form.StatedHistory.{StatedHistory}
@@ -7,6 +7,7 @@ use Rattle.archive_files.specs.Form.{stated_history}
 use Rattle.archive_files.proofs.Verdicts as verdicts
 use Rattle.run_outcome.specs.Outcome.{Outcome}
 use Rattle.run_outcome.specs.VerifyRun.{IsVerdict, IsVerdictAt, IsVerdictOf, verdict_outcome}
+use Rattle.reports.specs.HistoryInput.{IsChain}
 
 at_one : (h : StatedHistory) (at : ℕ) (rest : List ℕ) (a b : Outcome) → IsVerdictAt h at rest a
     → IsVerdictAt h at rest b → a ≡ b
@@ -20,3 +21,9 @@ of_one (Ok x) a b is is' = at_one x.0 x.1.at x.1.rest a b is is'
 
 pub verdicts_are_one : (input : List ℕ) (a b : Outcome) → IsVerdict input a → IsVerdict input b → a ≡ b
 verdicts_are_one input = of_one (stated_history.read (start_of input))
+
+-- a chain has the verdict that it is one
+pub chain_verdict : (text : List ℕ) (chain : IsChain text) → IsVerdict text (verdict_outcome (Ok chain.verified))
+chain_verdict text chain =
+    subst (λ (r : Reading XdrFault StatedHistory). IsVerdictOf r (verdict_outcome (Ok chain.verified)))
+    (sym chain.is.1) (Ok chain.verified, chain.holds, (λ e. cc), refl)

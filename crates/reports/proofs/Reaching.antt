@@ -5,7 +5,7 @@ use Rattle.reports.proofs.Prelude.{sym, ap, subst, ◌∙◌, add-zero, append-n
 use Rattle.reports.proofs.Prelude.{Consumes}
 use Rattle.reports.proofs.Prelude.{Consumes-nil, Consumes-trans, length-append, max_record_len, framed, frames, Status}
 use Rattle.reports.proofs.Prelude.{ClosingState, RecordClose, AreClosesOf, FileKind, FileOutcome, IsFileEnd, IsFileRun}
-use Rattle.reports.proofs.Prelude.{with_file, without_file, refused_with, Gathers, RunPosition, Goes, EndsIn, StopsAt}
+use Rattle.reports.proofs.Prelude.{with_file, without_file, Gathers, RunPosition, Goes, EndsIn, StopsAt}
 use Rattle.reports.proofs.Prelude.{Reached, Stopped, Stop, Seen}
 use Rattle.run_outcome.specs.declared.status.Status.TheVariants as status
 use Rattle.reports.specs.declared.gathering.Stop.TheVariants as stop
@@ -133,13 +133,15 @@ stopped kind old new p q next before mid now fb fm fn stop.AtEnd h e = (
   ),
 )
 stopped kind old new p q next before mid now fb fm fn (stop.Refused wrong) h e =
-    runs_to kind old p q before mid fb fm h (refused_with next.header wrong)
+    runs_to kind old p q before mid fb fm h (kind.refused next.header wrong)
     (subst (λ (s : ClosingState). IfSome mid (λ bytes. IsFileEnd kind p.state h.closes q.state q.at (q.ahead ++ bytes)
-    (refused_with s.header wrong))) (sym e.0) (e.1 p.state h.closes h.gathered))
+    (kind.refused s.header wrong))) (sym e.0) (e.1 p.state h.closes h.gathered))
 stopped kind old new p q next before mid now fb fm fn (stop.Ended (status.BadInput at)) h e =
     runs_to kind old p q before mid fb fm h (without_file (status.BadInput at)) (e p.state h.closes h.gathered)
-stopped kind old new p q next before mid now fb fm fn (stop.Ended status.TooLarge) h e =
-    runs_to kind old p q before mid fb fm h (without_file status.TooLarge) (e p.state h.closes h.gathered)
+stopped kind old new p q next before mid now fb fm fn (stop.Ended status.TooLarge) h e = (
+  runs_to kind old p q before mid fb fm h (without_file status.TooLarge) (e.0 p.state h.closes h.gathered),
+  (h.closes, e.1.0, e.1.1 p.state h.closes h.gathered),
+)
 stopped kind old new p q next before mid now fb fm fn (stop.Ended status.ReadFault) h e =
     rose_before fb fm fn h.later e
 stopped kind old new p q next before mid now fb fm fn (stop.Ended status.NoMemory) h e = tt

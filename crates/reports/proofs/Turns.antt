@@ -6,7 +6,7 @@ use Rattle.reports.proofs.Prelude.{length-append, nil_from_length, Seen, Grown, 
 use Rattle.reports.proofs.Prelude.{XdrFault}
 use Rattle.reports.proofs.Prelude.{Position, Reading, start_of, IsBytes, CloseFault, ClosingState, IsClose, Status}
 use Rattle.reports.proofs.Prelude.{framed, max_record_len, last_seq, RecordClose, IsCloseOf, FileKind, FileOutcome}
-use Rattle.reports.proofs.Prelude.{IsFileStop, IsFileEnd, without_file, refused_with, Gathers, Closes, Passes}
+use Rattle.reports.proofs.Prelude.{IsFileStop, IsFileEnd, without_file, Gathers, Closes, Passes}
 use Rattle.reports.proofs.Prelude.{RunPosition}
 use Rattle.reports.proofs.Prelude.{IsUnread, EndsIn, StopsAt, Turned, Stop, Short}
 use Rattle.record_stream.specs.declared.piece.PieceFault.TheVariants as piece
@@ -69,12 +69,14 @@ stops_at_record : (kind : FileKind) (old new : Gathers) (s : ClosingState) (at :
     → StopsAt kind old new (record { state = s; at = at; ahead = ahead }) next input why
 stops_at_record kind old new s at ahead mid rest bytes next input (stop.Refused wrong) grown cut fits h = (
   h.0,
-  ends_at_record kind old s at ahead mid rest bytes input (refused_with s.header wrong) grown cut fits
+  ends_at_record kind old s at ahead mid rest bytes input (kind.refused s.header wrong) grown cut fits
       (λ start closes q g. inl (wrong, h.1, refl)),
 )
-stops_at_record kind old new s at ahead mid rest bytes next input (stop.Ended status.TooLarge) grown cut fits h =
-    ends_at_record kind old s at ahead mid rest bytes input (without_file status.TooLarge) grown cut fits
-    (λ start closes q g. inr (h.0, h.1, h.2 start closes g, refl))
+stops_at_record kind old new s at ahead mid rest bytes next input (stop.Ended status.TooLarge) grown cut fits h = (
+  ends_at_record kind old s at ahead mid rest bytes input (without_file status.TooLarge) grown cut fits
+      (λ start closes q g. inr (h.0, h.1, h.2 start closes g, refl)),
+  (h.0, h.2),
+)
 stops_at_record kind old new s at ahead mid rest bytes next input (stop.Ended status.NoMemory) grown cut fits h = tt
 stops_at_record kind old new s at ahead mid rest bytes next input stop.AtEnd grown cut fits h = absurd h
 stops_at_record kind old new s at ahead mid rest bytes next input (stop.Ended status.Done) grown cut fits h = absurd h

@@ -1,5 +1,5 @@
 -- What the answer to a query of a ledger leaves but the line on standard error, and each part of it.
-use Rattle.std.specs.Prelude.{◌≡◌, ℕ, List, [], Option, Result, Ok, Err, IfSome}
+use Rattle.std.specs.Prelude.{◌≡◌, ℕ, ◌≤◌, List, [], length, Option, None, Result, Ok, Err, IfSome}
 use Rattle.std.specs.Io.KnownBytes.{IsAtEnd}
 use Rattle.run_outcome.specs.close_rules.State.{ClosingState}
 use Rattle.xdr_core.specs.Position.{start_of}
@@ -8,6 +8,7 @@ use Rattle.path_finder.specs.declared.query.PathFault.{PathFault}
 use Rattle.path_finder.specs.declared.query.PathFault.TheVariants as fault
 use Rattle.path_finder.specs.declared.query.Found.{Found}
 use Rattle.path_finder.specs.Encoding.{path_query}
+use Rattle.path_finder.specs.Query.{bad_index, candidates_of, max_candidates}
 use Rattle.run_outcome.specs.run_streams.Seen.{Seen, Failed, IsUntouched, Received}
 use Rattle.run_outcome.specs.declared.status.Status.{Status}
 use Rattle.run_outcome.specs.declared.status.Status.TheVariants as status
@@ -69,6 +70,21 @@ pub record AnswersQuery (s : ClosingState) (input out : Seen) (end : Status) : T
   pub read_fault : end ≡ status.ReadFault → Failed input
   pub write_fault : end ≡ status.WriteFault → Failed out
   pub is_end : IsPathEnd end
+
+-- ---- a query with which nothing is wrong
+
+-- the input is one
+pub record IsValidQuery (bytes : List ℕ) : Type 0 where
+  pub few : length bytes ≤ max_query_len
+  pub query : PathQuery
+  pub at : ℕ
+  pub reads : path_query.read (start_of bytes) ≡ Ok (query, record { at = at; rest = [] })
+  pub valid : bad_index query ≡ None
+  pub candidates : length (candidates_of query) ≤ max_candidates
+
+-- the lines of what a ledger finds to it were written
+abbrev pub WroteFound : ClosingState → PathQuery → (out : Seen) → Type 0
+WroteFound s query out = (found : Option Found) × IsPathFound s query (Ok found) × Received out (path_lines found)
 
 -- ---- the law
 

@@ -15,8 +15,8 @@ use Rattle.run_outcome.specs.declared.status.Status.{Status}
 use Rattle.run_outcome.specs.declared.status.Status.TheVariants as status
 use Rattle.run_outcome.specs.Outcome.{max_record_len, framed, frames}
 use Rattle.run_outcome.specs.Closes.{RecordClose, IsCloseOf, AreClosesOf}
-use Rattle.run_outcome.specs.FileRun.{FileKind, FileOutcome, IsFileEnd, IsFileRun, with_file, without_file}
-use Rattle.run_outcome.specs.FileRun.{refused_with}
+use Rattle.run_outcome.specs.FileRun.{CanBeTooLarge, FileKind, FileOutcome, IsFileEnd, IsFileRun, with_file}
+use Rattle.run_outcome.specs.FileRun.{without_file}
 use Rattle.reports.specs.Ends.{Wrote}
 use Rattle.reports.specs.declared.gathering.Stop.{Stop}
 use Rattle.reports.specs.declared.gathering.Stop.TheVariants as stop
@@ -120,11 +120,11 @@ StopsAt kind old new p next input stop.AtEnd =
     IsAtEnd input.now × ((start : ClosingState) (closes : List RecordClose) → old start closes → new start closes)
     × IfSome input.before (λ bytes. p.ahead ++ bytes ≡ [])
 StopsAt kind old new p next input (stop.Refused wrong) =
-    (next ≡ p.state) × EndsIn kind old p input (refused_with p.state.header wrong)
+    (next ≡ p.state) × EndsIn kind old p input (kind.refused p.state.header wrong)
 StopsAt kind old new p next input (stop.Ended (status.BadInput at)) =
     EndsIn kind old p input (without_file (status.BadInput at))
 StopsAt kind old new p next input (stop.Ended status.TooLarge) =
-    EndsIn kind old p input (without_file status.TooLarge)
+    EndsIn kind old p input (without_file status.TooLarge) × ((c : RecordClose) × IsRefusedAfter kind old c)
 StopsAt kind old new p next input (stop.Ended status.ReadFault) = Failed input
 StopsAt kind old new p next input (stop.Ended status.NoMemory) = Unit {0}
 StopsAt kind old new p next input (stop.Ended other) = ⊥
@@ -162,9 +162,10 @@ Stopped kind now p s input stop.AtEnd =
     IsAtEnd input.now
     × ((closes : List RecordClose) × now p.state closes
     × ((text : List ℕ) → kind.IsText p.state closes text → RunsTo kind p input (with_file text)))
-Stopped kind now p s input (stop.Refused wrong) = RunsTo kind p input (refused_with s.header wrong)
+Stopped kind now p s input (stop.Refused wrong) = RunsTo kind p input (kind.refused s.header wrong)
 Stopped kind now p s input (stop.Ended (status.BadInput at)) = RunsTo kind p input (without_file (status.BadInput at))
-Stopped kind now p s input (stop.Ended status.TooLarge) = RunsTo kind p input (without_file status.TooLarge)
+Stopped kind now p s input (stop.Ended status.TooLarge) =
+    RunsTo kind p input (without_file status.TooLarge) × CanBeTooLarge kind
 Stopped kind now p s input (stop.Ended status.ReadFault) = Failed input
 Stopped kind now p s input (stop.Ended status.NoMemory) = Unit {0}
 Stopped kind now p s input (stop.Ended other) = ⊥

@@ -13,7 +13,7 @@ use Rattle.archive_files.specs.declared.form.StatedHistory.{StatedHistory}
 use Rattle.archive_files.specs.declared.history.Verified.{Verified}
 use Rattle.archive_files.specs.declared.history.HistoryFault.{HistoryFault}
 use Rattle.archive_files.specs.declared.history.HistoryFault.TheVariants as fault
-use Rattle.archive_files.specs.Chain.{IsJudged}
+use Rattle.archive_files.specs.Chain.{IsJudged, IsVerified}
 use Rattle.archive_files.specs.Form.{stated_history}
 use Rattle.reports.specs.Ends.{Wrote}
 
@@ -70,3 +70,10 @@ pub record WroteVerdict (h : StatedHistory) (out : Seen) (end : Status) : Type 0
 -- or memory was refused before
 abbrev pub Judges : StatedHistory → (out : Seen) → (end : Status) → Type 0
 Judges h out end = WroteVerdict h out end ⊎ ((end ≡ status.NoMemory) × Received out [])
+
+-- a text is a history whose files are a chain, of so many ledgers with this last hash
+pub record IsChain (text : List ℕ) : Type 0 where
+  pub history : StatedHistory
+  pub is : IsText history text
+  pub verified : Verified
+  pub holds : IsVerified history.history history.before history.first verified

@@ -8,3 +8,5 @@ pub mod Verifying
 pub mod HistoryInput
 pub mod EndOfInput
 pub mod Answering
+pub mod Verifiable
+pub mod Changing

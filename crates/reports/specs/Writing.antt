@@ -5,18 +5,19 @@ use Rattle.run_outcome.specs.close_rules.State.{ClosingState}
 use Rattle.run_outcome.specs.run_streams.Seen.{Seen, Failed, Received}
 use Rattle.run_outcome.specs.declared.status.Status.{Status}
 use Rattle.run_outcome.specs.declared.status.Status.TheVariants as status
-use Rattle.run_outcome.specs.FileRun.{FileKind, FileOutcome, IsFileRun, IsFileAnswer, IsFileless, IsFileLineReported}
+use Rattle.run_outcome.specs.FileRun.{CanBeTooLarge, FileKind, FileOutcome, IsFileRun, IsFileAnswer, IsFileless}
+use Rattle.run_outcome.specs.FileRun.{IsFileLineReported}
 
 -- the ends of the records
-abbrev pub IsFileRecordsEnd : Status → Type 0
-IsFileRecordsEnd status.Done = Unit {0}
-IsFileRecordsEnd status.Refused = Unit {0}
-IsFileRecordsEnd status.ReadFault = Unit {0}
-IsFileRecordsEnd status.WriteFault = Unit {0}
-IsFileRecordsEnd status.NoMemory = Unit {0}
-IsFileRecordsEnd (status.BadInput at) = Unit {0}
-IsFileRecordsEnd status.TooLarge = Unit {0}
-IsFileRecordsEnd other = ⊥
+abbrev pub IsFileRecordsEnd : FileKind → Status → Type 0
+IsFileRecordsEnd kind status.Done = Unit {0}
+IsFileRecordsEnd kind status.Refused = Unit {0}
+IsFileRecordsEnd kind status.ReadFault = Unit {0}
+IsFileRecordsEnd kind status.WriteFault = Unit {0}
+IsFileRecordsEnd kind status.NoMemory = Unit {0}
+IsFileRecordsEnd kind (status.BadInput at) = Unit {0}
+IsFileRecordsEnd kind status.TooLarge = CanBeTooLarge kind
+IsFileRecordsEnd kind other = ⊥
 
 -- the records from an offset on, of which these bytes are ahead and the others still in the source
 pub record WritesFile (kind : FileKind) (s : ClosingState) (at : ℕ) (ahead : List ℕ) (input out err : Seen) (end :
@@ -28,5 +29,5 @@ pub record WritesFile (kind : FileKind) (s : ClosingState) (at : ℕ) (ahead : L
   pub unwritten : IsFileless end → Received out []
   pub read_fault : end ≡ status.ReadFault → Failed input
   pub write_fault : end ≡ status.WriteFault → Failed out ⊎ Failed err
-  pub is_end : IsFileRecordsEnd end
+  pub is_end : IsFileRecordsEnd kind end
   pub reported : IsFileLineReported err end

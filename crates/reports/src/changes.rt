@@ -1,33 +1,30 @@
-//! The command `changes` after its start image: what each close changed of the ledger's entries, as records.
+//! What `changes` writes of closes: what each changed of the ledger's entries, in the order of their keys, as records.
 
-ghost use Rattle.std.specs.Prelude.{◌≡◌, ◌^◌, ◌≤◌, ◌++◌, IfOk, OnOk};
+ghost use Rattle.std.specs.Prelude.{◌≡◌, ◌++◌, IfOk, OnOk};
 ghost use Rattle.archive_files.specs.Encoded.{record_of};
 ghost use Rattle.change_stream.specs.Grammar.{one_change};
-ghost use Rattle.run_outcome.specs.run_streams.Seen.{seen};
 ghost use Rattle.run_outcome.specs.Closes.{RecordClose};
 ghost use Rattle.run_outcome.specs.ChangesRun.{AreChangesIn, IsTextOfChanges, change_records, changes_file};
 ghost use Rattle.reports.specs.Gathering.{IsDetailed};
 ghost use Rattle.reports.specs.Recording as spec;
-ghost use Rattle.reports.specs.Writing.{WritesFile};
 
 use crate::ends::write_last;
-use crate::files::write_file;
-use crate::gather::Gather;
+use crate::files::ClosesFile;
+use crate::gather::{Gather, GatherText};
 use change_stream::{Change, changes, write_change};
 use ledger_close::close_laws::closes::{next_is_closing, taken_is_closable};
 use ledger_close::{DetailedClose, Ledger};
-use outside::{Sink, Source, Steps};
+use outside::Sink;
 use run_outcome::Status;
 use std::alloc::{AllocError, Global};
-use std::sync::ledger::Ledger as Count;
 use xdr_core::Builder;
 
 /// The greatest length that a record mark can state.
 const MAX_RECORD_LEN: u32 = 2_147_483_647;
 
-/// The records of the changes so far.
+/// The records of the changes of closes, one close after another.
 #[derive(Drop)]
-struct ChangeRecords {
+pub struct ChangeRecords {
     text: Builder,
 }
 
@@ -77,53 +74,32 @@ impl Gather for ChangeRecords {
     fn gather(
         &mut self,
         alloc: Global,
-        before: &Ledger,
-        close: &DetailedClose,
+        ledger: &mut Ledger,
+        close: DetailedClose,
     ) -> Result<(), Status> {
-        let Ok(list) = changes_of(alloc, before, close) else {
+        let Ok(list) = changes_of(alloc, ledger, &close) else {
             return Err(Status::NoMemory);
         };
-        match add_changes(alloc, &mut self.text, list.as_slice()) {
-            Ok(()) => Ok(()),
-            Err(_) => Err(Status::NoMemory),
-        }
+        let Ok(()) = add_changes(alloc, &mut self.text, list.as_slice()) else {
+            return Err(Status::NoMemory);
+        };
+        let DetailedClose { prepared, .. } = close;
+        ledger.install(prepared);
+        Ok(())
     }
+}
 
+impl GatherText for ChangeRecords {
     fn write<O: Sink>(&self, alloc: Global, out: &mut O) -> Status {
         let _ = alloc;
         write_last(self.text.as_slice(), Status::Done, out)
     }
 }
 
-/// Closes a ledger for each record after it. At the end of the input it writes the changes of each close, in the order
-/// of their keys, each after its record mark; or the line of what stopped the run.
-pub fn write_changes<I: Source, O: Sink, E: Sink, L: Count>(
-    alloc: Global,
-    ledger: &mut Ledger,
-    start: u128,
-    input: &mut I,
-    ahead: &mut Vec<u8>,
-    out: &mut O,
-    err: &mut E,
-    steps: &mut Steps<L>,
-) -> Status
-    requires { start ≤ 2 ^ 64 }
-    ensures { WritesFile changes_file ledger.old.state start ahead.old.items
-        (seen I.left I.faults input.old input.new) (seen O.taken O.faults out.old out.new)
-        (seen E.taken E.faults err.old err.new) result }
-{
-    let mut records = ChangeRecords {
-        text: Builder::new(alloc),
-    };
-    write_file(
-        alloc,
-        ledger,
-        start,
-        input,
-        ahead,
-        &mut records,
-        out,
-        err,
-        steps,
-    )
+impl ClosesFile for ChangeRecords {
+    fn begin(alloc: Global, _ledger: &Ledger) -> Self {
+        ChangeRecords {
+            text: Builder::new(alloc),
+        }
+    }
 }

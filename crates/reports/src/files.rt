@@ -3,12 +3,13 @@
 ghost use Rattle.std.specs.Prelude.{◌≡◌, ℕ, ◌^◌, ◌≤◌, List, []};
 ghost use Rattle.run_outcome.specs.run_streams.Seen.{Seen, seen};
 ghost use Rattle.run_outcome.specs.Lines.{refused_line};
+ghost use Rattle.run_outcome.specs.FileRun.{refused_with};
 ghost use Rattle.reports.specs.Files as file;
 ghost use Rattle.reports.specs.Gathering as spec;
 ghost use Rattle.reports.specs.Writing.{WritesFile};
 
 use crate::ends::{report, report_no_memory};
-use crate::gather::Gather;
+use crate::gather::GatherText;
 use crate::gathering::{Stop, gather_all};
 use ledger_close::{CloseFault, Ledger};
 use outside::{Sink, Source, Steps, write_all};
@@ -16,6 +17,15 @@ use run_outcome::Status;
 use run_text::refused_text;
 use std::alloc::Global;
 use std::sync::ledger::Ledger as Count;
+
+/// A file of the closes of a run, written at the end of its input.
+pub trait ClosesFile: GatherText + Drop {
+    /// The file of no closes, after the last ledger that closed.
+    fn begin(alloc: Global, ledger: &Ledger) -> Self
+        ensures nothing { Self.gathers result ledger.now.state [] }
+        ensures small { Self.kind.AreSmall [] }
+        ensures refused { Self.kind.refused ≡ refused_with };
+}
 
 /// Writes the line of a record that is refused to standard error.
 fn report_refusal<E: Sink>(alloc: Global, ledger: &Ledger, fault: CloseFault, err: &mut E) -> Status
@@ -31,8 +41,8 @@ fn report_refusal<E: Sink>(alloc: Global, ledger: &Ledger, fault: CloseFault, er
     }
 }
 
-/// Writes what was gathered of the closes, or the line of what stopped the run.
-fn finish<G: Gather, O: Sink, E: Sink>(
+/// Writes what was gathered of the closes, or the line of what stopped the run, which stands on standard error.
+fn finish<G: GatherText, O: Sink, E: Sink>(
     alloc: Global,
     ledger: &Ledger,
     gathered: &G,
@@ -40,6 +50,7 @@ fn finish<G: Gather, O: Sink, E: Sink>(
     out: &mut O,
     err: &mut E,
 ) -> Status
+    requires { G.kind.refused ≡ refused_with }
     ensures { (p : spec.RunPosition) (input : Seen)
         → spec.Stopped G.kind (G.gathers gathered.now) p ledger.now.state input stop
         → WritesFile G.kind p.state p.at p.ahead input (seen O.taken O.faults out.old out.new)
@@ -55,25 +66,23 @@ fn finish<G: Gather, O: Sink, E: Sink>(
     }
 }
 
-/// Closes a ledger for each record after it, gathers the closes, and writes their file at the end of the input. It
-/// writes the line of the end too.
-pub(crate) fn write_file<G: Gather, I: Source, O: Sink, E: Sink, L: Count>(
+/// Closes a ledger for each record after it, and at the end of the input writes a file of the closes; or it writes the
+/// line of what stopped the run, such as that the file would be too long. It writes the line of the end too.
+pub fn write_closes<F: ClosesFile, I: Source, O: Sink, E: Sink, L: Count>(
     alloc: Global,
     ledger: &mut Ledger,
     start: u128,
     input: &mut I,
     ahead: &mut Vec<u8>,
-    gathered: &mut G,
     out: &mut O,
     err: &mut E,
     steps: &mut Steps<L>,
 ) -> Status
-    requires offset { start ≤ 2 ^ 64 }
-    requires nothing { G.gathers gathered.old ledger.old.state [] }
-    requires small { G.kind.AreSmall [] }
-    ensures { WritesFile G.kind ledger.old.state start ahead.old.items (seen I.left I.faults input.old input.new)
+    requires { start ≤ 2 ^ 64 }
+    ensures { WritesFile F.kind ledger.old.state start ahead.old.items (seen I.left I.faults input.old input.new)
         (seen O.taken O.faults out.old out.new) (seen E.taken E.faults err.old err.new) result }
 {
-    let stop = gather_all(alloc, ledger, start, input, ahead, gathered, steps);
-    finish(alloc, ledger, gathered, stop, out, err)
+    let mut gathered = F::begin(alloc, ledger);
+    let stop = gather_all(alloc, ledger, start, input, ahead, &mut gathered, steps);
+    finish(alloc, ledger, &gathered, stop, out, err)
 }

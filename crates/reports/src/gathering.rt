@@ -9,7 +9,7 @@ ghost use Rattle.reports.specs.Gathering as spec;
 
 use crate::gather::Gather;
 use crate::records::prefix_record;
-use ledger_close::{CloseFault, DetailedClose, Ledger};
+use ledger_close::{CloseFault, Ledger};
 use outside::{Source, Steps};
 use record_stream::{PieceFault, RecordLength, read_piece, without_prefix};
 use run_outcome::Status;
@@ -19,7 +19,7 @@ use std::sync::ledger::Ledger as Count;
 
 /// Why no more closes are gathered.
 #[derive(Clone, Copy)]
-pub(crate) enum Stop {
+pub enum Stop {
     /// The input is at its end.
     AtEnd,
     /// A record is refused.
@@ -28,7 +28,7 @@ pub(crate) enum Stop {
     Ended(Status),
 }
 
-/// A record closes the ledger, which takes the close once it is gathered; or it stops the run.
+/// A record closes the ledger, which takes the close that is gathered; or it stops the run.
 fn close_record<G: Gather, L: Count>(
     alloc: Global,
     ledger: &mut Ledger,
@@ -45,13 +45,10 @@ fn close_record<G: Gather, L: Count>(
         Err(CloseFault::NoMemory) => return Some(Stop::Ended(Status::NoMemory)),
         Err(fault) => return Some(Stop::Refused(fault)),
     };
-    match gathered.gather(alloc, ledger, &close) {
-        Ok(()) => {}
-        Err(end) => return Some(Stop::Ended(end)),
+    match gathered.gather(alloc, ledger, close) {
+        Ok(()) => None,
+        Err(end) => Some(Stop::Ended(end)),
     }
-    let DetailedClose { prepared, .. } = close;
-    ledger.install(prepared);
-    None
 }
 
 /// The record at the start of what is ahead closes the ledger and is taken away, or stops the run.
@@ -126,7 +123,7 @@ fn turn<G: Gather, I: Source, L: Count>(
 }
 
 /// Closes a ledger for each record after it and gathers the closes, up to the end of the input or of the run.
-pub(crate) fn gather_all<G: Gather, I: Source, L: Count>(
+pub fn gather_all<G: Gather, I: Source, L: Count>(
     alloc: Global,
     ledger: &mut Ledger,
     start: u128,

@@ -9,7 +9,7 @@ use Rattle.change_stream.specs.declared.change.Change.{Change}
 use Rattle.change_stream.specs.Changes.{AreChangesOf}
 use Rattle.change_stream.specs.Grammar.{one_change}
 use Rattle.run_outcome.specs.Closes.{RecordClose}
-use Rattle.run_outcome.specs.FileRun.{FileKind}
+use Rattle.run_outcome.specs.FileRun.{FileKind, refused_with}
 
 -- the changes from a map to another one, each once, in the order of their keys
 abbrev pub AreChangesBetween : (before after : EntryMap) → List Change → Type 0
@@ -36,4 +36,5 @@ changes_file = record {
   IsText = λ start closes text. IsTextOfChanges closes text;
   AreSmall = λ closes. Unit {0};
   IsTooLarge = λ closes c. ⊥;
+  refused = refused_with;
 }

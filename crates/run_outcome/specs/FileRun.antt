@@ -47,7 +47,7 @@ with_file text = record { status = status.Done; text = text; line = [] }
 
 -- ---- files
 
--- what is written of closes
+-- what is written of closes, and of a record that is refused after a ledger with this header
 pub record FileKind : Type 1 where
   -- the text of closes after a state
   pub IsText : ClosingState → List RecordClose → List ℕ → Type 0
@@ -55,6 +55,7 @@ pub record FileKind : Type 1 where
   pub AreSmall : List RecordClose → Type 0
   -- after these closes one more is too large
   pub IsTooLarge : List RecordClose → RecordClose → Type 0
+  pub refused : LedgerHeader → CloseFault → FileOutcome
 
 -- ---- the end of a run
 
@@ -62,7 +63,7 @@ pub record FileKind : Type 1 where
 abbrev pub IsFileStop : FileKind → List RecordClose → ClosingState → Reading XdrFault (List ℕ) → FileOutcome → Type 0
 IsFileStop kind closes s (Err wrong) o = o ≡ without_file (status.BadInput wrong.at)
 IsFileStop kind closes s (Ok x) o =
-    ((wrong : CloseFault) × IsClose s x.0 (Err wrong) × (o ≡ refused_with s.header wrong))
+    ((wrong : CloseFault) × IsClose s x.0 (Err wrong) × (o ≡ kind.refused s.header wrong))
     ⊎ ((c : RecordClose) × IsCloseOf s x.0 c × kind.IsTooLarge closes c × (o ≡ without_file status.TooLarge))
 
 -- what follows the last ledger that closed, at an offset of the input
@@ -118,17 +119,21 @@ IsFileless status.WriteFault = ⊥
 IsFileless status.NoMemory = ⊥
 IsFileless other = Unit {0}
 
+-- a close can be too large after others
+abbrev pub CanBeTooLarge : FileKind → Type 0
+CanBeTooLarge kind = (closes : List RecordClose) × (c : RecordClose) × kind.IsTooLarge closes c
+
 -- all ends
-abbrev pub IsFileRunEnd : Status → Type 0
-IsFileRunEnd status.Done = Unit {0}
-IsFileRunEnd status.Refused = Unit {0}
-IsFileRunEnd status.ReadFault = Unit {0}
-IsFileRunEnd status.WriteFault = Unit {0}
-IsFileRunEnd status.NoMemory = Unit {0}
-IsFileRunEnd (status.BadInput at) = Unit {0}
-IsFileRunEnd (status.BadImage rule) = Unit {0}
-IsFileRunEnd status.TooLarge = Unit {0}
-IsFileRunEnd other = ⊥
+abbrev pub IsFileRunEnd : FileKind → Status → Type 0
+IsFileRunEnd kind status.Done = Unit {0}
+IsFileRunEnd kind status.Refused = Unit {0}
+IsFileRunEnd kind status.ReadFault = Unit {0}
+IsFileRunEnd kind status.WriteFault = Unit {0}
+IsFileRunEnd kind status.NoMemory = Unit {0}
+IsFileRunEnd kind (status.BadInput at) = Unit {0}
+IsFileRunEnd kind (status.BadImage rule) = Unit {0}
+IsFileRunEnd kind status.TooLarge = CanBeTooLarge kind
+IsFileRunEnd kind other = ⊥
 
 -- nothing, or a prefix of the text of an outcome
 abbrev pub IsFilePrefix : (IsOne : FileOutcome → Type 0) → (prefix : List ℕ) → Type 0
@@ -156,5 +161,5 @@ pub record DidWriteFile (kind : FileKind) (passphrase : List ℕ) (input out err
   -- a fault of a stream is answered only where its count rose
   pub read_fault : end ≡ status.ReadFault → Failed input
   pub write_fault : end ≡ status.WriteFault → Failed out ⊎ Failed err
-  pub is_end : IsFileRunEnd end
+  pub is_end : IsFileRunEnd kind end
   pub reported : IsFileLineReported err end

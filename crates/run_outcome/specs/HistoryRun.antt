@@ -10,7 +10,7 @@ use Rattle.close_rules.specs.value_hashes.Hashes.{ledger_hash_of}
 use Rattle.close_rules.specs.State.{ClosingState}
 use Rattle.close_rules.specs.Close.{result_set}
 use Rattle.run_outcome.specs.Closes.{RecordClose}
-use Rattle.run_outcome.specs.FileRun.{FileKind}
+use Rattle.run_outcome.specs.FileRun.{FileKind, refused_with}
 
 -- the header, the set and the results of a close
 abbrev pub closed_of : RecordClose → Closed
@@ -42,4 +42,5 @@ history_file = record {
   IsText = λ start closes text. text ≡ stated_history.encoding (history_after start closes);
   AreSmall = AreSmallWith no_closes;
   IsTooLarge = λ closes c. IsTooLarge (added (files_of closes) (closed_of c));
+  refused = refused_with;
 }

@@ -24,7 +24,7 @@ pub enum Status {
     BadStore { file: u8, place: u64 },
     /// 8: memory was refused.
     NoMemory,
-    /// 9: at this byte of the input neither an image nor a record goes on.
+    /// 9: at this byte of the input no image, record, history or query goes on.
     BadInput { at: u128 },
     /// 10: the image breaks this rule, the first one that it breaks.
     BadImage { rule: ImageRule },

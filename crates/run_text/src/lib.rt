@@ -4,6 +4,7 @@
 mod closed;
 mod path;
 mod pieces;
+mod reader;
 mod refused;
 mod sampled;
 mod shown;
@@ -12,6 +13,7 @@ mod verified;
 
 pub use closed::{closed_text, end_text, success_count};
 pub use path::{path_text, unanswered_text};
+pub use reader::reader_text_line;
 pub use refused::refused_text;
 pub use sampled::sample_text;
 pub use shown::shown_text;

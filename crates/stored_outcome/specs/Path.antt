@@ -22,6 +22,11 @@ IsAsked input out vol end =
 abbrev pub IsUnasked : (input out err : Seen) → SeenVolume → (end : Status) → Type 0
 IsUnasked input out err vol end = IsUntouched input × IsUntouched out × IsUnshown err vol end
 
+-- the query was answered by some state, or nothing was read or written
+abbrev pub IsAnsweredOrUntouched : (input out : Seen) → (end : Status) → Type 0
+IsAnsweredOrUntouched input out end =
+    ((s : ClosingState) × IsQueryAnswered s input out end × IsPathEnd end) ⊎ (IsUntouched input × IsUntouched out)
+
 -- `path`, over these streams and this volume, with this end and its line on standard error
 pub record DidPath (input out err : Seen) (vol : SeenVolume) (end : Status) : Type 0 where
   pub asked : vol.reports → IsAsked input out vol end ⊎ IsUnasked input out err vol end
@@ -29,6 +34,7 @@ pub record DidPath (input out err : Seen) (vol : SeenVolume) (end : Status) : Ty
   pub runs : Runs Same vol.before vol.now
   pub reads : vol.reports → VolumeFailed vol ⊎ ReadsStay vol
   -- whatever the volume reports
+  pub any : IsAnsweredOrUntouched input out end
   pub unopened : IsUnopenedEnd end → IsUntouched input × IsUntouched out
   pub ended : end ≡ status.Done → IsAtEnd input.now
   pub unwritten : IsPathless end → Received out []

@@ -11,10 +11,10 @@ returns-in-Err-gather g c =
     let s = c.args.ledger.now.state in
     let d = detailed s c.args.text.now c.in-Ok.close c.requires c.in-Ok.ensures.answers c.in-Ok.ensures.detail in
     ungathered g.G.Gather.kind (g.G.Gather.gathers c.args.gathered.now) (g.G.Gather.gathers c.gather.new.self) s
-    c.args.text.now s c.in-Err-gather.end d.0 d.1.is (c.in-Err-gather.ensures d.0 d.1)
+    c.args.text.now c.gather.new.ledger.state c.in-Err-gather.end d.0 d.1.is (c.in-Err-gather.ensures.gathered d.0 d.1)
 
-pub returns : goal.returns
-returns g c =
+pub returns-in-Ok-gather : goal.returns-in-Ok-gather
+returns-in-Ok-gather g c =
     let s = c.args.ledger.now.state in
     let d = detailed s c.args.text.now c.in-Ok.close c.requires c.in-Ok.ensures.answers c.in-Ok.ensures.detail in
-    (d.0, d.1.is, c.install.ensures.state, c.in-Ok-gather.ensures d.0 d.1)
+    (d.0, d.1.is, c.in-Ok-gather.ensures.taken, c.in-Ok-gather.ensures.gathered d.0 d.1)

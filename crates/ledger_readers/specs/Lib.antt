@@ -1,0 +1,4 @@
+pub mod Rules
+pub mod Views
+pub mod Reads
+pub mod Published

@@ -1,0 +1,5 @@
+//! Tests of readers beside a publisher.
+#![tactic(auto)]
+
+#[cfg(test)]
+mod tests;

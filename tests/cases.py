@@ -38,8 +38,8 @@ class Case:
     given: bytes = b""
 
 
-def names() -> List[str]:
-    return read("cases", "names").decode().split()
+def names(folder: str = "cases") -> List[str]:
+    return read(folder, "names").decode().split()
 
 
 def read_case(name: str, folder: str = "cases") -> Case:

@@ -57,6 +57,7 @@ def table() -> Iterator[str]:
     yield f"| lines that the probe has to answer | `probe/stdout` | {len(lines)} |"
     for command, count in sorted(cases_by_command().items()):
         yield f"| cases of runs: {command} | `tests/cases` | {count} |"
+    yield f"| cases of runs of `watch` | `tests/watch_cases` | {len(names('watch_cases'))} |"
     commands = sum(map(len, (INITS, CATCHUPS, RUNS, SAMPLES)))
     yield f"| command lines that are a command | `tests/words.py` | {commands} |"
     yield f"| command lines that are none | `tests/words.py` | {sum(map(len, NO_COMMAND.values()))} |"

@@ -1,11 +1,11 @@
 #!/usr/bin/env python3
-"""Tests of the built program: drives both builds that `rt ci` leaves of crates/ledger, and compares what each run writes, answers and
-leaves in its store with what it has to be.
+"""Tests of the built programs: drives both builds that `rt ci` leaves of crates/ledger and of crates/watch, and compares what each run
+writes, answers and leaves in its store with what it has to be.
 
-    tests/run.py [--jobs N] [--only WORD] [PROGRAM ..]
+    tests/run.py [--jobs N] [--only WORD] [--watch PROGRAM] [PROGRAM ..]
 
 Where no program is named, these are crates/ledger/out/ledger, built by LLVM, and crates/ledger/out/ledger.by-rattle, built by
-Rattle's own compiler; one that is missing is proved and built by `rt run`. A C compiler (cc) makes the shim that has calls of the C
+Rattle's own compiler, and the same of crates/watch; one that is missing is proved and built by `rt run`. A C compiler (cc) makes the shim that has calls of the C
 library fail. Before the runs it looks whether each wrong body of `wrong_bodies/` and each must-fail edit still applies, whether
 crates.txt lists just what each crate names, whether what scripts write is up to date, whether the pages of docs/ agree with the
 sources, and whether the tool in `tools/` reads and copies files as they are. The last line is `N passed, M failed`, and the exit status is 1 where anything failed, 2 where the tests
@@ -44,11 +44,13 @@ import hostile
 import locks
 import stops
 import store_bytes
+import watching
 import words
 from harness import TESTS, Program, Tally
 
 TOP = os.path.dirname(TESTS)
-BUILDS = (("ledger", []), ("ledger.by-rattle", ["--backend", "rattle"]))
+# the end of a build's name, and the words that `rt run` makes it with
+BUILDS = (("", []), (".by-rattle", ["--backend", "rattle"]))
 
 Job = Tuple[Callable, tuple]
 
@@ -69,29 +71,29 @@ def compiled_shim(folder: str) -> str:
     return path
 
 
-def built(name: str, words: List[str]) -> str:
-    """The path of a build of the program, which is proved and built where it is missing; the other build stays."""
-    folder = f"{TOP}/crates/ledger/out"
-    path, first = f"{folder}/{name}", f"{folder}/ledger"
+def built(crate: str, end: str, words: List[str]) -> str:
+    """The path of a build of a program, which is proved and built where it is missing; the other build stays."""
+    folder = f"{TOP}/crates/{crate}/out"
+    path, first = f"{folder}/{crate}{end}", f"{folder}/{crate}"
     if not os.path.isfile(path):
         print(f"{os.path.relpath(path, TOP)} is missing: proving and building it", flush=True)
         with tempfile.TemporaryDirectory(prefix="ledger-build-") as aside:
             if path != first and os.path.isfile(first):
-                shutil.move(first, f"{aside}/ledger")
+                shutil.move(first, f"{aside}/{crate}")
             # `rt run` leaves what it built as the first build, whichever compiler made it
             rt = ["rt", "run", *words, "--", "show"]
-            log = subprocess.run(rt, cwd=f"{TOP}/crates/ledger", stdout=subprocess.PIPE, stderr=subprocess.STDOUT, text=True)
+            log = subprocess.run(rt, cwd=f"{TOP}/crates/{crate}", stdout=subprocess.PIPE, stderr=subprocess.STDOUT, text=True)
             if not os.path.isfile(first):
                 stop(f"{log.stdout[-2000:]}\n{os.path.relpath(path, TOP)} could not be built")
             if path != first:
                 os.rename(first, path)
-                if os.path.isfile(f"{aside}/ledger"):
-                    shutil.move(f"{aside}/ledger", first)
+                if os.path.isfile(f"{aside}/{crate}"):
+                    shutil.move(f"{aside}/{crate}", first)
     return path
 
 
 def jobs_of(program: Program) -> List[Job]:
-    """What is to be tried of a program, longest first."""
+    """What is to be tried of the ledger's program, longest first."""
     modules = (beside, archives, stops, store_bytes, locks, adopting, hostile, words)
     parts = [(module.check, (program, part)) for module in modules for part in module.PARTS]
     for module in (bridge_made, bridge_whole):
@@ -99,16 +101,22 @@ def jobs_of(program: Program) -> List[Job]:
     return parts + [(cases.check, (program, name)) for name in cases.names()]
 
 
+def watch_jobs_of(program: Program) -> List[Job]:
+    """What is to be tried of the program `watch`, longest first."""
+    parts = [(watching.check, (program, part)) for part in watching.PARTS]
+    return parts + [(watching.check_case, (program, name)) for name in cases.names(watching.CASES)]
+
+
 def is_asked_for(job: Job, only: str) -> bool:
     call, (_, what) = job
     return only in f"{call.__module__} {what if isinstance(what, str) else what.__name__}"
 
 
-def try_program(program: Program, jobs: int, only: str) -> Tally:
-    """Tries all of a program, so many runs at once."""
+def try_program(program: Program, parts: List[Job], jobs: int, only: str) -> Tally:
+    """Tries these parts of a program, so many runs at once."""
     tally = Tally()
     with ProcessPoolExecutor(jobs) as pool:
-        asked = [job for job in jobs_of(program) if is_asked_for(job, only)]
+        asked = [job for job in parts if is_asked_for(job, only)]
         for done in [pool.submit(call, *given) for call, given in asked]:
             tally.add(done.result())
     print(f"\n{program.label}:")
@@ -121,6 +129,7 @@ def main() -> None:
     reader = argparse.ArgumentParser(description="Tests of the built program.")
     reader.add_argument("--jobs", type=int, default=len(os.sched_getaffinity(0)), help="how many runs at once")
     reader.add_argument("--only", default="", help="only the parts and cases whose names have this text")
+    reader.add_argument("--watch", action="append", default=[], metavar="PROGRAM", help="a build of `watch`")
     reader.add_argument("program", nargs="*")
     asked = reader.parse_args()
     total = Tally()
@@ -130,9 +139,13 @@ def main() -> None:
             total.add(module.check(TOP))
     with tempfile.TemporaryDirectory(prefix="ledger-shim-") as folder:
         shim = compiled_shim(folder)
-        paths = asked.program or [built(name, words) for name, words in BUILDS]
-        for path in paths:
-            total.add(try_program(Program(os.path.realpath(path), shim, os.path.relpath(path)), asked.jobs, asked.only))
+        ledgers, watches = asked.program, asked.watch
+        if not ledgers and not watches:
+            ledgers, watches = ([built(crate, *build) for build in BUILDS] for crate in ("ledger", "watch"))
+        for parts_of, paths in ((jobs_of, ledgers), (watch_jobs_of, watches)):
+            for path in paths:
+                program = Program(os.path.realpath(path), shim, os.path.relpath(path))
+                total.add(try_program(program, parts_of(program), asked.jobs, asked.only))
     passed, failed = sum(total.passed.values()), sum(total.failed.values())
     print(f"{passed} passed, {failed} failed")
     sys.exit(1 if failed or not passed else 0)

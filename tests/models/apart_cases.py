@@ -5,6 +5,7 @@
 it must print now is the hash of its header.
 
     apart_cases.py FOLDER NAME      writes cases/apart-NAME.case, and names it as the last of those that came from elsewhere
+    apart_cases.py FOLDER NAME watch_cases      the same, of a run of `watch`
 
 FOLDER has a run: `args`, a word a line; `input.bin`; what must be written and answered, `expected_out`, `expected_err` and
 `expected_status`; and, where they are there, `before` and `after` with the files of the volume as the run begins and as it ends: without `after`
@@ -14,10 +15,10 @@ it ends as it begins. Python 3.9 or later and its standard library.
 import os
 import sys
 
-from case_tools import encoded, write, write_names
+from case_tools import encoded, write
 from store_model import FILES
 
-CASES = os.path.join(os.path.dirname(os.path.dirname(os.path.abspath(__file__))), "cases")
+TESTS = os.path.dirname(os.path.dirname(os.path.abspath(__file__)))
 
 
 def content(path):
@@ -40,14 +41,13 @@ def read_apart(folder):
 
 
 def main():
-    folder, name = sys.argv[1:]
-    name = f"apart-{name}"
-    with open(f"{CASES}/names") as file:
-        names = file.read().split()
+    folder, name, *kind = sys.argv[1:]
+    name, cases = f"apart-{name}", f"{TESTS}/{kind[0] if kind else 'cases'}"
+    names = content(f"{cases}/names").decode().split()
     if name not in names:
         names.insert(sum(name.startswith("apart-") for name in names), name)
-    write(f"{CASES}/{name}.case", encoded(*read_apart(folder)))
-    write_names(names)
+    write(f"{cases}/{name}.case", encoded(*read_apart(folder)))
+    write(f"{cases}/names", "".join(f"{name}\n" for name in names).encode())
 
 
 if __name__ == "__main__":

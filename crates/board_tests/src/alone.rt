@@ -103,7 +103,7 @@ fn post_all<R: Wait>(
                 }
             }
             Err(job) => {
-                if job.number() == 0 && job.seq() == seq {
+                if job.seq() == seq {
                     back = back.saturating_add(1);
                 }
             }

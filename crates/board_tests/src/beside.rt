@@ -100,7 +100,7 @@ fn post_each<R: Wait>(rt: &R, alloc: Global, room: &Room, board: &mut Board, job
     }
 }
 
-/// How many outcomes wait.
+/// How many outcomes wait, each with the number of its job: the job that began at ledger 1 was posted first, and so on.
 fn collect_all<R: Wait>(rt: &R, room: &Room, collector: &mut Collector) -> u64
     requires { IsCollectorIn room.now collector.old }
     ensures room { IsCollectorIn room.now collector.new }
@@ -108,10 +108,13 @@ fn collect_all<R: Wait>(rt: &R, room: &Room, collector: &mut Collector) -> u64
 {
     let mut seen = 0u64;
     for _ in rt.forever() {
-        if collector.take(rt, room).is_none() {
+        let Some(posted) = collector.take(rt, room) else {
             break;
+        };
+        let number = posted.number();
+        if number == posted.into_out().seq() as u64 {
+            seen = seen.saturating_add(1);
         }
-        seen = seen.saturating_add(1);
     }
     seen
 }

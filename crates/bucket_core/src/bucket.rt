@@ -1,18 +1,25 @@
 //! Buckets.
 
-ghost use Rattle.std.specs.Prelude.{◌≡◌, ℕ, None, Some, IfOk, MatchResult, option_map};
+ghost use Rattle.std.specs.Prelude.{◌≡◌, ◌<◌, ℕ, None, Some, IfOk, IfSome, MatchResult, option_map, length, slice_get};
 ghost use Rattle.ledger_types.specs.declared.bucket.BucketEntry.TheVariants as item;
+ghost use Rattle.ledger_types.specs.declared.key.LedgerKey.{LedgerKey as AKey};
 ghost use Rattle.bucket_items.specs.Item.{IsItemText};
+ghost use Rattle.bucket_items.specs.KeyText.{IsKeyText};
 ghost use Rattle.bucket_core.specs.Bucket.{Contents, change_at, version_of};
 ghost use Rattle.bucket_core.specs.File.{HasFile, file_of, item_of, items_of};
 ghost use Rattle.bucket_core.specs.Faults.{first_fault, JudgedBy};
+ghost use Rattle.bucket_core.specs.Filter as filter;
 ghost use Rattle.bucket_core.specs.Hash.{file_hash};
+ghost use Rattle.bucket_core.specs.Index.{above, index_of, rows};
 ghost use Rattle.bucket_core.specs.Reading.{contents_of, IsFile};
 
 use crate::cursor::BucketCursor;
 use crate::fault::BucketFault;
-use crate::find::find_ahead;
+use crate::filter::{fingerprint, may_contain};
+use crate::index::{filter_of, find_stored, index_of, offsets_of, stored_above, stored_at};
 use crate::judge::judge;
+use crate::key_encoding::encoded_key;
+use crate::stored::StoredItem;
 use hash_ids::hash;
 use ledger_types::{BucketEntry, Hash, LedgerKey};
 use std::alloc::{AllocError, Global};
@@ -27,12 +34,17 @@ pub struct Bucket {
     bytes: Vec<u8>,
     /// The hash of the file, and none where the bucket was made to be merged.
     hash: Option<Hash>,
+    /// The offset in the file of each item but META, in their order.
+    offsets: Vec<u32>,
+    /// A filter of their keys.
+    words: Vec<u64>,
 }
 
 impl Model for Bucket {
     ghost use Rattle.bucket_core.specs.Bucket.{Contents};
     ghost use Rattle.bucket_core.specs.Code.{contents_code};
-    ghost use Rattle.bucket_core.specs.Reading.{contents_of, IsFileWithHash};
+    ghost use Rattle.bucket_core.specs.Reading.{contents_of};
+    ghost use Rattle.bucket_core.specs.Index.{IsKept};
 
     ghost Value = { Contents };
 
@@ -40,7 +52,7 @@ impl Model for Bucket {
 
     ghost view = { λ b. contents_of b.bytes.items };
 
-    ghost invariant = { λ b. IsFileWithHash b.bytes.items b.hash };
+    ghost invariant = { λ b. IsKept b.bytes.items b.hash b.offsets.items b.words.items };
 }
 
 impl Bucket {
@@ -48,7 +60,7 @@ impl Bucket {
     pub fn empty(alloc: Global) -> Result<Arc<Bucket>, AllocError>
         ensures { IfOk result (λ bucket. bucket.value ≡ None) }
     {
-        let bucket = shared(alloc, bucket_of(Vec::new(alloc)))?;
+        let bucket = shared(alloc, bucket_of(Vec::new(alloc))?)?;
         Ok(bucket)
     }
 
@@ -59,7 +71,7 @@ impl Bucket {
     {
         let alloc = *bytes.allocator();
         judge(alloc, bytes.as_slice())?;
-        let bucket = shared(alloc, bucket_of(bytes))?;
+        let bucket = shared(alloc, bucket_of(bytes)?)?;
         Ok(bucket)
     }
 
@@ -70,7 +82,7 @@ impl Bucket {
             → IfOk result (λ bucket. bucket.value ≡ contents) }
     {
         let alloc = *file.allocator();
-        let bucket = shared(alloc, bucket_of(file))?;
+        let bucket = shared(alloc, bucket_of(file)?)?;
         Ok(bucket)
     }
 
@@ -81,7 +93,7 @@ impl Bucket {
             → IfOk result (λ bucket. bucket.value ≡ contents) }
     {
         let alloc = *file.allocator();
-        let bucket = shared(alloc, unhashed(file))?;
+        let bucket = shared(alloc, unhashed(file)?)?;
         Ok(bucket)
     }
 
@@ -91,7 +103,7 @@ impl Bucket {
     {
         let alloc = self.allocator();
         let file = Vec::from_slice(alloc, self.bytes.as_slice())?;
-        let bucket = shared(alloc, bucket_of(file))?;
+        let bucket = shared(alloc, bucket_of(file)?)?;
         Ok(bucket)
     }
 
@@ -127,13 +139,80 @@ impl Bucket {
         }
     }
 
-    /// The item that says what became of the entry under a key, `None` exactly where the bucket says nothing of it. It
-    /// goes over the file up to the item.
+    /// The item that says what became of the entry under a key, `None` exactly where the bucket says nothing of it.
     pub fn find(&self, key: &LedgerKey) -> Result<Option<BucketEntry>, AllocError>
         ensures { IfOk result
             (λ found. found ≡ option_map (λ change. item_of (key.now, change)) (change_at self.now key.now)) }
     {
-        find_ahead(*self.bytes.allocator(), self.cursor(), key)
+        let alloc = *self.bytes.allocator();
+        match encoded_key(alloc, key)? {
+            Some(text) => self.find_by_text(text.as_slice()),
+            // no file has an item without an encoding
+            None => Ok(None),
+        }
+    }
+
+    /// The same, by the text of the key.
+    pub fn find_by_text(&self, text: &[u8]) -> Result<Option<BucketEntry>, AllocError>
+        ensures { (k : AKey) → IsKeyText text.now k → IfOk result
+            (λ found. found ≡ option_map (λ change. item_of (k, change)) (change_at self.now k)) }
+    {
+        match self.stored(text, fingerprint(text)) {
+            None => Ok(None),
+            Some(item) => Ok(Some(item.read(*self.bytes.allocator())?)),
+        }
+    }
+
+    /// The item under a key where it is in the file, by the text of the key and its fingerprint. It takes no memory.
+    pub fn stored(&self, text: &[u8], fingerprint: u64) -> Option<StoredItem<'_>>
+        requires { fingerprint ≡ filter.fingerprint text.now }
+        ensures { (k : AKey) → IsKeyText text.now k → option_map (λ x. x.1) result
+            ≡ option_map (λ change. item_of (k, change)) (change_at self.now k) }
+    {
+        if !may_contain(self.words.as_slice(), fingerprint) {
+            return None;
+        }
+        find_stored(self.bytes.as_slice(), self.offsets.as_slice(), text)
+    }
+
+    /// The item with the least key above a key, by the text of the key.
+    pub fn above(&self, text: &[u8]) -> Option<StoredItem<'_>>
+        ensures above { (k : AKey) → IsKeyText text.now k → result ≡ above k (rows self.now) }
+        ensures file { HasFile self.now }
+    {
+        stored_above(self.bytes.as_slice(), self.offsets.as_slice(), text)
+    }
+
+    /// How many items exist before the one under a key, META left out, by the text of the key; `None` exactly where the
+    /// bucket says nothing of the key.
+    pub fn index_of(&self, text: &[u8]) -> Option<usize>
+        ensures index { (k : AKey) → IsKeyText text.now k → result ≡ index_of k (rows self.now) }
+        ensures within { IfSome result (λ i. i < length (rows self.now)) }
+    {
+        index_of(self.bytes.as_slice(), self.offsets.as_slice(), text)
+    }
+
+    /// How many items there are, META left out.
+    pub fn len(&self) -> usize
+        ensures { result ≡ length (rows self.now) }
+    {
+        self.offsets.as_slice().len()
+    }
+
+    /// The item with an index among those but META.
+    pub fn item(&self, index: usize) -> StoredItem<'_>
+        requires { index < length (rows self.now) }
+        ensures { slice_get (rows self.now) index ≡ Some result }
+    {
+        let offsets = self.offsets.as_slice();
+        stored_at(self.bytes.as_slice(), offsets[index])
+    }
+
+    /// What the bucket says has a file. It does nothing.
+    pub fn has_file(&self)
+        ensures { HasFile self.now }
+    {
+        let _items = self.cursor();
     }
 
     /// The items of the file from the first one on.
@@ -146,23 +225,36 @@ impl Bucket {
 }
 
 /// The bucket that keeps a file, hashed.
-fn bucket_of(bytes: Vec<u8>) -> Bucket
+fn bucket_of(bytes: Vec<u8>) -> Result<Bucket, AllocError>
     requires { IsFile bytes.items }
-    ensures { result ≡ contents_of bytes.items }
+    ensures { IfOk result (λ bucket. bucket ≡ contents_of bytes.items) }
 {
+    let alloc = *bytes.allocator();
+    let offsets = offsets_of(alloc, bytes.as_slice())?;
+    let words = filter_of(alloc, bytes.as_slice(), offsets.as_slice())?;
     let hash = hash_of_file(bytes.as_slice());
-    Bucket {
+    Ok(Bucket {
         bytes,
         hash: Some(hash),
-    }
+        offsets,
+        words,
+    })
 }
 
 /// The bucket that keeps a file, not hashed yet.
-fn unhashed(bytes: Vec<u8>) -> Bucket
+fn unhashed(bytes: Vec<u8>) -> Result<Bucket, AllocError>
     requires { IsFile bytes.items }
-    ensures { result ≡ contents_of bytes.items }
+    ensures { IfOk result (λ bucket. bucket ≡ contents_of bytes.items) }
 {
-    Bucket { bytes, hash: None }
+    let alloc = *bytes.allocator();
+    let offsets = offsets_of(alloc, bytes.as_slice())?;
+    let words = filter_of(alloc, bytes.as_slice(), offsets.as_slice())?;
+    Ok(Bucket {
+        bytes,
+        hash: None,
+        offsets,
+        words,
+    })
 }
 
 /// A bucket that has several owners.

@@ -4,12 +4,18 @@
 mod bucket;
 mod cursor;
 mod fault;
-mod find;
+mod filter;
+mod index;
 mod item_key;
 mod judge;
+mod key_encoding;
 pub mod laws;
+mod stored;
 
 pub use bucket::Bucket;
 pub use bucket_items::{BucketEntryType, BucketItem};
 pub use cursor::BucketCursor;
 pub use fault::BucketFault;
+pub use filter::fingerprint;
+pub use key_encoding::{encoded_bound, encoded_key};
+pub use stored::StoredItem;

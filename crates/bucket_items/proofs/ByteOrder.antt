@@ -21,7 +21,7 @@ nat_same x = sym (nat_cmp_is x x Equal refl)
 
 -- ---- texts
 
-bytes_same : (x : List ℕ) → bytes_cmp x x ≡ Equal
+pub bytes_same : (x : List ℕ) → bytes_cmp x x ≡ Equal
 bytes_same [] = refl
 bytes_same (a ∷ x) = ap (λ (o : Ordering). ordering_then o (bytes_cmp x x)) (nat_same a) ∙ bytes_same x
 

@@ -1,5 +1,5 @@
 -- Where the key of an item lies in the item's text, and what comes before it.
-use Rattle.bucket_items.proofs.Prelude.{◌≡◌, ℕ, ◌+◌, ◌≤◌, ℤ, pos, List, [], ◌++◌, length, drop, take, Ok, Err, refl}
+use Rattle.bucket_items.proofs.Prelude.{◌≡◌, ℕ, ◌≤◌, ℤ, pos, List, ◌++◌, length, drop, take, Ok, Err, refl}
 use Rattle.bucket_items.proofs.Prelude.{sym, ap, subst, ◌∙◌, append_assoc, arith, length-append, w32, cast_unsigned}
 use Rattle.bucket_items.proofs.Prelude.{XdrFault, Position, start_of, IsBytes, u32, i32, wide4, LedgerKey, LedgerEntry}
 use Rattle.bucket_items.proofs.Prelude.{BucketEntry, key_of, ledger_key, bucket_entry, ledger_entry, ledger_key_laws}
@@ -7,6 +7,7 @@ use Rattle.bucket_items.proofs.Prelude.{item_type, item_key_text, IsItemText, dr
 use Rattle.ledger_types.specs.declared.bucket.BucketEntry.TheVariants as bucket
 use Rattle.bucket_items.specs.declared.item.BucketEntryType.TheVariants as mark
 use Rattle.bucket_items.proofs.EntryKeys.{entry_holds_key, entry_key_within, entry_key_sized}
+use Rattle.bucket_items.proofs.RefOrder.{after_key, key_is_read}
 
 -- after n bytes of a text comes a key's encoding
 pub record HoldsKey (text : List ℕ) (n : ℕ) (k : LedgerKey) : Type 0 where
@@ -75,14 +76,10 @@ key_ends text v p q fits a e =
     let t = (ledger_key_laws.lawful.takes (start_of text) q v fits r).taken in
     omega (arith, t.at, ap (λ (x : List ℕ). length x) t.parts, length-append (ledger_key.encoding v) q.rest)
 
--- where reading a text ends that begins with a key's encoding
-abbrev after : LedgerKey → List ℕ → Position
-after k tail = record { at = 0 + length (ledger_key.encoding k); rest = tail }
-
 prefix_is_read : (text : List ℕ) (k : LedgerKey) (tail : List ℕ) → text ≡ ledger_key.encoding k ++ tail
-    → ledger_key.within k → ledger_key.sized k → ledger_key.read (start_of text) ≡ Ok (k, after k tail)
+    → ledger_key.within k → ledger_key.sized k → ledger_key.read (start_of text) ≡ Ok (k, after_key k tail)
 prefix_is_read text k tail e within sized =
-    ap (λ (t : List ℕ). ledger_key.read (start_of t)) e ∙ ledger_key_laws.lawful.again 0 k tail within sized
+    key_is_read text k (record { tail = tail; parts = e; within = within; sized = sized })
 
 -- reading it ends after it
 pub prefix_is_key : (text : List ℕ) (k v : LedgerKey) (tail : List ℕ) (p q : Position)
@@ -90,7 +87,7 @@ pub prefix_is_key : (text : List ℕ) (k v : LedgerKey) (tail : List ℕ) (p q :
     → ledger_key.read p ≡ Ok (v, q) → take q.at text ≡ ledger_key.encoding k
 prefix_is_key text k v tail p q e within sized a r =
     let s : ledger_key.read (start_of text) ≡ Ok (v, q) = ap (λ (x : Position). ledger_key.read x) (sym a) ∙ r in
-    let same : (v, q) ≡ (k, after k tail) = cc (s, prefix_is_read text k tail e within sized) in
+    let same : (v, q) ≡ (k, after_key k tail) = cc (s, prefix_is_read text k tail e within sized) in
     let at : q.at ≡ length (ledger_key.encoding k) = ap (λ (y : LedgerKey × Position). y.1.at) same ∙ omega arith in
     (λ i. take (at i) (e i)) ∙ take_at (ledger_key.encoding k) tail (length (ledger_key.encoding k)) refl
 

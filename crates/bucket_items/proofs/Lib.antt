@@ -6,4 +6,5 @@ pub mod EntryKeys
 pub mod Holding
 pub mod Marking
 pub mod RecordLaws
+pub mod KeysInRecords
 mod Prelude

@@ -8,10 +8,11 @@ pub use Rattle.std.specs.Int.{byte_at, bytes_high_first, cast_unsigned, w32}
 pub use Rattle.std.specs.Ordering.{MatchOrdering, nat_cmp, ordering_then}
 pub use Rattle.std.specs.Prelude.{IsSomeAnd, None, Option, Result}
 pub use Rattle.std.specs.declared.cmp.Ordering.{Ordering}
-pub use Rattle.bucket_items.specs.Item.{IsItemText, Shows, ended, ended_by, entire_at, item_key_text, item_type}
+pub use Rattle.bucket_items.specs.Item.{BeginsWithItemKey, IsItemText, Shows, ended, ended_by, entire_at}
+pub use Rattle.bucket_items.specs.Item.{item_key_text, item_type}
 pub use Rattle.bucket_items.specs.Item.{type_with}
 pub use Rattle.bucket_items.specs.KeyRef.{key_seen}
-pub use Rattle.bucket_items.specs.KeyText.{AreByBytes, IsKeyText}
+pub use Rattle.bucket_items.specs.KeyText.{AreByBytes, BeginsWithKey, IsKeyText}
 pub use Rattle.bucket_items.specs.MarkedItem.{IsEncodable, TakesItem, after_mark, item_at, item_in, max_item_len}
 pub use Rattle.bucket_items.specs.MarkedItem.{record_of}
 pub use Rattle.ledger_types.specs.Bytes.{bytes_cmp}

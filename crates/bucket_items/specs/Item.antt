@@ -9,6 +9,7 @@ use Rattle.ledger_types.specs.declared.bucket.BucketEntry.{BucketEntry}
 use Rattle.ledger_types.specs.declared.bucket.BucketEntry.TheVariants as bucket
 use Rattle.ledger_types.specs.Keys.{key_of}
 use Rattle.xdr_entries.specs.Keys.{ledger_key, bucket_entry}
+use Rattle.bucket_items.specs.KeyText.{BeginsWithKey}
 use Rattle.bucket_items.specs.declared.item.BucketEntryType.{BucketEntryType}
 use Rattle.bucket_items.specs.declared.item.BucketEntryType.TheVariants as mark
 use Rattle.bucket_items.specs.declared.item.BucketItem.{BucketItem}
@@ -35,6 +36,13 @@ item_key_text (bucket.Meta version) = []
 item_key_text (bucket.Live entry) = ledger_key.encoding (key_of entry)
 item_key_text (bucket.Dead gone) = ledger_key.encoding gone
 item_key_text (bucket.Init entry) = ledger_key.encoding (key_of entry)
+
+-- the encoding of an item's key is a prefix of these bytes; nothing is said of META
+abbrev pub BeginsWithItemKey : List ℕ → BucketEntry → Type 0
+BeginsWithItemKey text (bucket.Meta version) = Unit {0}
+BeginsWithItemKey text (bucket.Live entry) = BeginsWithKey text (key_of entry)
+BeginsWithItemKey text (bucket.Dead gone) = BeginsWithKey text gone
+BeginsWithItemKey text (bucket.Init entry) = BeginsWithKey text (key_of entry)
 
 -- these bytes are the encoding of the item, and nothing else
 pub record IsItemText (text : List ℕ) (e : BucketEntry) : Type 0 where

@@ -1,5 +1,5 @@
 -- The text of a key (LedgerKey in Stellar-ledger-entries.x, over RFC 4506).
-use Rattle.std.specs.Prelude.{◌≡◌, ℕ, List}
+use Rattle.std.specs.Prelude.{◌≡◌, ◌++◌, ℕ, List}
 use Rattle.std.specs.declared.cmp.Ordering.{Ordering}
 use Rattle.ledger_types.specs.declared.key.LedgerKey.{LedgerKey}
 use Rattle.ledger_types.specs.declared.key.LedgerKey.TheVariants as key
@@ -11,6 +11,17 @@ pub record IsKeyText (text : List ℕ) (k : LedgerKey) : Type 0 where
   pub encoded : text ≡ ledger_key.encoding k
   pub within : ledger_key.within k
   pub sized : ledger_key.sized k
+
+-- the encoding of the key is a prefix of these bytes
+pub record BeginsWithKey (text : List ℕ) (k : LedgerKey) : Type 0 where
+  pub tail : List ℕ
+  pub parts : text ≡ ledger_key.encoding k ++ tail
+  pub within : ledger_key.within k
+  pub sized : ledger_key.sized k
+
+-- two texts that begin with keys compare as the keys do; nothing is said of other texts
+abbrev pub OrdersPrefixes : List ℕ → List ℕ → Ordering → Type 0
+OrdersPrefixes a b answer = (k m : LedgerKey) → BeginsWithKey a k → BeginsWithKey b m → answer ≡ key_cmp k m
 
 -- two texts of keys compare as the keys do; nothing is said of other texts
 abbrev pub OrdersKeys : List ℕ → List ℕ → Ordering → Type 0

@@ -1,15 +1,24 @@
 //! An item of a bucket's file, and its key, where they lie there.
 
-ghost use Rattle.std.specs.Prelude.{◌≡◌, ◌≤◌, ◌++◌, ℕ, List, length, drop};
+ghost use Rattle.std.specs.Prelude.{◌≡◌, ◌++◌, ℕ, List, Ok};
 ghost use Rattle.ledger_types.specs.declared.bucket.BucketEntry.{BucketEntry as AnItem};
 ghost use Rattle.ledger_types.specs.declared.key.LedgerKey.{LedgerKey};
-ghost use Rattle.xdr_core.specs.Position.{Position};
+ghost use Rattle.xdr_core.specs.Position.{Position, start_of};
 ghost use Rattle.xdr_entries.specs.Keys.{ledger_key};
 ghost use Rattle.bucket_items.specs.Item as spec;
+ghost use Rattle.bucket_items.specs.MarkedItem.{item_at};
 
 use crate::key_ref::read_key_ref;
+use crate::text::{after, byte_at};
 use ledger_types::BucketEntry;
 use xdr_core::Cursor;
+
+/// The offset in a record of the byte that holds its item's type: after the record mark (RFC 5531, 11), the last byte
+/// of the discriminant.
+const TYPE_OFFSET: usize = 7;
+
+/// DEADENTRY of BucketEntryType.
+const DEAD: u8 = 1;
 
 /// What an item says of its key (BucketEntryType in Stellar-ledger.x; CAP-0020).
 #[derive(Clone, Copy, PartialEq, Eq)]
@@ -47,16 +56,6 @@ pub(crate) fn type_of(entry: &BucketEntry) -> BucketEntryType
     }
 }
 
-/// What comes after the first `n` bytes of a text, or the text where it has fewer.
-fn after(text: &[u8], n: usize) -> &[u8]
-    ensures { n ≤ length text.now → result.now ≡ drop n text.now }
-{
-    if text.len() < n {
-        return text;
-    }
-    text.split_at(n).1
-}
-
 /// The key with whose encoding a text begins, or the text where it begins with none.
 fn prefix_key(text: &[u8]) -> &[u8]
     ensures { (k : LedgerKey) (tail : List ℕ)
@@ -92,5 +91,18 @@ pub(crate) fn item_of(text: &[u8], mark: BucketEntryType) -> BucketItem<'_>
         mark,
         key: key_in(text, mark),
         bytes: text,
+    }
+}
+
+/// The text from the key of an item on, where the item's record is the prefix of a text: after the record mark and the
+/// discriminant, and in an entry after the number of its last change too. It says nothing of META, which has no key.
+pub fn from_key(text: &[u8]) -> &[u8]
+    ensures { (e : AnItem) (q : Position) → item_at (start_of text.now) ≡ Ok (e, q)
+        → spec.BeginsWithItemKey result.now e }
+{
+    if byte_at(text, TYPE_OFFSET) == DEAD {
+        after(text, 8)
+    } else {
+        after(text, 12)
     }
 }

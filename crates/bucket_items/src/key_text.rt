@@ -1,12 +1,13 @@
 //! The order of keys by their texts. It is not the order of the texts' bytes: an offer's number has a sign, and a
 //! name's length comes before its bytes.
 
-ghost use Rattle.std.specs.Prelude.{◌≡◌, slice_index, true};
+ghost use Rattle.std.specs.Prelude.{◌≡◌, true};
 ghost use Rattle.ledger_types.specs.declared.key.LedgerKey.{LedgerKey as AKey};
 ghost use Rattle.ledger_types.specs.KeyOrder.{key_cmp};
 ghost use Rattle.bucket_items.specs.KeyText as spec;
 
 use crate::key_ref::{KeyRef, read_key_ref};
+use crate::text::{byte_at, first};
 use ledger_types::LedgerKey;
 use std::cmp::Ordering;
 use xdr_core::Cursor;
@@ -20,10 +21,10 @@ const OFFER: u8 = 2;
 /// The kind of the key of data (DATA of LedgerEntryType in Stellar-ledger-entries.x).
 const DATA: u8 = 3;
 
-/// How two keys compare, as they are read from their texts. Where one text is of no key the answer is `Equal`, and says
-/// nothing.
+/// How two keys compare, as they are read from the prefixes of two texts. Where one text begins with no key the answer
+/// is `Equal`, and says nothing.
 pub fn compare(a: &[u8], b: &[u8]) -> Ordering
-    ensures { spec.OrdersKeys a.now b.now result }
+    ensures { spec.OrdersPrefixes a.now b.now result }
 {
     let mut left = Cursor::new(a);
     let mut right = Cursor::new(b);
@@ -45,24 +46,14 @@ pub fn compare_with(key: &LedgerKey, text: &[u8]) -> Ordering
     }
 }
 
-/// The byte that holds a key's kind, or 0.
-fn kind_byte(text: &[u8]) -> u8
-    ensures { result ≡ slice_index text.now 3 }
-{
-    if text.len() > KIND_OFFSET {
-        text[KIND_OFFSET]
-    } else {
-        0
-    }
-}
-
-/// Whether two keys compare as the bytes of their texts do: they aren't two offers, nor two names.
+/// Whether two keys compare as the bytes of their encodings do, which are the prefixes of two texts: they aren't two
+/// offers, nor two names.
 fn agree_with_bytes(a: &[u8], b: &[u8]) -> bool
     ensures { (k : AKey) (m : AKey)
-        → spec.IsKeyText a.now k → spec.IsKeyText b.now m → result ≡ true → spec.AreByBytes k m }
+        → spec.BeginsWithKey a.now k → spec.BeginsWithKey b.now m → result ≡ true → spec.AreByBytes k m }
 {
-    let kind = kind_byte(a);
-    if kind != kind_byte(b) {
+    let kind = byte_at(a, KIND_OFFSET);
+    if kind != byte_at(b, KIND_OFFSET) {
         return true;
     }
     if kind == OFFER {
@@ -83,5 +74,18 @@ pub fn order(a: &[u8], b: &[u8]) -> Ordering
         a.cmp(b)
     } else {
         compare(a, b)
+    }
+}
+
+/// How the key whose encoding is the prefix of a text compares to another, by the other's text. It reads no more of the
+/// first text than `order` does. Where one text is of no key the answer says nothing.
+pub fn order_prefix(text: &[u8], key: &[u8]) -> Ordering
+    ensures { (k : AKey) (m : AKey)
+        → spec.BeginsWithKey text.now k → spec.IsKeyText key.now m → result ≡ key_cmp k m }
+{
+    if agree_with_bytes(text, key) {
+        first(text, key.len()).cmp(key)
+    } else {
+        compare(text, key)
     }
 }

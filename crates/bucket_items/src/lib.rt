@@ -5,8 +5,9 @@ mod item;
 mod key_ref;
 mod key_text;
 mod marked_item;
+mod text;
 
-pub use item::{BucketEntryType, BucketItem};
+pub use item::{BucketEntryType, BucketItem, from_key};
 pub use key_ref::{KeyRef, read_key_ref};
-pub use key_text::{compare, compare_with, order};
+pub use key_text::{compare, compare_with, order, order_prefix};
 pub use marked_item::{next_item, read_marked_item};

@@ -16,7 +16,6 @@ use steps::Steps;
 pub struct MergeJob {
     level: u32,
     seq: u32,
-    number: u64,
     curr: Arc<Bucket>,
     snap: Arc<Bucket>,
 }
@@ -32,7 +31,6 @@ impl Model for MergeJob {
     ghost view = { λ j. record {
       level = j.level;
       seq = j.seq;
-      number = j.number;
       curr = j.curr.value;
       snap = j.snap.value;
     } };
@@ -48,31 +46,21 @@ pub struct MergeBack {
 }
 
 impl MergeJob {
-    /// The merge of the older `curr` and the newer `snap` into a level from 1 to 10, begun at ledger `seq`. Its number
-    /// is 0.
+    /// The merge of the older `curr` and the newer `snap` into a level from 1 to 10, begun at ledger `seq`.
     pub fn new(level: u32, seq: u32, curr: Arc<Bucket>, snap: Arc<Bucket>) -> MergeJob
         requires low { 1 ≤ level }
         requires high { level ≤ 10 }
         ensures level { result.level ≡ level }
         ensures seq { result.seq ≡ seq }
-        ensures number { result.number ≡ 0 }
         ensures curr { result.curr ≡ curr.value }
         ensures snap { result.snap ≡ snap.value }
     {
         MergeJob {
             level,
             seq,
-            number: 0,
             curr,
             snap,
         }
-    }
-
-    /// The same merge with a number.
-    pub fn numbered(self, number: u64) -> MergeJob
-        ensures { result ≡ record self { number = number } }
-    {
-        MergeJob { number, ..self }
     }
 
     /// The level that the merge is for, 1 to 10.
@@ -89,13 +77,6 @@ impl MergeJob {
         ensures { result ≡ self.now.seq }
     {
         self.seq
-    }
-
-    /// The number of the merge.
-    pub fn number(&self) -> u64
-        ensures { result ≡ self.now.number }
-    {
-        self.number
     }
 
     /// The older input.

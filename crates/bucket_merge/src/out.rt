@@ -52,13 +52,6 @@ impl MergeOut {
         self.job.seq()
     }
 
-    /// The number of the merge.
-    pub fn number(&self) -> u64
-        ensures { result ≡ self.now.number }
-    {
-        self.job.number()
-    }
-
     /// The older input.
     pub fn curr(&self) -> &Arc<Bucket>
         ensures { result.now.value ≡ self.now.curr }

@@ -37,6 +37,10 @@ pub mod OneClose
 pub mod OneImage
 pub mod ShortHeaders
 pub mod StateImages
+pub mod AlikeHoldings
+pub mod ConservedCloses
+pub mod EachLegal
+pub mod KeptLaws
 pub use Rattle.bucket_levels.proofs.entry_map_proofs
 pub use Rattle.close_rules.proofs.ledger_types_proofs
 pub use Rattle.close_rules.proofs.sponsor_laws_proofs

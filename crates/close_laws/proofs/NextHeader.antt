@@ -162,14 +162,14 @@ fees_low base (envelope ∷ envelopes) m =
 
 -- ---- the header
 
-one_above : (seq : ℕ) → seq < 2147483647 → seq + 1 ≤ 2147483647
+pub one_above : (seq : ℕ) → seq < 2147483647 → seq + 1 ≤ 2147483647
 one_above seq below = omega arith
 
-above_0 : (seq : ℕ) → 1 ≤ seq + 1
+pub above_0 : (seq : ℕ) → 1 ≤ seq + 1
 above_0 seq = omega arith
 
 -- fewer ids are drawn than a ledger may draw
-ids_few : (seq was now : ℕ) → was ≤ seq * 2 ^ 32 → now ≤ was + 1677721600 → now ≤ (seq + 1) * 2 ^ 32
+pub ids_few : (seq was now : ℕ) → was ≤ seq * 2 ^ 32 → now ≤ was + 1677721600 → now ≤ (seq + 1) * 2 ^ 32
 ids_few seq was now low few = omega arith
 
 filled_range : (s : ClosingState) (closing : CloseRecord) → IsHeaderInRange s.header → s.header.ledger_seq < 2147483647

@@ -3,6 +3,7 @@ pub mod Results
 pub mod Header
 pub mod Closes
 pub mod Images
+pub mod ClosedRecords
 pub use Rattle.close_rules.specs.bucket_items
 pub use Rattle.bucket_levels.specs as bucket_levels
 pub use Rattle.close_rules.specs as close_rules

@@ -5,6 +5,7 @@ pub mod closes;
 pub mod entries;
 pub mod header;
 pub mod images;
+pub mod records;
 pub mod results;
 
 pub use close_rules;

@@ -2,12 +2,11 @@
 use Rattle.std.specs.Prelude.{◌≡◌, ℕ, ◌≤◌, List, length}
 use Rattle.ledger_types.specs.declared.ids.Hash.{Hash}
 use Rattle.ledger_types.specs.declared.header.LedgerHeader.{LedgerHeader}
-use Rattle.xdr_core.specs.declared.fault.XdrFault.{XdrFault}
-use Rattle.xdr_core.specs.Format.{Format}
 use Rattle.header_chain.specs.xdr_header.Header.{ledger_header}
 use Rattle.bucket_levels.specs.entry_map.EntryMap.{EntryMap}
 use Rattle.tx_apply.specs.legal_rules.Dated.{AreDated}
 use Rattle.tx_apply.specs.legal_rules.Legal.{IsLegal}
+pub use Rattle.bucket_levels.specs.bucket_core.Encoded.{IsEncoded}
 use Rattle.bucket_levels.specs.Spills.{level_count}
 use Rattle.bucket_levels.specs.Pairs.{Pair}
 use Rattle.bucket_levels.specs.Size.{file_total}
@@ -21,11 +20,6 @@ pub record ClosingState : Type 0 where
   pub header : LedgerHeader
   pub entries : EntryMap
   pub levels : List Pair
-
--- a value that has an encoding
-pub record IsEncoded {V : Type 0} (f : Format XdrFault V) (v : V) : Type 0 where
-  pub within : f.within v
-  pub sized : f.sized v
 
 -- the most bytes that the files of a ledger's levels have
 abbrev pub max_file_total : ℕ

@@ -7,6 +7,7 @@ use Rattle.entry_map.proofs.Prelude.{Contains-push, Contains-push_cases, LedgerK
 use Rattle.entry_map.proofs.Prelude.{EntryMap, KeyedMap, AreRising, AreKeysOf, LayerMap, under, under_one, is_changed}
 use Rattle.entry_map.proofs.Prelude.{parts_of, IsNew, IsChanged, IsGone, IsBatch, AreChangedKeys, IsNoted, IsNotedAt}
 use Rattle.entry_map.proofs.Prelude.{Answers, Takes, nil_contains_nothing, nil_from_length}
+use Rattle.entry_map.proofs.Prelude.{arith, Bool}
 use Rattle.std.proofs.lemmas.List.{append-nil}
 use Rattle.entry_map.proofs.KnownKeys.{unchanged}
 
@@ -217,6 +218,20 @@ changed_keys_are ls top first second third ks nothing by_top by_all listed = rec
       ∙ ap (λ b. b || contains_key top q) (ap (λ x. contains_key x q) nothing ∙ ap is_some (get-empty key_cmp q))) in
       (λ h. sym is ∙ (listed.all q).0 h, λ h. (listed.all q).1 (is ∙ h));
 }
+
+or_nothing : (b : Bool) → (b || false) ≡ b
+or_nothing true = refl
+or_nothing false = refl
+
+-- those of one layer
+pub keys_of_one : (ls : List LayerMap) (top : LayerMap) (ks : List LedgerKey) → length ls ≡ 0 → AreKeysOf top ks
+    → AreChangedKeys ls top ks
+keys_of_one [] top ks none listed = record {
+  rises = listed.rises;
+  all = λ q. let is = or_nothing (contains_key top q) in
+      (λ h. is ∙ (listed.all q).0 h, λ h. (listed.all q).1 (sym is ∙ h));
+}
+keys_of_one (l ∷ ls) top ks none listed = absurd (omega arith)
 
 pub all_yielded : {X : Type 0} (yielded left : List X) → length left ≡ 0 → yielded ++ left ≡ yielded
 all_yielded yielded left h = ap (λ xs. yielded ++ xs) (nil_from_length left h) ∙ append-nil yielded

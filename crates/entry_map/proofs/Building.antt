@@ -8,7 +8,8 @@ use Rattle.entry_map.proofs.Prelude.{offer_of, offers_in, IsNarrow, position_of,
 use Rattle.entry_map.proofs.Prelude.{without_offers, without, IsIndexOf, is_some_false}
 use Rattle.entry_map.proofs.Layers.{with_key}
 use Rattle.entry_map.proofs.PositionMaps.{with_more, without_more}
-use Rattle.entry_map.proofs.Aggregates.{index_put}
+use Rattle.entry_map.proofs.Prelude.{empty, index_of}
+use Rattle.entry_map.proofs.Aggregates.{index_empty, index_put}
 
 -- ---- lists of offers
 
@@ -62,6 +63,16 @@ more_entries es i e first old new lt at is h = is ∙ ap (λ m. with_offers m (o
 pub all_entries_in : (es : List LedgerEntry) (i : ℕ) (first index : PositionMap) → length es ≤ i
     → index ≡ with_offers first (offers_in (take i es)) → index ≡ with_offers first (offers_in es)
 all_entries_in es i first index le h = h ∙ ap (λ r. with_offers first (offers_in r)) (take_all i es le)
+
+pub index_push : (os : List OfferEntry) (o : OfferEntry)
+    → index_of (os ++ o ∷ []) ≡ insert (index_of os) (position_of o) (terms_of o)
+unfolding with_offers
+index_push os o = with_more empty os (o ∷ [])
+
+-- the index of no offers is that of no entries
+pub index_of_none : (os : List OfferEntry) → os ≡ [] → IsIndexOf (from_entries []) (index_of os)
+unfolding with_offers
+index_of_none os none = subst (λ rest. IsIndexOf (from_entries []) (index_of rest)) (sym none) index_empty
 
 -- ---- an entry that wasn't there
 

@@ -23,7 +23,8 @@ derived = (keys.cmp-value).it
 pub derived_is : derived ≡ key_cmp
 derived_is = λ i a b. keys_compared a b i
 
-find_lookup : {K X : Type 0} (R : K → K → Ordering) (q : K) (es : List (K × X)) → find R q es ≡ lookup (is_at (R q)) es
+pub find_lookup : {K X : Type 0} (R : K → K → Ordering) (q : K) (es : List (K × X))
+    → find R q es ≡ lookup (is_at (R q)) es
 find_lookup R q [] = refl
 find_lookup R q (e ∷ es) = ap (cond (eq_by_cmp R q e.0) (Some e.1)) (find_lookup R q es)
 

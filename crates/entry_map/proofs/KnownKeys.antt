@@ -6,7 +6,10 @@ use prelude.{is_lt, is_gt, ordering_reverse, eq_by_cmp, upto, tied_itself, list_
 use prelude.{contains_key-keys, LedgerKey, LedgerEntry, key_of, key_cmp, keys_total, keys_exact, EntryMap, IsLeastAbove}
 use prelude.{IsNextAfter, LayerMap, under, under_one, change_of, newest_change, is_changed, is_known, IsLeastKey}
 use prelude.{IsNextKey, lesser_of, common_steps, is_lt_true_Less, same_keys, is_some_false, or_left, or_parts, or_right}
-use Rattle.std.proofs.Common.{is_some}
+use Rattle.std.proofs.Common.{is_some, option_map}
+use Rattle.entry_map.specs.Walk.{IsNextKnown}
+use Rattle.entry_map.specs.declared.walk.Known.{Known}
+use Rattle.entry_map.specs.declared.walk.Known.TheVariants.{Kept, Changed}
 use Rattle.entry_map.proofs.Under.{get-current}
 use Rattle.entry_map.proofs.KeyMaps.{not_greater}
 
@@ -270,16 +273,67 @@ known_falls m ls top at least next =
 
 -- ---- as the code finds it
 
-pub next_of_three : (p r s : LedgerKey → Bool) (k : LedgerKey) (a b c a' bc out : Option LedgerKey) → IsNextKey p k a
-    → IsNextKey r k b → IsNextKey s k c
-    → bc ≡ lesser_of b c → a' ≡ a → out ≡ lesser_of a' bc → IsNextKey (λ q. p q || (r q || s q)) k out
-next_of_three p r s k a b c a' bc out one two three is_bc is_a is =
-    subst (IsNextKey (λ q. p q || (r q || s q)) k) (sym (is ∙ ap (λ x. lesser_of x bc) is_a ∙ ap (lesser_of a) is_bc))
-    (next_either p (λ q. r q || s q) k a (lesser_of b c) one (next_either r s k b c two three))
+base_next : (m : EntryMap) (k : LedgerKey) (e : LedgerEntry) → IsLeastAbove m k e
+    → IsNextKey (contains_key m) k (Some (key_of e))
+base_next m k e next = record {
+  there = ap is_some next.there;
+  above = next.above;
+  least_of = λ q above there. next.least q above (λ none. cannot_be (contains_key m q) (ap is_some none) there);
+}
 
-pub next_is : (p : LedgerKey → Bool) (k : LedgerKey) (o p' : Option LedgerKey) → o ≡ p' → IsNextKey p k o
-    → IsNextKey p k p'
-next_is p k o p' is next = subst (IsNextKey p k) is next
+module _ (m : EntryMap) (ls : List LayerMap) (top : LayerMap) where
+  abbrev changed : LedgerKey → Bool
+  changed q = contains_key top q || is_changed ls q
+
+  pub none_kept : (k : LedgerKey) (o : Option LedgerKey) → IsNextAfter m k None → IsNextKey changed k o
+      → IsNextKnown m ls top k (option_map Changed o)
+  none_kept k None none next =
+      next_either (contains_key m) changed k None None (λ q above. ap is_some (none q above)) next
+  none_kept k (Some x) none next =
+      next_either (contains_key m) changed k None (Some x) (λ q above. ap is_some (none q above)) next
+
+  pub none_changed : (k : LedgerKey) (e : LedgerEntry) → IsLeastAbove m k e → IsNextKey changed k None
+      → IsNextKnown m ls top k (Some (Kept e))
+  none_changed k e base next = (
+    next_either (contains_key m) changed k (Some (key_of e)) None (base_next m k e base) next,
+    unchanged m ls top (key_of e) (next (key_of e) base.above) ∙ base.there,
+  )
+
+  lesser_known : (k : LedgerKey) (e : LedgerEntry) (x : LedgerKey) (b : Bool) → IsLeastAbove m k e
+      → IsNextKey changed k (Some x) → is_lt (key_cmp x (key_of e)) ≡ b
+      → IsNextKey (is_known m ls top) k (cond b (Some x) (Some (key_of e)))
+  lesser_known k e x b base next is =
+      subst (λ t. IsNextKey (is_known m ls top) k (cond t (Some x) (Some (key_of e)))) is
+      (next_either (contains_key m) changed k (Some (key_of e)) (Some x) (base_next m k e base) next)
+
+  pub kept_first : (k : LedgerKey) (e : LedgerEntry) (x : LedgerKey) → IsLeastAbove m k e
+      → IsNextKey changed k (Some x) → key_cmp (key_of e) x ≡ Less → IsNextKnown m ls top k (Some (Kept e))
+  kept_first k e x base next less =
+      let after : key_cmp x (key_of e) ≡ Greater = keys_total.antisymm x (key_of e) ∙ ap ordering_reverse less in
+      let same : changed (key_of e) ≡ false =
+      elim (changed (key_of e)) as (λ b. changed (key_of e) ≡ b → b ≡ false) [
+        | true ↦ λ h. absurd (next.least_of (key_of e) base.above h after)
+        | false ↦ λ h. refl
+      ] refl in (
+        lesser_known k e x false base next (ap is_lt after),
+        unchanged m ls top (key_of e) same ∙ base.there,
+      )
+
+  pub changed_first : (k : LedgerKey) (e : LedgerEntry) (x : LedgerKey) → IsLeastAbove m k e
+      → IsNextKey changed k (Some x) → key_cmp (key_of e) x ≢ Less → IsNextKnown m ls top k (Some (Changed x))
+  changed_first k e x base next late =
+      elim (key_cmp (key_of e) x) as (λ r. key_cmp (key_of e) x ≡ r → IsNextKey (is_known m ls top) k (Some x)) [
+        | Less ↦ λ less. absurd (late less)
+        | Equal ↦ λ tied. subst (λ y. IsNextKey (is_known m ls top) k (Some y)) (keys_exact (key_of e) x tied)
+            (lesser_known k e x false base next
+            (ap is_lt (keys_total.antisymm x (key_of e) ∙ ap ordering_reverse tied)))
+        | Greater ↦ λ after. lesser_known k e x true base next
+            (ap is_lt (keys_total.antisymm x (key_of e) ∙ ap ordering_reverse after))
+      ] refl
+
+pub next_is : (m : EntryMap) (ls : List LayerMap) (top : LayerMap) (k : LedgerKey) (o p : Option Known) → o ≡ p
+    → IsNextKnown m ls top k o → IsNextKnown m ls top k p
+next_is m ls top k o p is next = subst (IsNextKnown m ls top k) is next
 
 pub first_and_rest : {X : Type 0} (xs : List X) (x : X) → 1 ≤ length xs → x ≡ get_or xs 0 x
     → xs ≡ x ∷ take (length xs - 1) (drop 1 xs)

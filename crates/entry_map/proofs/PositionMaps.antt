@@ -4,10 +4,18 @@ use prelude.{◌≡◌, ◌≢◌, refl, sym, ap, subst, ◌∙◌, Bool, true, 
 use prelude.{None, is_some, option_or, eq_by_cmp, empty, insert, remove, get, find, from_sorted, same_map, get-empty}
 use prelude.{get-from_sorted, get-insert, get-remove, rising_changed, find_changed, first_is, IsFirst, IsFirstAbove}
 use prelude.{OfferEntry, BookPosition, OfferTerms, position_of, terms_of, PositionMap, has, is_at, is_taken, index_of}
-use prelude.{with_offers, without_offers, terms_at, IsLeastPosition, IsLastPosition}
+use prelude.{with_offers, without_offers, terms_at, IsLeastPosition, IsLastPosition, map, T, AllByRecursion, is_lt}
+use prelude.{is_sorted, keys_of, eq_by_cmp_equiv, Less}
 use Rattle.std.specs.Prelude.{MatchOption}
+use Rattle.std.specs.List.Sorted.{IsStrictlySortedBy}
+use Rattle.std.specs.Map.{update_all}
+use Rattle.std.specs.BTreeMap as tree
+use Rattle.std.specs.BTreeMap.{BTreeMap}
+use Rattle.std.specs.FinMap.Entries.{below_all}
+use Rattle.shared_tree.proofs.Parts.{both, is_less}
+use Rattle.entry_map.specs.Positions.{positioned}
 use Rattle.shared_tree.specs.Rows.{IsRising, first_above, changed}
-use Rattle.entry_map.proofs.KeyMaps.{or_none, or_or}
+use Rattle.entry_map.proofs.KeyMaps.{or_none, or_or, find_lookup}
 use Rattle.entry_map.proofs.Positions.{order, derived, derived_is, order_total, order_exact}
 
 abbrev pub Row : Type 0
@@ -164,3 +172,46 @@ pub next_position : (row : Row) (m : PositionMap) (k : BookPosition) (o : Option
     → MatchOption o (IsLastPosition m k) (λ next. IsLeastPosition m k next.0 next.1)
 next_position row m k None h view is = last_position row m k h view is
 next_position row m k (Some x) h view is = least_position row m k x h view is
+
+-- ---- rows that are sorted at once
+
+terms_put : (os : List OfferEntry) (f : BookPosition → Option OfferTerms) (p : BookPosition)
+    → update_all (eq_by_cmp order) f (map positioned os) p ≡ option_or (terms_in os p) (f p)
+terms_put [] f p = refl
+terms_put (o ∷ os) f p =
+    terms_put os (λ q. cond (eq_by_cmp order (position_of o) q) (Some (terms_of o)) (f q)) p
+    ∙ ap (λ b. option_or (terms_in os p) (cond b (Some (terms_of o)) (f p)))
+    ((eq_by_cmp_equiv order_total).symm (position_of o) p)
+    ∙ ap (option_or (terms_in os p)) (put (is_at p o)) ∙ or_or (terms_in os p) (terms_at p (Some o)) (f p)
+  where
+    put : (b : Bool) → cond b (Some (terms_of o)) (f p) ≡ option_or (cond b (Some (terms_of o)) None) (f p)
+    put true = refl
+    put false = refl
+
+below_sorted : (p : BookPosition) (es : Row) → AllByRecursion (λ q. order p q ≡ Less) (keys_of es)
+    → T (below_all order p es)
+below_sorted p [] h = tt
+below_sorted p (e ∷ es) h =
+    both (is_lt (order p e.0)) (below_all order p es) (is_less (order p e.0) h.0) (below_sorted p es h.1)
+
+rising_sorted : (es : Row) → IsStrictlySortedBy order (keys_of es) → IsRising order es
+unfolding IsStrictlySortedBy
+rising_sorted [] h = tt
+rising_sorted (e ∷ es) h =
+    both (below_all order e.0 es) (is_sorted order es) (below_sorted e.0 es h.0) (rising_sorted es h.1)
+
+pub rising_built : (pairs row : Row) (built : BTreeMap BookPosition OfferTerms)
+    → tree.IsFromIterResult derived pairs built → row ≡ built.entries → IsRising order row
+rising_built pairs row built made is =
+    let stated = subst (λ c. tree.IsFromIterResult c pairs built) derived_is made in
+    subst (IsRising order) (sym is) (rising_sorted built.entries stated.1)
+
+pub index_built : (os : List OfferEntry) (pairs row : Row) (built : BTreeMap BookPosition OfferTerms)
+    → pairs ≡ map positioned os → tree.IsFromIterResult derived pairs built → row ≡ built.entries
+    → from_sorted row ≡ index_of os
+index_built os pairs row built listed made is =
+    let stated = subst (λ c. tree.IsFromIterResult c pairs built) derived_is made in
+    same_positions (from_sorted row) (index_of os) (λ p. get-row row p (rising_built pairs row built made is)
+    ∙ ap (find order p) is ∙ find_lookup order p built.entries ∙ stated.0 p
+    ∙ ap (λ (ps : Row). update_all (eq_by_cmp order) (λ _. None) ps p) listed ∙ terms_put os (λ _. None) p
+    ∙ or_none (terms_in os p) ∙ sym (get-index_of os p))

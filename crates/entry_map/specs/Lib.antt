@@ -8,4 +8,5 @@ pub mod Book
 pub mod Order
 pub mod Positions
 pub mod Indexes
+pub mod Walk
 pub use Rattle.ledger_types.specs as ledger_types

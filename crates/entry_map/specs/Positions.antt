@@ -39,6 +39,10 @@ position_of offer = record {
 abbrev pub terms_of : OfferEntry → OfferTerms
 terms_of offer = record { amount = offer.amount; price = offer.price; flags = offer.flags }
 
+-- the position of an offer with its terms
+abbrev pub positioned : OfferEntry → BookPosition × OfferTerms
+positioned offer = (position_of offer, terms_of offer)
+
 -- the offer that has a position and these terms
 abbrev pub offer_with : BookPosition → OfferTerms → OfferEntry
 offer_with position terms = record {

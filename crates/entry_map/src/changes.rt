@@ -30,14 +30,24 @@ fn add_changed_keys(layers: &[Layer], keys: &mut KeyMap<()>) -> Result<(), Alloc
     }
 }
 
-/// The keys that the layers changed, in their order.
-fn changed_keys(alloc: Global, lower: &[Layer], top: &Layer) -> Result<Vec<LedgerKey>, AllocError>
+/// The keys that several layers changed, in their order.
+fn collected_keys(alloc: Global, lower: &[Layer], top: &Layer) -> Result<Vec<LedgerKey>, AllocError>
     ensures { IfOk result (λ keys. AreChangedKeys lower.now top.now keys.items) }
 {
     let mut keys = KeyMap::new(alloc);
     top.add_keys_to(&mut keys)?;
     add_changed_keys(lower, &mut keys)?;
     keys.into_keys(alloc)
+}
+
+/// The keys that the layers changed, in their order. Those of one layer are in order already.
+fn changed_keys(alloc: Global, lower: &[Layer], top: &Layer) -> Result<Vec<LedgerKey>, AllocError>
+    ensures { IfOk result (λ keys. AreChangedKeys lower.now top.now keys.items) }
+{
+    match lower {
+        [] => top.keys(alloc),
+        _ => collected_keys(alloc, lower, top),
+    }
 }
 
 /// Notes how a key with one entry before and another one after, or none, changed.

@@ -1,12 +1,12 @@
 //! A map of entries with undo.
 
-ghost use Rattle.std.specs.Prelude.{◌≡◌, IfOk, IfSome, MatchOption, OnOk};
+ghost use Rattle.std.specs.Prelude.{◌≡◌, IfOk, IfSome, MatchOption, OnOk, Some};
 ghost use Rattle.std.specs.Option.{option_copied};
 ghost use Rattle.std.specs.FinMap.{get};
 ghost use Rattle.ledger_types.specs.Keys.{key_of};
 ghost use Rattle.entry_map.specs.EntryMap.{IsNextAfter, put, erase};
 ghost use Rattle.entry_map.specs.Batch.{IsBatch};
-ghost use Rattle.entry_map.specs.Book.{IsPositionPriced, AreOffersSound, next_offer};
+ghost use Rattle.entry_map.specs.Book.{IsPositionPriced, AreOffersSound, next_offer, offer_of};
 ghost use Rattle.entry_map.specs.Indexes.{IsIndexOf};
 ghost use Rattle.entry_map.specs.Undo.{started, with_current, IsOpen, opened, undone, kept};
 
@@ -174,6 +174,21 @@ impl<'a, B: Base> Entries<'a, B> {
         }
         self.is_broken = true;
         self.offers = index_without(self.alloc, &self.layered, &self.offers, key)?;
+        self.layered.erase(key)?;
+        self.is_broken = false;
+        Ok(())
+    }
+
+    /// Removes the offer under a key, which is known, so that its position needs no look-up.
+    pub fn erase_offer(&mut self, key: &LedgerKey, offer: &OfferEntry) -> Result<(), AllocError>
+        requires { offer_of (get self.old.current key.now) ≡ Some offer.now }
+        ensures { OnOk result (self.new ≡ with_current self.old (erase self.old.current key.now)) }
+    {
+        if self.is_broken {
+            return Err(AllocError);
+        }
+        self.is_broken = true;
+        self.offers = self.offers.without_offer(self.alloc, offer)?;
         self.layered.erase(key)?;
         self.is_broken = false;
         Ok(())

@@ -1,27 +1,32 @@
 //! Offers by their positions, kept in their order.
 
-ghost use Rattle.std.specs.Prelude.{◌≡◌, None, List, [], ◌∷◌, IfOk, MatchOption, option_map, map};
+ghost use Rattle.std.specs.Prelude.{◌≡◌, None, Some, List, [], ◌∷◌, IfOk, OnOk, MatchOption, option_map, map};
+ghost use Rattle.std.specs.BTreeMap.{IsFromIterResult};
 ghost use Rattle.std.specs.Option.{option_copied};
 ghost use Rattle.std.specs.List.{IsDistinct};
 ghost use Rattle.std.specs.Ordering.{eq_by_cmp};
 ghost use Rattle.std.specs.FinMap.{empty, insert, remove, get, from_entries};
 ghost use Rattle.ledger_types.specs.KeyOrder.{key_cmp};
 ghost use Rattle.ledger_types.specs.Keys.{key_of};
+ghost use Rattle.ledger_types.specs.declared.key.LedgerKey.{LedgerKey as AKey};
 ghost use Rattle.ledger_types.specs.declared.offer.OfferEntry.{OfferEntry as AnOffer};
-ghost use Rattle.entry_map.specs.EntryMap.{EntryMap, put};
+ghost use Rattle.entry_map.specs.EntryMap.{EntryMap, erase, put};
 ghost use Rattle.entry_map.specs.Book.{IsPositionPriced, AreSound, AreOffersSound, next_in, next_offer, offer_in};
 ghost use Rattle.entry_map.specs.Book.{offer_of, offers_in};
-ghost use Rattle.entry_map.specs.Positions.{IsNarrow, position_of, terms_of};
+ghost use Rattle.entry_map.specs.Positions.{IsNarrow, position_of, positioned, terms_of};
 ghost use Rattle.entry_map.specs.Indexes.{IsIndexOf, IsNextOfPair, IsLastOfPair, IsLeastPosition, IsLastPosition};
 ghost use Rattle.entry_map.specs.Indexes.{AreNarrow};
 ghost use Rattle.entry_map.specs.Indexes.{IsChangedTo, index_of, is_of_offer, name_of, with_offers, without};
 ghost use Rattle.entry_map.specs.Indexes.{without_offers};
 
 use crate::batch::Batch;
-use crate::position::{BookPosition, OfferTerms, position_of, start_of, terms_of};
+use crate::position::{
+    BookPosition, OfferTerms, position_of, prices_are_narrow, start_of, terms_of,
+};
 use ledger_types::{AccountId, Asset, LedgerEntry, LedgerEntryBody, LedgerKey, OfferEntry, Price};
 use shared_tree::{Kept, Tree};
 use std::alloc::{AllocError, Global};
+use std::collections::BTreeMap;
 use std::marker::Model;
 
 /// Offers by their positions, in the order of their books. What changes is made anew, and the rest is shared. Contracts
@@ -66,6 +71,56 @@ pub fn offer_of(entry: &Option<LedgerEntry>) -> Option<OfferEntry>
     }
 }
 
+/// Puts the offer that an entry is, if it is one, at the end of a list of those of which an index is to be made.
+pub fn push_offer(offers: &mut Vec<OfferEntry>, entry: &LedgerEntry) -> Result<(), AllocError>
+    ensures { (m : EntryMap) → IsIndexOf m (index_of offers.old.items) → get m (key_of entry.now) ≡ None
+        → OnOk result (IsIndexOf (put m entry.now) (index_of offers.new.items)) }
+{
+    if let Some(offer) = offer_in(entry) {
+        prices_are_narrow(offer.price);
+        offers.push(*offer)?;
+    }
+    Ok(())
+}
+
+/// The positions of offers with their terms.
+fn positioned(
+    alloc: Global,
+    offers: &[OfferEntry],
+) -> Result<Vec<(BookPosition, OfferTerms)>, AllocError>
+    ensures { IfOk result (λ pairs. pairs.items ≡ map positioned offers.now) }
+{
+    let mut pairs = Vec::with_capacity(alloc, offers.len())?;
+    for offer in offers {
+        pairs.push((position_of(offer), terms_of(offer)))?;
+    }
+    Ok(pairs)
+}
+
+/// The tree of positions with terms, sorted at once. Of those that are the same the last one stays.
+fn tree_of(
+    pairs: Vec<(BookPosition, OfferTerms)>,
+) -> Result<BTreeMap<BookPosition, OfferTerms>, AllocError>
+    ensures { IfOk result (IsFromIterResult ⟦<BookPosition as Ord>⟧.cmp pairs.items) }
+{
+    let alloc = *pairs.allocator();
+    pairs.into_iter().collect(alloc)
+}
+
+/// The positions of a tree with their terms, in their order.
+fn rising_row(
+    alloc: Global,
+    tree: BTreeMap<BookPosition, OfferTerms>,
+) -> Result<Vec<Kept<BookPosition, OfferTerms>>, AllocError>
+    ensures { IfOk result (λ row. row.items ≡ tree.entries) }
+{
+    let mut row = Vec::with_capacity(alloc, tree.len())?;
+    for (position, terms) in tree {
+        row.push(Kept::new(alloc, position, terms)?)?;
+    }
+    Ok(row)
+}
+
 /// Whether nothing but an offer can be under a key.
 pub fn is_of_offer(key: &LedgerKey) -> bool
     ensures { result ≡ is_of_offer key.now }
@@ -108,9 +163,15 @@ impl OfferIndex {
         })
     }
 
-    /// The index without the position of an offer.
-    fn without_offer(&self, alloc: Global, offer: &OfferEntry) -> Result<OfferIndex, AllocError>
-        ensures { IfOk result (λ index. index ≡ remove self.now (position_of offer.now)) }
+    /// The index without the position of an offer, which is that of a map without it, whatever its key.
+    pub(crate) fn without_offer(
+        &self,
+        alloc: Global,
+        offer: &OfferEntry,
+    ) -> Result<OfferIndex, AllocError>
+        ensures value { IfOk result (λ index. index ≡ remove self.now (position_of offer.now)) }
+        ensures map { (m : EntryMap) (k : AKey) → IsIndexOf m self.now → offer_of (get m k) ≡ Some offer.now
+            → IfOk result (IsIndexOf (erase m k)) }
     {
         Ok(OfferIndex {
             tree: self.tree.take(alloc, &position_of(offer))?,
@@ -170,24 +231,24 @@ impl OfferIndex {
         requires { IsDistinct (eq_by_cmp key_cmp) (map key_of entries.now) }
         ensures { IfOk result (IsIndexOf (from_entries (map (λ e. (key_of e, e)) entries.now))) }
     {
-        let mut index = OfferIndex::empty();
+        let mut offers = Vec::new(alloc);
         let mut ahead = entries;
         while let Some((last, earlier)) = ahead.split_last() {
-            index = index.with_entry(alloc, last)?;
+            push_offer(&mut offers, last)?;
             ahead = earlier;
         }
-        Ok(index)
+        OfferIndex::from_offers(alloc, offers.as_slice())
     }
 
-    /// The index of a list of offers.
+    /// The index of a list of offers, built at once.
     pub fn from_offers(alloc: Global, offers: &[OfferEntry]) -> Result<OfferIndex, AllocError>
         ensures { IfOk result (λ index. index ≡ index_of offers.now) }
     {
-        let mut index = OfferIndex::empty();
-        for offer in offers {
-            index = index.with_offer(alloc, offer)?;
-        }
-        Ok(index)
+        let tree = tree_of(positioned(alloc, offers)?)?;
+        let row = rising_row(alloc, tree)?;
+        Ok(OfferIndex {
+            tree: Tree::of_row(alloc, row.as_slice())?,
+        })
     }
 
     /// The index after a batch, made anew where something changed, and shared elsewhere. `before` has those of the

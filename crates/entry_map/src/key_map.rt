@@ -74,6 +74,19 @@ impl<V> KeyMap<V> {
     }
 }
 
+impl<V> KeyMap<V> {
+    /// Copies of the keys, in their order.
+    pub fn keys(&self, alloc: Global) -> Result<Vec<LedgerKey>, AllocError>
+        ensures { IfOk result (λ keys. AreKeysOf self.now keys.items) }
+    {
+        let mut keys = Vec::with_capacity(alloc, self.tree.len())?;
+        for key in self.tree.keys() {
+            keys.push(key.copy()?)?;
+        }
+        Ok(keys)
+    }
+}
+
 impl<V: Drop> KeyMap<V> {
     /// The map of pairs whose keys are distinct, built at once.
     pub fn from_pairs(pairs: Vec<(LedgerKey, V)>) -> Result<KeyMap<V>, AllocError>

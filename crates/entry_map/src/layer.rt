@@ -1,10 +1,11 @@
 //! A layer of changes.
 
-ghost use Rattle.std.specs.Prelude.{◌≡◌, ◌||◌, OnOk};
+ghost use Rattle.std.specs.Prelude.{◌≡◌, ◌||◌, IfOk, OnOk};
 ghost use Rattle.std.specs.Option.{option_copied, option_or};
 ghost use Rattle.std.specs.FinMap.{empty, get, insert, contains_key};
 ghost use Rattle.ledger_types.specs.declared.key.LedgerKey.{LedgerKey as AKey};
 ghost use Rattle.ledger_types.specs.Keys.{key_of};
+ghost use Rattle.entry_map.specs.KeyMaps.{AreKeysOf};
 ghost use Rattle.entry_map.specs.Layers.{IsKeyedLayer, IsNextKey};
 
 use crate::key_map::KeyMap;
@@ -86,6 +87,13 @@ impl Layer {
     {
         let Layer { changes } = newer;
         self.changes.absorb(changes)
+    }
+
+    /// The changed keys, in their order.
+    pub fn keys(&self, alloc: Global) -> Result<Vec<LedgerKey>, AllocError>
+        ensures { IfOk result (λ keys. AreKeysOf self.now keys.items) }
+    {
+        self.changes.keys(alloc)
     }
 
     /// Puts the changed keys into a map of keys.

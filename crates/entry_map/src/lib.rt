@@ -18,6 +18,6 @@ mod walk;
 pub use base::Base;
 pub use batch::Batch;
 pub use entries::Entries;
-pub use index::OfferIndex;
+pub use index::{OfferIndex, push_offer};
 pub use ledger_types;
 pub use map_base::MapBase;

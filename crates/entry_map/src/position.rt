@@ -56,6 +56,13 @@ pub fn terms_of(offer: &OfferEntry) -> OfferTerms
     }
 }
 
+/// The denominator of a price fits 32 bits.
+pub fn prices_are_narrow(price: Price)
+    ensures { IsNarrow price }
+{
+    let _ = price;
+}
+
 /// A whole number in the order of prices.
 fn rank(price: Price) -> u128
     ensures value { result ≡ rank price }

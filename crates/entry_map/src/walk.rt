@@ -1,10 +1,12 @@
 //! The entries of a base under layers, in the order of their keys.
 
-ghost use Rattle.std.specs.Prelude.{◌≡◌, IfOk};
+ghost use Rattle.std.specs.Prelude.{◌≡◌, ◌||◌, IfOk, option_map};
 ghost use Rattle.std.specs.Option.{option_copied};
 ghost use Rattle.std.specs.FinMap.{contains_key};
 ghost use Rattle.entry_map.specs.EntryMap.{IsNextAfter};
-ghost use Rattle.entry_map.specs.Layers.{under, under_one, is_changed, is_known, lesser_of, IsNextKey};
+ghost use Rattle.entry_map.specs.Layers.{under, under_one, is_changed, lesser_of, IsNextKey};
+ghost use Rattle.entry_map.specs.Walk.{IsNextKnown};
+ghost use Rattle.entry_map.specs.declared.walk.Known.TheVariants.{Changed};
 
 use crate::base::Base;
 use crate::layer::Layer;
@@ -39,30 +41,50 @@ fn next_changed<'a>(layers: &'a [Layer], key: &LedgerKey) -> Option<&'a LedgerKe
     }
 }
 
-/// The least key above a key that the base has.
-fn next_in_base<B: Base>(base: &B, key: &LedgerKey) -> Result<Option<LedgerKey>, AllocError>
-    ensures { IfOk result (IsNextKey (contains_key (B.entries base.now)) key.now) }
+/// What is next: an entry of the base that no layer changed, or a key that one of the layers changed.
+#[derive(Drop)]
+enum Known {
+    Kept(LedgerEntry),
+    Changed(LedgerKey),
+}
+
+/// A changed key, if there is one.
+fn changed(key: Option<&LedgerKey>) -> Result<Option<Known>, AllocError>
+    ensures { IfOk result (λ known. known ≡ option_map Changed (option_copied key.entry)) }
 {
-    match base.next_after(key)? {
+    match key {
         None => Ok(None),
-        Some(entry) => Ok(Some(entry.key()?)),
+        Some(key) => Ok(Some(Known::Changed(key.copy()?))),
     }
 }
 
-/// The least key above a key that the base has or one of the layers changed.
+/// The least key above a key that one of the layers changed, the open one among them.
+fn next_in_layers<'a>(lower: &'a [Layer], top: &'a Layer, key: &LedgerKey) -> Option<&'a LedgerKey>
+    ensures { IsNextKey (λ q. contains_key top.now q || is_changed lower.now q) key.now (option_copied result) }
+{
+    lesser(top.next_after(key), next_changed(lower, key))
+}
+
+/// The least key above a key that the base has or one of the layers changed. The base's entry is at hand, so that one
+/// that no layer changed needs no other look-up.
 fn next_known<B: Base>(
     base: &B,
     lower: &[Layer],
     top: &Layer,
     key: &LedgerKey,
-) -> Result<Option<LedgerKey>, AllocError>
-    ensures { IfOk result (IsNextKey (is_known (B.entries base.now) lower.now top.now) key.now) }
+) -> Result<Option<Known>, AllocError>
+    ensures { IfOk result (IsNextKnown (B.entries base.now) lower.now top.now key.now) }
 {
-    let in_base = next_in_base(base, key)?;
-    let in_layers = lesser(top.next_after(key), next_changed(lower, key));
-    match lesser(in_base.as_ref(), in_layers) {
-        None => Ok(None),
-        Some(least) => Ok(Some(least.copy()?)),
+    let in_layers = next_in_layers(lower, top, key);
+    let Some(entry) = base.next_after(key)? else {
+        return changed(in_layers);
+    };
+    let Some(least) = in_layers else {
+        return Ok(Some(Known::Kept(entry)));
+    };
+    match entry.key()?.cmp(least) {
+        Ordering::Less => Ok(Some(Known::Kept(entry))),
+        _ => changed(in_layers),
     }
 }
 
@@ -76,7 +98,11 @@ pub fn entry_after<B: Base>(
     ensures { IfOk result (IsNextAfter (under_one (under (B.entries base.now) lower.now) top.now) key.now) }
 {
     let mut at = key.copy()?;
-    while let Some(next) = next_known(base, lower, top, &at)? {
+    while let Some(known) = next_known(base, lower, top, &at)? {
+        let next = match known {
+            Known::Kept(entry) => return Ok(Some(entry)),
+            Known::Changed(next) => next,
+        };
         if let Some(entry) = entry_at(base, lower, top, &next)? {
             return Ok(Some(entry));
         }

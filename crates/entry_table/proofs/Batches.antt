@@ -99,25 +99,32 @@ none_either : (d : Bool) → ◌≡◌ {A = Option LedgerEntry} (cond d None Non
 none_either true = refl
 none_either false = refl
 
-module _ (seq : ℕ) (row next : List (LedgerKey × LedgerEntry)) (before worked after : EntryMap) (old new : Batch)
-    (rises : Sorted row) (is_before : map_of row ≡ before) (keyed : IsKeyed worked) (b : IsBatch before worked old)
-    (init : new.init ≡ map (stamped seq) old.init) (live : new.live ≡ map (stamped seq) old.live)
-    (dead : new.dead ≡ old.dead) (n : IsRowAfter row new.init new.live new.dead next)
-    (is_after : map_of next ≡ after) where
-  get_before : (k : LedgerKey) → value_at k row ≡ get before k
-  get_before k = sym (get-from_sorted key_cmp row k rises) ∙ ap (λ m. get m k) is_before
+-- what is under each key after a batch, once its entries are stamped: the changed entry, or the new one, or what was
+-- there before unless it is gone
+abbrev pub Becomes : ℕ → EntryMap → EntryMap → Batch → Type 0
+Becomes seq before after old = (k : LedgerKey) → get after k
+    ≡ option_or (option_or (value_at k (stamped_row seq old.live)) (value_at k (stamped_row seq old.init)))
+    (cond (is_among k old.dead) None (get before k))
 
-  get_after : (k : LedgerKey) → get after k
-      ≡ option_or (option_or (value_at k (stamped_row seq old.live)) (value_at k (stamped_row seq old.init)))
-      (cond (is_among k old.dead) None (get before k))
-  get_after k = sym (ap (λ m. get m k) is_after) ∙ get-from_sorted key_cmp next k n.rises ∙ n.each k
-      ∙ (λ i. option_or (option_or (value_at k (map with_key (live i))) (value_at k (map with_key (init i))))
-      (cond (is_among k (dead i)) None (get_before k i)))
+pub row_becomes : (seq : ℕ) (row next : List (LedgerKey × LedgerEntry)) (before after : EntryMap) (old new : Batch)
+    → Sorted row → map_of row ≡ before → new.init ≡ map (stamped seq) old.init → new.live ≡ map (stamped seq) old.live
+    → new.dead ≡ old.dead → IsRowAfter row new.init new.live new.dead next → map_of next ≡ after
+    → Becomes seq before after old
+row_becomes seq row next before after old new rises is_before init live dead n is_after = λ k.
+    let was : value_at k row ≡ get before k =
+    sym (get-from_sorted key_cmp row k rises) ∙ ap (λ m. get m k) is_before in
+    sym (ap (λ m. get m k) is_after) ∙ get-from_sorted key_cmp next k n.rises ∙ n.each k
+    ∙ (λ i. option_or (option_or (value_at k (map with_key (live i))) (value_at k (map with_key (init i))))
+    (cond (is_among k (dead i)) None (was i)))
 
+module _ (seq : ℕ) (before worked after : EntryMap) (old new : Batch) (keyed : IsKeyed worked)
+    (b : IsBatch before worked old) (init : new.init ≡ map (stamped seq) old.init)
+    (live : new.live ≡ map (stamped seq) old.live) (dead : new.dead ≡ old.dead)
+    (becomes : Becomes seq before after old) where
   after_is : (k : LedgerKey) (l i o : Option LedgerEntry) (d : Bool) → value_at k (stamped_row seq old.live) ≡ l
       → value_at k (stamped_row seq old.init) ≡ i → is_among k old.dead ≡ d → get before k ≡ o
       → get after k ≡ option_or (option_or l i) (cond d None o)
-  after_is k l i o d el ei ed eo = get_after k ∙ (λ j. option_or (option_or (el j) (ei j)) (cond (ed j) None (eo j)))
+  after_is k l i o d el ei ed eo = becomes k ∙ (λ j. option_or (option_or (el j) (ei j)) (cond (ed j) None (eo j)))
 
   gone_true : (k : LedgerKey) → get before k ≢ None → get worked k ≡ None → is_among k old.dead ≡ true
   gone_true k p q = list_any-from_Contains (eq_by_cmp_equiv keys_total) k old.dead ((b.dead k).1 (p, q))
@@ -286,7 +293,7 @@ module _ (seq : ℕ) (row next : List (LedgerKey × LedgerEntry)) (before worked
 
 -- ---- each entry of the new row is under its own key
 
-own_in : (es : List LedgerEntry) (k : LedgerKey) (v : LedgerEntry) → value_at k (map with_key es) ≡ Some v
+pub own_in : (es : List LedgerEntry) (k : LedgerKey) (v : LedgerEntry) → value_at k (map with_key es) ≡ Some v
     → key_of v ≡ k
 own_in es = own_found (map with_key es) (own_keys es)
 

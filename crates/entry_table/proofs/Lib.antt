@@ -7,5 +7,6 @@ pub mod Tables
 pub mod Above
 pub mod Batches
 pub mod Stamped
+pub mod AfterBatch
 pub use Rattle.shared_tree.proofs as shared_tree_proofs
 mod Prelude

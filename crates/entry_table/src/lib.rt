@@ -10,6 +10,7 @@ mod rows;
 mod table;
 
 pub use kept::{Kept, kept_entry};
+pub use next::stamp_batch;
 pub use row::EntryRow;
 pub use rows::overlay;
 pub use table::EntryTable;

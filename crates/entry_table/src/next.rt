@@ -5,8 +5,9 @@ ghost use Rattle.ledger_types.specs.Keys.{key_of};
 ghost use Rattle.entry_map.specs.EntryMap.{EntryMap, IsKeyed};
 ghost use Rattle.entry_map.specs.KeyMaps.{AreRising};
 ghost use Rattle.entry_map.specs.Batch.{IsBatch};
-ghost use Rattle.entry_map.specs.Indexes.{IsIndexOf};
+ghost use Rattle.entry_map.specs.Indexes.{IsIndexOf, PositionMap};
 ghost use Rattle.entry_changes.specs.Next.{stamped, AreNextEntries, IsExactBatch};
+ghost use Rattle.entry_table.specs.AfterBatch.{after_batch};
 ghost use Rattle.entry_table.specs.Rows.{IsRising, IsOverlaid, IsWithout, IsRowAfter, with_key, putting, taking};
 
 use crate::kept::{Kept, kept_entry};
@@ -31,6 +32,21 @@ fn stamp_list(seq: u32, entries: &mut ItemList<LedgerEntry>)
     ensures { entries.new ≡ map (stamped seq) entries.old }
 {
     stamp(seq, entries.as_mut_slice());
+}
+
+/// Gives the new and changed entries of a batch the number of the ledger that made them. Then it is what the entries
+/// after the ledger differ in from those before it.
+pub fn stamp_batch(seq: u32, batch: &mut Batch)
+    ensures next { (before : EntryMap) (worked : EntryMap) → IsKeyed worked → IsBatch before worked batch.old
+        → AreNextEntries seq before worked (after_batch before batch.new)
+        × IsExactBatch before (after_batch before batch.new) batch.new }
+    ensures keyed { (before : EntryMap) → IsKeyed before → IsKeyed (after_batch before batch.new) }
+    ensures index { (before : EntryMap) (worked : EntryMap) (offers : PositionMap) → IsKeyed before
+        → IsIndexOf worked offers → IsBatch before worked batch.old
+        → IsIndexOf (after_batch before batch.new) offers }
+{
+    stamp_list(seq, &mut batch.init);
+    stamp_list(seq, &mut batch.live);
 }
 
 /// A row of copies of entries, each under its own key.

@@ -6,7 +6,7 @@ ghost use Rattle.entry_map.specs.Indexes.{IsIndexOf};
 ghost use Rattle.entry_table.specs.Rows.{IsTableRow};
 
 use crate::kept::Kept;
-use entry_map::OfferIndex;
+use entry_map::{OfferIndex, push_offer};
 use ledger_types::LedgerEntry;
 use std::alloc::{AllocError, Global};
 
@@ -15,11 +15,11 @@ pub fn offers_in_row(alloc: Global, row: &[Kept<LedgerEntry>]) -> Result<OfferIn
     requires { IsTableRow row.now }
     ensures { IfOk result (IsIndexOf (from_entries row.now)) }
 {
-    let mut offers = OfferIndex::empty();
+    let mut offers = Vec::new(alloc);
     let mut ahead = row;
     while let Some((last, earlier)) = ahead.split_last() {
-        offers = offers.with_entry(alloc, last.value())?;
+        push_offer(&mut offers, last.value())?;
         ahead = earlier;
     }
-    Ok(offers)
+    OfferIndex::from_offers(alloc, offers.as_slice())
 }

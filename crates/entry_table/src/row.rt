@@ -1,7 +1,8 @@
 //! The entries of a table, one after the other.
 
 ghost use Rattle.std.specs.Prelude.{◌≡◌, ◌<◌, length, slice_get, Some, IfOk};
-ghost use Rattle.std.specs.FinMap.{entries, values};
+ghost use Rattle.std.specs.Option.{option_copied};
+ghost use Rattle.std.specs.FinMap.{entries, get, values};
 ghost use Rattle.entry_map.specs.EntryMap.{IsKeyed};
 
 use crate::table::EntryTable;
@@ -62,6 +63,13 @@ impl<'a> EntryRow<'a> {
         ensures keyed { IsKeyed self.now }
     {
         self.entries[index]
+    }
+
+    /// The entry with a key, where it is.
+    pub fn get(&self, key: &LedgerKey) -> Option<&LedgerEntry>
+        ensures { option_copied result ≡ get self.now key.now }
+    {
+        self.table.get(key)
     }
 }
 

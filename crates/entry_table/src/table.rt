@@ -2,7 +2,7 @@
 
 ghost use Rattle.std.specs.Prelude.{◌≡◌, ◌<◌, length, map, slice_get, option_map, Some, IfOk};
 ghost use Rattle.std.specs.Option.{option_copied};
-ghost use Rattle.std.specs.FinMap.{entries, from_entries, values};
+ghost use Rattle.std.specs.FinMap.{entries, from_entries, get, values};
 ghost use Rattle.ledger_types.specs.KeyOrder.{key_cmp};
 ghost use Rattle.entry_map.specs.EntryMap.{IsKeyed};
 ghost use Rattle.shared_tree.specs.Rows.{first_above};
@@ -69,14 +69,12 @@ impl EntryTable {
         self.tree.entry(index)
     }
 
-    /// The same table, for one owner more.
-    pub fn share(&self) -> Result<EntryTable, AllocError>
-        ensures { IfOk result (λ table. table ≡ self.now) }
+    /// The entry with a key, where it is.
+    pub fn get(&self, key: &LedgerKey) -> Option<&LedgerEntry>
+        ensures found { option_copied result ≡ get self.now key.now }
+        ensures keyed { IsKeyed self.now }
     {
-        Ok(EntryTable {
-            tree: self.tree.share()?,
-            offers: self.offers.share()?,
-        })
+        self.tree.find(key)
     }
 }
 
@@ -108,7 +106,7 @@ impl Base for EntryTable {
     ghost entries = { λ table. table };
 
     fn find(&self, key: &LedgerKey) -> Result<Option<LedgerEntry>, AllocError> {
-        copied(self.tree.find(key))
+        copied(self.get(key))
     }
 
     fn next_after(&self, key: &LedgerKey) -> Result<Option<LedgerEntry>, AllocError> {

@@ -1,6 +1,7 @@
 //! The lines of offers are authorised (CAP-0018).
 
-ghost use Rattle.std.specs.Prelude.{◌↔◌, ◌++◌, All, IsTrue, IfOk};
+ghost use Rattle.std.specs.Prelude.{◌↔◌, ◌++◌, All, IsTrue};
+ghost use Rattle.std.specs.Option.{option_copied};
 ghost use Rattle.std.specs.FinMap.{get};
 ghost use Rattle.entry_slots.specs.Lines.{line_of};
 ghost use Rattle.close_rules.specs.entry_sums.Sums.{EachEntry};
@@ -9,14 +10,12 @@ ghost use Rattle.close_rules.specs.legal_rules.Trades as spec;
 ghost use Rattle.close_rules.specs.legal_rules.Legal.{IsAuthorized, AreLinesAuthorized};
 
 use crate::holders::holder;
-use entry_map::Base;
 use entry_table::EntryRow;
 use ledger_types::{LedgerEntry, LedgerEntryBody, LedgerKey, OfferEntry};
-use std::alloc::AllocError;
 
 /// Whether an entry, if it is a line, carries AUTHORIZED 1 or AUTHORIZED_TO_MAINTAIN_LIABILITIES 2.
-fn is_authorized(entry: &Option<LedgerEntry>) -> bool
-    ensures { IsTrue result ↔ IsAuthorized (line_of entry.now) }
+fn is_authorized(entry: Option<&LedgerEntry>) -> bool
+    ensures { IsTrue result ↔ IsAuthorized (line_of (option_copied entry.entry)) }
 {
     match entry {
         None => true,
@@ -28,50 +27,44 @@ fn is_authorized(entry: &Option<LedgerEntry>) -> bool
 }
 
 /// Whether what exists under a key, if one is named, is authorised.
-fn is_key_authorized(entries: &EntryRow<'_>, named: Option<LedgerKey>) -> Result<bool, AllocError>
-    ensures { IfOk result (λ kept.
-        IsTrue kept ↔ All (λ k. IsAuthorized (line_of (get entries.now k))) (keys_in named)) }
+fn is_key_authorized(entries: &EntryRow<'_>, named: Option<LedgerKey>) -> bool
+    ensures { IsTrue result ↔ All (λ k. IsAuthorized (line_of (get entries.now k))) (keys_in named) }
 {
     match named {
-        None => Ok(true),
-        Some(key) => {
-            let found = entries.find(&key)?;
-            Ok(is_authorized(&found))
-        }
+        None => true,
+        Some(key) => is_authorized(entries.get(&key)),
     }
 }
 
 /// Whether the lines in which an offer's seller has its assets are authorised, where they exist.
-fn are_both_authorized(entries: &EntryRow<'_>, offer: &OfferEntry) -> Result<bool, AllocError>
-    ensures { IfOk result (λ kept. IsTrue kept ↔ All (λ k. IsAuthorized (line_of (get entries.now k)))
+fn are_both_authorized(entries: &EntryRow<'_>, offer: &OfferEntry) -> bool
+    ensures { IsTrue result ↔ All (λ k. IsAuthorized (line_of (get entries.now k)))
         (keys_in (spec.holder offer.now.seller_id offer.now.selling)
-        ++ keys_in (spec.holder offer.now.seller_id offer.now.buying))) }
+        ++ keys_in (spec.holder offer.now.seller_id offer.now.buying)) }
 {
-    let sold = is_key_authorized(entries, holder(&offer.seller_id, &offer.selling))?;
-    let bought = is_key_authorized(entries, holder(&offer.seller_id, &offer.buying))?;
-    Ok(sold && bought)
+    let sold = is_key_authorized(entries, holder(&offer.seller_id, &offer.selling));
+    let bought = is_key_authorized(entries, holder(&offer.seller_id, &offer.buying));
+    sold && bought
 }
 
 /// Whether the lines that an entry trades in, if it is an offer, are authorised.
-fn are_lines_authorized(entries: &EntryRow<'_>, body: &LedgerEntryBody) -> Result<bool, AllocError>
-    ensures { IfOk result (λ kept. IsTrue kept ↔ AreLinesAuthorized entries.now body.now) }
+fn are_lines_authorized(entries: &EntryRow<'_>, body: &LedgerEntryBody) -> bool
+    ensures { IsTrue result ↔ AreLinesAuthorized entries.now body.now }
 {
     match body {
         LedgerEntryBody::Offer(offer) => are_both_authorized(entries, offer),
-        _ => Ok(true),
+        _ => true,
     }
 }
 
 /// Whether the lines that offers trade in are authorised.
-pub fn are_all_authorized(entries: &EntryRow<'_>) -> Result<bool, AllocError>
-    ensures { IfOk result (λ kept.
-        IsTrue kept ↔ EachEntry (λ k e. AreLinesAuthorized entries.now e.body) entries.now) }
+pub fn are_all_authorized(entries: &EntryRow<'_>) -> bool
+    ensures { IsTrue result ↔ EachEntry (λ k e. AreLinesAuthorized entries.now e.body) entries.now }
 {
     for index in 0..entries.len() {
-        let authorized = are_lines_authorized(entries, &entries.entry(index).body)?;
-        if !authorized {
-            return Ok(false);
+        if !are_lines_authorized(entries, &entries.entry(index).body) {
+            return false;
         }
     }
-    Ok(true)
+    true
 }

@@ -29,8 +29,11 @@ fn add(tally: &mut Tally, key: LedgerKey, more: u64) -> Result<(), AllocError>
     ensures { OnOk result ((q : AKey) → count_at tally.new q
         ≡ (if is_key key q then min (count_at tally.old key + more) greatest_count else count_at tally.old q)) }
 {
-    let count = count_of(tally, &key).saturating_add(more);
-    tally.insert(key, count)?;
+    if let Some(count) = tally.get_mut(&key) {
+        *count = count.saturating_add(more);
+        return Ok(());
+    }
+    tally.insert(key, more)?;
     Ok(())
 }
 

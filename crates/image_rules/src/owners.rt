@@ -18,7 +18,6 @@ use crate::existing_pools::pool_params;
 use crate::holders::{holder, needed_line};
 use crate::offer_ids::are_offers_apart;
 use crate::parts::{owner_of, sponsorship};
-use entry_map::Base;
 use entry_slots::sponsor_in;
 use entry_table::EntryRow;
 use ledger_types::{
@@ -31,8 +30,7 @@ use std::alloc::{AllocError, Global};
 fn has_account(entries: &EntryRow<'_>, account_id: AccountId) -> Result<bool, AllocError>
     ensures { IfOk result (λ there. IsTrue there ↔ (get entries.now (key.Account account_id) ≢ None)) }
 {
-    let found = entries.find(&LedgerKey::Account { account_id })?;
-    Ok(found.is_some())
+    Ok(entries.get(&LedgerKey::Account { account_id }).is_some())
 }
 
 /// Whether an account exists, if one is named.
@@ -87,43 +85,36 @@ fn do_payers_exist(entries: &EntryRow<'_>, body: &LedgerEntryBody) -> Result<boo
 }
 
 /// Whether something exists under a key, if one is named.
-fn is_key_there(entries: &EntryRow<'_>, named: Option<LedgerKey>) -> Result<bool, AllocError>
-    ensures { IfOk result (λ there. IsTrue there ↔ All (λ q. get entries.now q ≢ None) (keys_in named)) }
+fn is_key_there(entries: &EntryRow<'_>, named: Option<LedgerKey>) -> bool
+    ensures { IsTrue result ↔ All (λ q. get entries.now q ≢ None) (keys_in named) }
 {
     match named {
-        None => Ok(true),
-        Some(key) => {
-            let found = entries.find(&key)?;
-            Ok(found.is_some())
-        }
+        None => true,
+        Some(key) => entries.get(&key).is_some(),
     }
 }
 
 /// Whether what an offer's seller has its assets in exists.
-fn are_both_there(entries: &EntryRow<'_>, offer: &OfferEntry) -> Result<bool, AllocError>
-    ensures { IfOk result (λ there. IsTrue there ↔ All (λ q. get entries.now q ≢ None)
+fn are_both_there(entries: &EntryRow<'_>, offer: &OfferEntry) -> bool
+    ensures { IsTrue result ↔ All (λ q. get entries.now q ≢ None)
         (keys_in (spec.holder offer.now.seller_id offer.now.selling)
-        ++ keys_in (spec.holder offer.now.seller_id offer.now.buying))) }
+        ++ keys_in (spec.holder offer.now.seller_id offer.now.buying)) }
 {
-    let sold = is_key_there(entries, holder(&offer.seller_id, &offer.selling))?;
-    let bought = is_key_there(entries, holder(&offer.seller_id, &offer.buying))?;
-    Ok(sold && bought)
+    let sold = is_key_there(entries, holder(&offer.seller_id, &offer.selling));
+    let bought = is_key_there(entries, holder(&offer.seller_id, &offer.buying));
+    sold && bought
 }
 
 /// Whether the lines exist that an account needs for its shares of a pool.
-fn are_needed_there(
-    entries: &EntryRow<'_>,
-    id: &AccountId,
-    params: &Option<PoolParams>,
-) -> Result<bool, AllocError>
-    ensures { IfOk result (λ there. IsTrue there ↔ All (λ q. get entries.now q ≢ None) (share_keys id.now params.now)) }
+fn are_needed_there(entries: &EntryRow<'_>, id: &AccountId, params: &Option<PoolParams>) -> bool
+    ensures { IsTrue result ↔ All (λ q. get entries.now q ≢ None) (share_keys id.now params.now) }
 {
     match params {
-        None => Ok(true),
+        None => true,
         Some(params) => {
-            let first = is_key_there(entries, needed_line(id, &params.asset_a))?;
-            let second = is_key_there(entries, needed_line(id, &params.asset_b))?;
-            Ok(first && second)
+            let first = is_key_there(entries, needed_line(id, &params.asset_a));
+            let second = is_key_there(entries, needed_line(id, &params.asset_b));
+            first && second
         }
     }
 }
@@ -132,8 +123,7 @@ fn are_needed_there(
 fn has_pool(entries: &EntryRow<'_>, pool_id: Hash) -> Result<bool, AllocError>
     ensures { IfOk result (λ there. IsTrue there ↔ (get entries.now (key.LiquidityPool pool_id) ≢ None)) }
 {
-    let found = entries.find(&LedgerKey::LiquidityPool { pool_id })?;
-    Ok(found.is_some())
+    Ok(entries.get(&LedgerKey::LiquidityPool { pool_id }).is_some())
 }
 
 /// Whether a pool exists, and the lines that an account needs for its shares do.
@@ -143,7 +133,7 @@ fn is_share_there(entries: &EntryRow<'_>, id: &AccountId, pool_id: Hash) -> Resu
 {
     let pool = has_pool(entries, pool_id)?;
     let params = pool_params(entries, pool_id)?;
-    let lines = are_needed_there(entries, id, &params)?;
+    let lines = are_needed_there(entries, id, &params);
     Ok(pool && lines)
 }
 
@@ -171,7 +161,7 @@ fn are_holders_there(entries: &EntryRow<'_>, body: &LedgerEntryBody) -> Result<b
         LedgerEntryBody::TrustLine(line) => {
             are_shares_there(entries, &line.account_id, &line.asset)
         }
-        LedgerEntryBody::Offer(offer) => are_both_there(entries, offer),
+        LedgerEntryBody::Offer(offer) => Ok(are_both_there(entries, offer)),
         _ => Ok(true),
     }
 }

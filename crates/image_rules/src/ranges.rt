@@ -134,6 +134,6 @@ pub fn are_in_range(header: &LedgerHeader, entries: &EntryRow<'_>) -> Result<boo
 {
     let within = are_all_in_range(header, entries)?;
     let dated = are_dated(header, entries);
-    let authorized = are_all_authorized(entries)?;
+    let authorized = are_all_authorized(entries);
     Ok(within && dated && authorized)
 }

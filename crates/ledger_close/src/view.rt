@@ -10,14 +10,13 @@ ghost use Rattle.bucket_levels.specs.Spills.{level_count};
 use crate::buckets::push_pair;
 use crate::ledger::Ledger;
 use bucket_levels::{LevelPair, Levels};
-use entry_map::Base;
-use entry_table::EntryTable;
 use ledger_types::{Hash, LedgerEntry, LedgerHeader, LedgerKey};
+use level_pages::{find_entry, share_pair};
 use std::alloc::{AllocError, Global};
 use std::marker::Model;
 use std::sync::Arc;
 
-/// A ledger's state after a close. It shares the files and the entries of the ledger and stays as it is while the
+/// A ledger's state after a close. It shares the ledger's files, finds entries in them, and stays as it is while the
 /// ledger goes on. Contracts see it as that state.
 #[derive(Drop)]
 pub struct View {
@@ -25,7 +24,7 @@ pub struct View {
     pub(crate) header: LedgerHeader,
     // The hash of the header.
     pub(crate) digest: Hash,
-    pub(crate) entries: EntryTable,
+    // The files of each level, from the first level on.
     pub(crate) pairs: Vec<LevelPair>,
 }
 
@@ -33,6 +32,7 @@ impl Model for View {
     ghost use Rattle.std.specs.Prelude.{◌≡◌, map};
     ghost use Rattle.value_hashes.specs.Hashes.{ledger_hash_of};
     ghost use Rattle.bucket_levels.specs.Levels.{pair_of};
+    ghost use Rattle.level_pages.specs.Represented.{entries_of};
     ghost use Rattle.close_rules.specs.State.{ClosingState};
     ghost use Rattle.close_rules.specs.Images.{state_of};
     ghost use Rattle.ledger_close.specs.States.{state_code};
@@ -41,7 +41,8 @@ impl Model for View {
 
     ghost coded = { state_code };
 
-    ghost view = { λ v. state_of v.network v.header (map pair_of v.pairs.items) v.entries };
+    ghost view = { λ v.
+        state_of v.network v.header (map pair_of v.pairs.items) (entries_of (map pair_of v.pairs.items)) };
 
     ghost invariant = { λ v. v.digest ≡ ledger_hash_of v.header };
 }
@@ -65,18 +66,8 @@ impl View {
     pub fn find(&self, key: &LedgerKey) -> Result<Option<LedgerEntry>, AllocError>
         ensures { IfOk result (λ entry. entry ≡ get self.now.entries key.now) }
     {
-        self.entries.find(key)
+        find_entry(*self.pairs.allocator(), self.pairs.as_slice(), key)
     }
-}
-
-/// The files of a level, for one owner more.
-fn share_pair(pair: &LevelPair) -> Result<LevelPair, AllocError>
-    ensures { IfOk result (λ shared. pair_of shared ≡ pair_of pair.now) }
-{
-    Ok(LevelPair {
-        curr: Arc::try_clone(&pair.curr)?,
-        snap: Arc::try_clone(&pair.snap)?,
-    })
 }
 
 /// The files of all levels, for one owner more.
@@ -92,8 +83,8 @@ fn share_pairs(alloc: Global, levels: &Levels) -> Result<Vec<LevelPair>, AllocEr
 }
 
 impl Ledger {
-    /// The state after the last close, for those who read it while this ledger goes on. It copies the header, and
-    /// shares the files and the entries.
+    /// The state after the last close, for those who read it while this ledger goes on. It copies the header and
+    /// shares the files.
     pub fn view(&self) -> Result<Arc<View>, AllocError>
         ensures { IfOk result (λ view. arc_value view ≡ self.now.state) }
     {
@@ -102,7 +93,6 @@ impl Ledger {
             network: self.network,
             header: self.header.copy()?,
             digest: self.digest,
-            entries: self.entries.share()?,
             pairs: share_pairs(alloc, &self.levels)?,
         };
         Ok(Arc::new(alloc, view)?)

@@ -2,8 +2,8 @@
 use Rattle.merge_board.proofs.Prelude as prelude
 use prelude.{◌≡◌, ℕ, zero, suc, ◌+◌, ◌-◌, ◌<◌, ◌≤◌, ◌^◌, true, true≢false, List, [], ◌∷◌, ◌++◌, length, set, sym, refl}
 use prelude.{ap, ◌∙◌, ⊎_elim, length-append, arith, sum_by_push, some, some-ne-none, Pushes, Pops, Forks, Merges}
-use prelude.{Learns, at_set, Job, AllByRecursion, first_hand, new_hand, spent_hand, hand_with, drawn, TakesJob, Hand}
-use prelude.{numbers_of, subst}
+use prelude.{Learns, at_set, PostedJob, AllByRecursion, first_hand, new_hand, spent_hand, hand_with, drawn, TakesJob}
+use prelude.{Hand, numbers_of, subst}
 use lib.ListN.{get_elem?}
 use Rattle.merge_board.specs.JobOrder.{NumbersAfter, FitsHand, JobsInOrder}
 use Rattle.merge_board.proofs.Lists.{every_map, every_snoc}
@@ -13,7 +13,7 @@ use Rattle.merge_board.proofs.Views.{each_set, each_snoc, sum_set, at_le, entire
 abbrev parts_of : Hand → ℕ
 parts_of v = v.parts
 
-after_snoc : (t : ℕ) (jobs : List Job) (job : Job) → NumbersAfter t jobs → job.number ≡ t + length jobs + 1
+after_snoc : (t : ℕ) (jobs : List PostedJob) (job : PostedJob) → NumbersAfter t jobs → job.number ≡ t + length jobs + 1
     → NumbersAfter t (jobs ++ job ∷ [])
 after_snoc t [] job h e = (omega arith, tt)
 after_snoc t (j ∷ js) job h e = (h.0, after_snoc (t + 1) js job h.1 (omega arith))
@@ -37,8 +37,8 @@ begins = record {
       (λ j u other e. absurd (other (index_of_one first_hand u j e)));
 }
 
-pub posts : (n pass : ℕ) (v : Hand) (job : Job) → v.posts ≡ true → job.number ≡ v.posted + 1 → v.posted + 1 < 2 ^ 64
-    → Pushes JobsInOrder n pass v job (λ w. w ≡ record v { posted = v.posted + 1 })
+pub posts : (n pass : ℕ) (v : Hand) (job : PostedJob) → v.posts ≡ true → job.number ≡ v.posted + 1
+    → v.posted + 1 < 2 ^ 64 → Pushes JobsInOrder n pass v job (λ w. w ≡ record v { posted = v.posted + 1 })
 posts n pass v job may is fits jobs views room h at =
     let w : Hand = record v { posted = v.posted + 1 } in
     let mine : FitsHand h.p h.t pass v = h.each pass v at in

@@ -5,7 +5,6 @@ pub use Rattle.std.proofs.Common.{zero, ℕ, ⊎_elim, ◌++◌, ◌+◌, ◌-�
 pub use Rattle.std.proofs.lemmas.List.{append-nil, length-map, map-append, nil_from_length}
 pub use Rattle.std.proofs.lemmas.List.Sums.{sum_by-cons, sum_by_push}
 pub use Rattle.std.specs.List.{AllByRecursion, filter, sum_by}
-pub use Rattle.bucket_merge.specs.Job.{Job}
 pub use Rattle.crossbeam_queue.proofs.Lists.{at_last, at_longer, at_set}
 pub use Rattle.crossbeam_queue.specs.Fifo.{Forks, Held, Learns, Merges, Pops, Pushes}
 pub use Rattle.counted_queue.specs.Seats.{IsSeatOf, view}
@@ -21,4 +20,5 @@ pub use Rattle.merge_board.specs.declared.hand.Hand.{Hand}
 pub use Rattle.merge_board.specs.declared.log.Known.{Known}
 pub use Rattle.merge_board.specs.declared.log.Log.{Log}
 pub use Rattle.merge_board.specs.declared.log.Sent.{Sent}
+pub use Rattle.merge_board.specs.declared.posted.PostedJob.{PostedJob}
 pub use mathlib.Core.Option.{some, some-injective, some-ne-none}

@@ -1,9 +1,9 @@
 -- What taking in one worker more keeps, and what is known once all are taken in.
 use Rattle.merge_board.proofs.Prelude.{◌≡◌, ℕ, ◌+◌, true, List, [], ◌∷◌, ◌++◌, map, length, sym, refl, ap, ◌∙◌, subst}
 use Rattle.merge_board.proofs.Prelude.{append_assoc, length-append, arith, sum_by-cons, append-nil, length-map, Held}
-use Rattle.merge_board.proofs.Prelude.{view, Job, AllByRecursion, hand_with, drawn, log_with, pushed_count, outs_of}
+use Rattle.merge_board.proofs.Prelude.{view, PostedJob, AllByRecursion, hand_with, drawn, log_with, pushed_count}
 use Rattle.merge_board.proofs.Prelude.{Accounts, end_number, pushed_by, KeepsOrder, end_known, AreTakenIn, IsDrained}
-use Rattle.merge_board.proofs.Prelude.{Sent, Hand, Known, Log, nil_from_length}
+use Rattle.merge_board.proofs.Prelude.{outs_of, Sent, Hand, Known, Log, nil_from_length}
 use Rattle.merge_board.proofs.Lists.{every_map}
 use Rattle.merge_board.specs.declared.parts.WorkerEnd.{WorkerEnd}
 
@@ -71,7 +71,7 @@ every_unmap P f (x ∷ xs) h = (h.0, every_unmap P f xs h.1)
 
 -- what was pushed was collected or is queued
 pub all_counted : (ends : List WorkerEnd) (hand0 hand : Hand) (log0 log end : Log) (taken pushed : ℕ)
-    (queued : List Job)
+    (queued : List PostedJob)
     → AreTakenIn ends [] hand0 hand log0 log taken pushed → IsDrained log end queued → Held 0 (Accounts end)
     → length log0.got + length queued ≡ pushed
 all_counted ends hand0 hand log0 log end taken pushed queued h drained empty =
@@ -89,7 +89,7 @@ all_counted ends hand0 hand log0 log end taken pushed queued h drained empty =
 
 -- and is there in the order in which it was pushed
 pub all_ordered : (ends : List WorkerEnd) (hand0 hand : Hand) (log0 log end : Log) (taken pushed : ℕ)
-    (queued : List Job)
+    (queued : List PostedJob)
     → AreTakenIn ends [] hand0 hand log0 log taken pushed → IsDrained log end queued → Held 0 (Accounts end)
     → KeepsOrder log0.got queued ends
 all_ordered ends hand0 hand log0 log end taken pushed queued h drained empty =

@@ -1,34 +1,35 @@
 -- What a worker's steps keep.
 use Rattle.merge_board.proofs.Prelude.{◌≡◌, ◌≢◌, ℕ, ◌<◌, List, [], ◌∷◌, ◌++◌, sym, ap, ◌∙◌, subst, arith, inl, inr}
-use Rattle.merge_board.proofs.Prelude.{⊎_elim, map-append, Job, AllByRecursion, IsRising, Has, new_hand, new_log}
+use Rattle.merge_board.proofs.Prelude.{⊎_elim, map-append, PostedJob, AllByRecursion, IsRising, Has, new_hand, new_log}
 use Rattle.merge_board.proofs.Prelude.{numbers_of, AreApart, AreDealt, Hand, Log}
 use Rattle.merge_board.proofs.Lists.{every_map, every_both, every_snoc, every_has, has_longer, rising_snoc}
 
 -- a worker's view of the jobs, one job later
-pub hand_grown : (v w : Hand) (job : Job) → v ≡ record new_hand { taken = v.taken }
+pub hand_grown : (v w : Hand) (job : PostedJob) → v ≡ record new_hand { taken = v.taken }
     → w ≡ record v { taken = v.taken ++ job ∷ [] } → w ≡ record new_hand { taken = w.taken }
 hand_grown v w job shape grown =
     grown ∙ ap (λ (x : Hand). record x { taken = v.taken ++ job ∷ [] }) shape
     ∙ ap (λ (x : Hand). record new_hand { taken = x.taken }) (sym grown)
 
 -- its view of the outcomes, one outcome later
-pub log_grown : (worker : ℕ) (v w : Log) (out : Job) → v ≡ record (new_log worker) { pushed = v.pushed }
+pub log_grown : (worker : ℕ) (v w : Log) (out : PostedJob) → v ≡ record (new_log worker) { pushed = v.pushed }
     → w ≡ record v { pushed = v.pushed ++ out ∷ [] } → w ≡ record (new_log worker) { pushed = w.pushed }
 log_grown worker v w out shape grown =
     grown ∙ ap (λ (x : Log). record x { pushed = v.pushed ++ out ∷ [] }) shape
     ∙ ap (λ (x : Log). record (new_log worker) { pushed = x.pushed }) (sym grown)
 
-pub numbers_snoc : (jobs : List Job) (job : Job) → numbers_of (jobs ++ job ∷ []) ≡ numbers_of jobs ++ job.number ∷ []
-numbers_snoc jobs job = map-append (λ (j : Job). j.number) jobs (job ∷ [])
+pub numbers_snoc : (jobs : List PostedJob) (job : PostedJob)
+    → numbers_of (jobs ++ job ∷ []) ≡ numbers_of jobs ++ job.number ∷ []
+numbers_snoc jobs job = map-append (λ (j : PostedJob). j.number) jobs (job ∷ [])
 
-number_has : (jobs : List Job) (job : Job) → Has jobs job → Has (numbers_of jobs) job.number
+number_has : (jobs : List PostedJob) (job : PostedJob) → Has jobs job → Has (numbers_of jobs) job.number
 number_has [] job i = absurd i
 number_has (first ∷ others) job i =
-    ⊎_elim (λ (e : first ≡ job). inl (ap (λ (j : Job). j.number) e))
+    ⊎_elim (λ (e : first ≡ job). inl (ap (λ (j : PostedJob). j.number) e))
     (λ (r : Has others job). inr (number_has others job r)) i
 
 -- what is above the numbers of all jobs that were taken is above those of any of them
-pub below_all : (n : ℕ) (taken some : List Job) → AllByRecursion (λ m. m < n) (numbers_of taken)
+pub below_all : (n : ℕ) (taken some : List PostedJob) → AllByRecursion (λ m. m < n) (numbers_of taken)
     → AllByRecursion (Has taken) some → AllByRecursion (λ m. m < n) (numbers_of some)
 below_all n taken [] above among = tt
 below_all n taken (first ∷ others) above among = (
@@ -36,21 +37,21 @@ below_all n taken (first ∷ others) above among = (
   below_all n taken others above among.1,
 )
 
-pub rise_more : (jobs : List Job) (job : Job) → IsRising (numbers_of jobs)
+pub rise_more : (jobs : List PostedJob) (job : PostedJob) → IsRising (numbers_of jobs)
     → AllByRecursion (λ m. m < job.number) (numbers_of jobs) → IsRising (numbers_of (jobs ++ job ∷ []))
 rise_more jobs job rise above =
     subst IsRising (sym (numbers_snoc jobs job)) (rising_snoc (numbers_of jobs) job.number rise above)
 
 -- a job with a number above all of both lists joins the first, or the second
-apart_first : (xs ys : List Job) (job : Job) → AreApart xs ys → AllByRecursion (λ m. m < job.number) (numbers_of ys)
-    → AreApart (xs ++ job ∷ []) ys
+apart_first : (xs ys : List PostedJob) (job : PostedJob) → AreApart xs ys
+    → AllByRecursion (λ m. m < job.number) (numbers_of ys) → AreApart (xs ++ job ∷ []) ys
 apart_first xs ys job apart above =
     subst (AllByRecursion (λ p. AllByRecursion (λ m. p ≢ m) (numbers_of ys))) (sym (numbers_snoc xs job))
     (every_snoc (λ p. AllByRecursion (λ m. p ≢ m) (numbers_of ys)) (numbers_of xs) job.number apart
     (every_map (λ m. m < job.number) (λ m. job.number ≢ m) (numbers_of ys) (λ m below e. omega arith) above))
 
-apart_second : (xs ys : List Job) (job : Job) → AreApart xs ys → AllByRecursion (λ m. m < job.number) (numbers_of xs)
-    → AreApart xs (ys ++ job ∷ [])
+apart_second : (xs ys : List PostedJob) (job : PostedJob) → AreApart xs ys
+    → AllByRecursion (λ m. m < job.number) (numbers_of xs) → AreApart xs (ys ++ job ∷ [])
 apart_second xs ys job apart above =
     subst (λ (zs : List ℕ). AllByRecursion (λ p. AllByRecursion (λ m. p ≢ m) zs) (numbers_of xs))
     (sym (numbers_snoc ys job))
@@ -58,12 +59,12 @@ apart_second xs ys job apart above =
     (λ p. AllByRecursion (λ m. p ≢ m) (numbers_of ys ++ job.number ∷ [])) (numbers_of xs)
     (λ p old below. every_snoc (λ m. p ≢ m) (numbers_of ys) job.number old (λ e. omega arith)) apart above)
 
-among_more : (taken some : List Job) (job : Job) → AllByRecursion (Has taken) some
+among_more : (taken some : List PostedJob) (job : PostedJob) → AllByRecursion (Has taken) some
     → AllByRecursion (Has (taken ++ job ∷ [])) some
 among_more taken some job among =
     every_map (Has taken) (Has (taken ++ job ∷ [])) some (λ m. has_longer taken (job ∷ []) m) among
 
-pub took : (job : Job) (taken pushed left given_up : List Job) → AreDealt taken pushed left given_up
+pub took : (job : PostedJob) (taken pushed left given_up : List PostedJob) → AreDealt taken pushed left given_up
     → AllByRecursion (λ m. m < job.number) (numbers_of taken) → AreDealt (taken ++ job ∷ []) pushed left given_up
 took job taken pushed left given_up h above = record {
   rising = rise_more taken job h.rising above;
@@ -78,7 +79,7 @@ took job taken pushed left given_up h above = record {
   left_given_up = h.left_given_up;
 }
 
-pub pushed_one : (out : Job) (taken pushed left given_up : List Job) → AreDealt taken pushed left given_up
+pub pushed_one : (out : PostedJob) (taken pushed left given_up : List PostedJob) → AreDealt taken pushed left given_up
     → Has taken out → AllByRecursion (λ m. m < out.number) (numbers_of pushed)
     → AllByRecursion (λ m. m < out.number) (numbers_of left)
     → AllByRecursion (λ m. m < out.number) (numbers_of given_up)
@@ -96,7 +97,7 @@ pushed_one out taken pushed left given_up h among above_pushed above_left above_
   left_given_up = h.left_given_up;
 }
 
-pub left_one : (out : Job) (taken pushed left given_up : List Job) → AreDealt taken pushed left given_up
+pub left_one : (out : PostedJob) (taken pushed left given_up : List PostedJob) → AreDealt taken pushed left given_up
     → Has taken out → AllByRecursion (λ m. m < out.number) (numbers_of pushed)
     → AllByRecursion (λ m. m < out.number) (numbers_of left)
     → AllByRecursion (λ m. m < out.number) (numbers_of given_up)
@@ -114,7 +115,7 @@ left_one out taken pushed left given_up h among above_pushed above_left above_gi
   left_given_up = apart_first left given_up out h.left_given_up above_given_up;
 }
 
-pub gave_up_one : (job : Job) (taken pushed left given_up : List Job) → AreDealt taken pushed left given_up
+pub gave_up_one : (job : PostedJob) (taken pushed left given_up : List PostedJob) → AreDealt taken pushed left given_up
     → Has taken job → AllByRecursion (λ m. m < job.number) (numbers_of pushed)
     → AllByRecursion (λ m. m < job.number) (numbers_of left)
     → AllByRecursion (λ m. m < job.number) (numbers_of given_up)

@@ -3,13 +3,13 @@ use Rattle.std.specs.Prelude.{◌≡◌, ℕ, ◌+◌, ◌<◌, ◌≤◌, ◌^�
 use Rattle.std.specs.List.{AllByRecursion, sum_by}
 use mathlib.Core.Option.{some}
 use lib.ListN.{get_elem?}
-use Rattle.bucket_merge.specs.Job.{Job}
 use Rattle.merge_board.specs.Lists.{IsRising}
 use Rattle.merge_board.specs.Hands.{drawn, numbers_of}
 use Rattle.merge_board.specs.declared.hand.Hand.{Hand}
+use Rattle.merge_board.specs.declared.posted.PostedJob.{PostedJob}
 
 -- the numbers t + 1, t + 2, and so on
-abbrev pub NumbersAfter : ℕ → List Job → Type 0
+abbrev pub NumbersAfter : ℕ → List PostedJob → Type 0
 NumbersAfter t [] = Unit {0}
 NumbersAfter t (job ∷ jobs) = (job.number ≡ t + 1) × NumbersAfter (t + 1) jobs
 
@@ -21,7 +21,7 @@ pub record FitsHand (p t pass : ℕ) (v : Hand) : Type 0 where
   -- a pass that was taken in knows nothing any more
   pub idle : v.parts ≡ 0 → drawn v ≡ 0
 
-pub record JobsInOrder (jobs : List Job) (views : List Hand) : Type 0 where
+pub record JobsInOrder (jobs : List PostedJob) (views : List Hand) : Type 0 where
   -- how many jobs were posted, and how many were taken
   pub p : ℕ
   pub t : ℕ

@@ -4,14 +4,14 @@ use Rattle.std.specs.Prelude.{◌≡◌, ◌≢◌, ℕ, ◌+◌, ◌<◌, ◌�
 use Rattle.std.specs.List.{AllByRecursion, sum_by, filter}
 use mathlib.Core.Option.{some}
 use lib.ListN.{get_elem?}
-use Rattle.bucket_merge.specs.Job.{Job}
 use Rattle.merge_board.specs.Logs.{pushed_count}
 use Rattle.merge_board.specs.declared.log.Sent.{Sent}
 use Rattle.merge_board.specs.declared.log.Known.{Known}
 use Rattle.merge_board.specs.declared.log.Log.{Log}
+use Rattle.merge_board.specs.declared.posted.PostedJob.{PostedJob}
 
 -- the outcomes that a worker sent, in their order
-abbrev pub outs_of : ℕ → List Sent → List Job
+abbrev pub outs_of : ℕ → List Sent → List PostedJob
 outs_of worker sent = map (λ (s : Sent). s.out) (filter (λ (s : Sent). s.worker == worker) sent)
 
 -- What was collected, and then what the queue holds, has of each worker that has ended what it pushed. Where all have

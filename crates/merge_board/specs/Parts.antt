@@ -2,7 +2,6 @@
 use Rattle.std.specs.Prelude.{◌≡◌, ℕ, ◌+◌, List, [], ◌∷◌, ◌++◌, length, map}
 use Rattle.counted_queue.specs.Seats as seats
 use seats.{view, IsSeatOf}
-use Rattle.bucket_merge.specs.Job.{Job}
 use Rattle.std.specs.List.{AllByRecursion}
 use Rattle.merge_board.specs.OutOrder.{outs_of}
 use Rattle.merge_board.specs.declared.log.Sent.{Sent}
@@ -14,6 +13,7 @@ use Rattle.merge_board.specs.declared.parts.Worker.{Worker}
 use Rattle.merge_board.specs.declared.parts.WorkerEnd.{WorkerEnd}
 use Rattle.merge_board.specs.declared.parts.Collector.{Collector}
 use Rattle.merge_board.specs.declared.parts.CollectorEnd.{CollectorEnd}
+use Rattle.merge_board.specs.declared.posted.PostedJob.{PostedJob}
 
 -- ---- what the parts record
 
@@ -40,19 +40,19 @@ abbrev pub end_number : WorkerEnd → ℕ
 end_number end = end.seats.number
 
 -- the jobs that a worker took
-abbrev pub taken_by : WorkerEnd → List Job
+abbrev pub taken_by : WorkerEnd → List PostedJob
 taken_by end = (view end.seats.jobs).taken
 
 -- the outcomes that a worker pushed
-abbrev pub pushed_by : WorkerEnd → List Job
+abbrev pub pushed_by : WorkerEnd → List PostedJob
 pushed_by end = (view end.seats.outs).pushed
 
 -- the outcomes that it pushed in vain, one for each answer of the queue that it was full
-abbrev pub refused_of : WorkerEnd → List Job
+abbrev pub refused_of : WorkerEnd → List PostedJob
 refused_of end = map (λ (s : Sent). s.out) (seats.refused_of end.seats.outs)
 
 -- the jobs that it gave up, one for each merge that was handed back since memory was refused to it
-abbrev pub given_up_by : WorkerEnd → List Job
+abbrev pub given_up_by : WorkerEnd → List PostedJob
 given_up_by end = end.seats.given_up
 
 -- how often it found no job: once for each answer of the queue that it was empty
@@ -135,11 +135,11 @@ pub record AreEnds (room : Room) (board : BoardEnd) (workers : List WorkerEnd) (
 
 -- After what was collected come, with their workers, the outcomes that are queued. In all of these each worker's are
 -- what it pushed, in its order, each once and unaltered.
-pub record KeepsOrder (got : List Sent) (queued : List Job) (ends : List WorkerEnd) : Type 0 where
+pub record KeepsOrder (got : List Sent) (queued : List PostedJob) (ends : List WorkerEnd) : Type 0 where
   pub rest : List Sent
   pub queue : map (λ (s : Sent). s.out) rest ≡ queued
   pub each : AllByRecursion (λ (end : WorkerEnd). outs_of (end_number end) (got ++ rest) ≡ pushed_by end) ends
 
 -- the list has grown by this outcome, of some worker
-abbrev pub Grew : List Sent → Job → List Sent → Type 0
+abbrev pub Grew : List Sent → PostedJob → List Sent → Type 0
 Grew old out new = (worker : ℕ) × (new ≡ old ++ record { worker = worker; out = out } ∷ [])

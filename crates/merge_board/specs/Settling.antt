@@ -2,7 +2,6 @@
 use Rattle.std.specs.Prelude.{◌≡◌, ℕ, ◌+◌, ◌≤◌, true, List, ◌++◌, length, map}
 use Rattle.std.specs.List.{sum_by}
 use Rattle.counted_queue.specs.Seats.{view}
-use Rattle.bucket_merge.specs.Job.{Job}
 use Rattle.merge_board.specs.Hands.{drawn}
 use Rattle.merge_board.specs.Logs.{pushed_count, known_of}
 use Rattle.merge_board.specs.declared.hand.Hand.{Hand}
@@ -10,6 +9,7 @@ use Rattle.merge_board.specs.declared.log.Sent.{Sent}
 use Rattle.merge_board.specs.declared.log.Known.{Known}
 use Rattle.merge_board.specs.declared.log.Log.{Log}
 use Rattle.merge_board.specs.declared.parts.WorkerEnd.{WorkerEnd}
+use Rattle.merge_board.specs.declared.posted.PostedJob.{PostedJob}
 
 -- what is known of a worker whose pass was taken in
 abbrev pub end_known : WorkerEnd → Known
@@ -36,7 +36,7 @@ pub record AreTakenIn (all rest : List WorkerEnd) (old_hand hand : Hand) (old_lo
   pub fewer : pushed ≤ taken
 
 -- the collector's pass has collected these too
-pub record IsDrained (old new : Log) (queued : List Job) : Type 0 where
+pub record IsDrained (old new : Log) (queued : List PostedJob) : Type 0 where
   pub rest : List Sent
   pub queue : map (λ (s : Sent). s.out) rest ≡ queued
   pub log : new ≡ record old { got = old.got ++ rest }

@@ -4,7 +4,6 @@ use Rattle.std.specs.Prelude.{vec_capacity, Option, MatchOption}
 use Rattle.std.specs.declared.sync.OnceToken.{OnceToken}
 use Rattle.counted_queue.specs.Seats as seats
 use seats.{view, mark_of, IsSeatOf}
-use Rattle.bucket_merge.specs.Job.{Job}
 use Rattle.std.specs.List.{AllByRecursion}
 use Rattle.merge_board.specs.Lists.{IsRising, Has}
 use Rattle.merge_board.specs.Hands.{new_hand, numbers_of}
@@ -14,14 +13,15 @@ use Rattle.merge_board.specs.declared.desk.Desk.{Desk}
 use Rattle.merge_board.specs.declared.log.Sent.{Sent}
 use Rattle.merge_board.specs.declared.parts.Room.{Room}
 use Rattle.merge_board.specs.declared.parts.WorkerEnd.{WorkerEnd}
+use Rattle.merge_board.specs.declared.posted.PostedJob.{PostedJob}
 
 -- no number is in both
-abbrev pub AreApart : List Job → List Job → Type 0
+abbrev pub AreApart : List PostedJob → List PostedJob → Type 0
 AreApart xs ys = AllByRecursion (λ n. AllByRecursion (λ m. n ≢ m) (numbers_of ys)) (numbers_of xs)
 
 -- How the jobs that a worker took relate to the outcomes that it pushed, to those that it has left and to the merges
 -- that it gave up: these are jobs that it took, their numbers rise, and no number is in two of the three.
-pub record AreDealt (taken pushed left given_up : List Job) : Type 0 where
+pub record AreDealt (taken pushed left given_up : List PostedJob) : Type 0 where
   pub rising : IsRising (numbers_of taken)
   pub pushed_rise : IsRising (numbers_of pushed)
   pub left_rise : IsRising (numbers_of left)
@@ -51,7 +51,7 @@ IsDealt desk =
     AreDealt (view desk.seats.jobs).taken (view desk.seats.outs).pushed desk.left.items desk.seats.given_up
 
 -- The job was taken last: its number is above those of all that became of the others.
-pub record HasInHand (desk : Desk) (job : Job) : Type 0 where
+pub record HasInHand (desk : Desk) (job : PostedJob) : Type 0 where
   pub dealt : IsDealt desk
   pub taken : Has (view desk.seats.jobs).taken job
   pub above_pushed : AllByRecursion (λ n. n < job.number) (numbers_of (view desk.seats.outs).pushed)
@@ -59,7 +59,7 @@ pub record HasInHand (desk : Desk) (job : Job) : Type 0 where
   pub above_given_up : AllByRecursion (λ n. n < job.number) (numbers_of desk.seats.given_up)
 
 -- The outcome was pushed, or it is left because there was no slot for it.
-abbrev pub IsHandedOut : Desk → Job → Desk → Type 0
+abbrev pub IsHandedOut : Desk → PostedJob → Desk → Type 0
 IsHandedOut old out new =
     (((view new.seats.outs).pushed ≡ (view old.seats.outs).pushed ++ out ∷ []) × (new.left.items ≡ old.left.items))
     ⊎ (((view new.seats.outs).pushed ≡ (view old.seats.outs).pushed)

@@ -7,6 +7,7 @@ ghost use Rattle.merge_board.specs.Parts.{posted_in_all, returned_to};
 
 use crate::hand::Posts;
 use crate::parts::{Board, BoardEnd, Room};
+use crate::posted::PostedJob;
 use bucket_merge::MergeJob;
 use std::sync::{OnceToken, Wait};
 
@@ -23,8 +24,8 @@ fn next_number<R: Wait>(rt: &R, posted: u64) -> u64
 }
 
 impl Board {
-    /// Numbers a job, from 1 on, and puts it after those that wait. It comes back where 64 jobs waited. It takes no
-    /// memory.
+    /// Numbers a job, from 1 on, and puts it after those that wait. It comes back as it was where 64 jobs waited. It
+    /// takes no memory.
     pub fn post<R: Wait>(&mut self, rt: &R, room: &Room, job: MergeJob) -> Result<u64, MergeJob>
         requires { IsBoardIn room.now self.old }
         ensures room { IsBoardIn room.now self.new }
@@ -36,16 +37,13 @@ impl Board {
         ensures full { IfErr result (λ _. 64 ≤ posted_by self.old) }
     {
         let next = next_number(rt, self.posted);
-        let number = job.number();
-        match room
-            .jobs
-            .push::<Posts, R>(rt, &mut self.seat, job.numbered(next))
-        {
+        let posted = PostedJob { number: next, job };
+        match room.jobs.push::<Posts, R>(rt, &mut self.seat, posted) {
             Ok(()) => {
                 self.posted = next;
                 Ok(next)
             }
-            Err(back) => Err(back.numbered(number)),
+            Err(back) => Err(back.job),
         }
     }
 

@@ -6,12 +6,12 @@ ghost use Rattle.merge_board.specs.Parts.{collected_by, collected_in_all, empty_
 
 use crate::log::Collects;
 use crate::parts::{Collector, CollectorEnd, Room};
-use bucket_merge::MergeOut;
+use crate::posted_out::PostedOut;
 use std::sync::Wait;
 
 impl Collector {
     /// The outcome that waited longest, or nothing where none waited. It takes no memory.
-    pub fn take<R: Wait>(&mut self, rt: &R, room: &Room) -> Option<MergeOut>
+    pub fn take<R: Wait>(&mut self, rt: &R, room: &Room) -> Option<PostedOut>
         requires { IsCollectorIn room.now self.old }
         ensures room { IsCollectorIn room.now self.new }
         ensures parts { collector_parts self.new ≡ collector_parts self.old }

@@ -9,7 +9,8 @@ ghost use Rattle.merge_board.specs.Work.{IsAtWork, IsDealt, HasInHand, IsHandedO
 use crate::hand::{Hand, Takes};
 use crate::log::{Pushes, Sent};
 use crate::parts::{Room, WorkerEnd, WorkerSeats};
-use bucket_merge::{MergeJob, MergeOut};
+use crate::posted::PostedJob;
+use crate::posted_out::PostedOut;
 use counted_queue::Seat;
 use std::sync::ledger::Ledger;
 use std::sync::{OnceToken, Wait};
@@ -24,7 +25,7 @@ pub(crate) struct Desk {
     pub(crate) seats: WorkerSeats,
     pub(crate) taken: u64,
     pub(crate) pushed: u64,
-    pub(crate) left: Vec<MergeOut>,
+    pub(crate) left: Vec<PostedOut>,
 }
 
 /// The job that waited longest, if one waits. A look that finds none is counted, and as a last one too where the
@@ -32,9 +33,9 @@ pub(crate) struct Desk {
 fn look_for_job<R: Wait>(
     rt: &R,
     room: &Room,
-    seat: &mut Seat<MergeJob, Hand>,
+    seat: &mut Seat<PostedJob, Hand>,
     closed: &Option<OnceToken<'_, ()>>,
-) -> Option<MergeJob>
+) -> Option<PostedJob>
     requires seat { IsSeatOf room.now.jobs seat.old }
     requires part { 0 < (view seat.old).parts }
     requires closed { IfSome closed.now (λ token. token.of ≡ mark_of room.now.jobs) }
@@ -56,7 +57,7 @@ impl Desk {
         rt: &R,
         room: &Room,
         closed: &Option<OnceToken<'_, ()>>,
-    ) -> Option<MergeJob>
+    ) -> Option<PostedJob>
         requires at_work { IsAtWork room.now 0 self.old }
         requires dealt { IsDealt self.old }
         requires closed { IfSome closed.now (λ token. token.of ≡ mark_of room.now.jobs) }
@@ -74,7 +75,7 @@ impl Desk {
     }
 
     /// Pushes an outcome, or leaves it where there is no slot for it.
-    fn push_out<R: Wait>(&mut self, rt: &R, room: &Room, out: MergeOut)
+    fn push_out<R: Wait>(&mut self, rt: &R, room: &Room, out: PostedOut)
         requires at_work { IsAtWork room.now 1 self.old }
         requires in_hand { HasInHand self.old out }
         requires index { vec_len self.old.left < 64 }
@@ -102,10 +103,10 @@ impl Desk {
         room: &Room,
         gate: &G,
         steps: &mut Steps<L>,
-        job: MergeJob,
+        posted: PostedJob,
     )
         requires at_work { IsAtWork room.now 1 self.old }
-        requires in_hand { HasInHand self.old job }
+        requires in_hand { HasInHand self.old posted }
         requires index { vec_len self.old.left < 64 }
         ensures at_work { IsAtWork room.now 0 self.new }
         ensures dealt { IsDealt self.new }
@@ -114,8 +115,8 @@ impl Desk {
     {
         // Fewer were given up than were taken.
         let _taken = self.taken;
-        gate.pass(job.level(), job.seq());
-        match self.seats.given_up.make(steps, job) {
+        gate.pass(posted.job.level(), posted.job.seq());
+        match self.seats.given_up.make(steps, posted) {
             Some(out) => self.push_out(rt, room, out),
             None => {}
         }
@@ -128,10 +129,10 @@ impl Desk {
         room: &'r Room,
         gate: &G,
         steps: &mut Steps<L>,
-        job: MergeJob,
+        posted: PostedJob,
     ) -> Option<Option<OnceToken<'r, ()>>>
         requires at_work { IsAtWork room.now 1 self.old }
-        requires in_hand { HasInHand self.old job }
+        requires in_hand { HasInHand self.old posted }
         requires index { vec_len self.old.left < 64 }
         ensures at_work { IsAtWork room.now 0 self.new }
         ensures dealt { IsDealt self.new }
@@ -139,7 +140,7 @@ impl Desk {
         ensures last { IfSome result (StopsFor room.now self.new) }
         ensures number { self.new.seats.number ≡ self.old.seats.number }
     {
-        self.make_merge(rt, room, gate, steps, job);
+        self.make_merge(rt, room, gate, steps, posted);
         if self.left.len() < LEFT {
             None
         } else {

@@ -2,7 +2,8 @@
 
 ghost use Rattle.std.specs.Prelude.{◌≡◌, ◌+◌, ◌<◌, ◌^◌, [], ◌∷◌, ◌++◌, length, IfSome, IfNone};
 
-use bucket_merge::{MergeJob, MergeOut};
+use crate::posted::PostedJob;
+use crate::posted_out::PostedOut;
 use http_server::Log;
 use std::marker::Model;
 use std::sync::ledger::Ledger;
@@ -13,18 +14,19 @@ use steps::Steps;
 #[derive(Drop)]
 pub(crate) struct GivenUp {
     count: u64,
-    jobs: Log<MergeJob, ()>,
+    jobs: Log<PostedJob, ()>,
 }
 
 impl Model for GivenUp {
     ghost use Rattle.std.specs.Prelude.{◌≡◌, List, length};
     ghost use Rattle.std.specs.Coded.{coded_list};
-    ghost use Rattle.bucket_merge.specs.Job.{Job, job_code};
     ghost use Rattle.counted_queue.specs.Histories.{firsts};
+    ghost use Rattle.merge_board.specs.Posted.{posted_code};
+    ghost use Rattle.merge_board.specs.declared.posted.PostedJob.{PostedJob};
 
-    ghost Value = { List Job };
+    ghost Value = { List PostedJob };
 
-    ghost coded = { coded_list job_code };
+    ghost coded = { coded_list posted_code };
 
     ghost view = { λ g. firsts g.jobs.items };
 
@@ -53,18 +55,23 @@ impl GivenUp {
     pub(crate) fn make<L: Ledger>(
         &mut self,
         steps: &mut Steps<L>,
-        job: MergeJob,
-    ) -> Option<MergeOut>
+        posted: PostedJob,
+    ) -> Option<PostedOut>
         requires { length self.old + 1 < 2 ^ 64 }
-        ensures out { IfSome result (λ out. out ≡ job) }
+        ensures out { IfSome result (λ out. out ≡ posted) }
         ensures kept { IfSome result (λ _. self.new ≡ self.old) }
-        ensures given_up { IfNone result (self.new ≡ self.old ++ job ∷ []) }
+        ensures given_up { IfNone result (self.new ≡ self.old ++ posted ∷ []) }
     {
+        let PostedJob { number, job } = posted;
         match job.run(steps) {
-            Ok(out) => Some(out),
+            Ok(out) => Some(PostedOut::new(number, out)),
             Err(back) => {
                 self.count += 1;
-                self.jobs = self.jobs.and(&back.job, &());
+                let given_up = PostedJob {
+                    number,
+                    job: back.job,
+                };
+                self.jobs = self.jobs.and(&given_up, &());
                 None
             }
         }

@@ -1,6 +1,6 @@
 //! The queue of jobs: what the holder of each of its passes knows, and how a step changes that.
 
-use bucket_merge::MergeJob;
+use crate::posted::PostedJob;
 use counted_queue::{Closing, CountedQueue};
 use crossbeam_queue::protocol::{Join, Lesson, Outcome, Protocol, Split};
 use std::collections::LinkedList;
@@ -12,14 +12,14 @@ pub struct Hand {
     pub parts: u64,
     pub posts: bool,
     pub posted: u64,
-    pub taken: LinkedList<MergeJob>,
+    pub taken: LinkedList<PostedJob>,
     pub absorbed: u64,
 }
 
 /// The rule of the job queue.
 pub struct JobRule;
 
-impl Protocol<MergeJob, Hand> for JobRule {
+impl Protocol<PostedJob, Hand> for JobRule {
     ghost use Rattle.merge_board.specs.Hands.{first_hand};
     ghost use Rattle.merge_board.specs.JobOrder.{JobsInOrder};
 
@@ -60,13 +60,13 @@ impl Join<Hand> for TakesIn {
 /// A job is posted.
 pub struct Posts;
 
-impl Outcome<MergeJob, Hand> for Posts {
+impl Outcome<PostedJob, Hand> for Posts {
     ghost use Rattle.std.specs.Prelude.{◌≡◌, ◌+◌};
 
     ghost then = { λ v job w. w ≡ record v { posted = v.posted + 1 } };
 }
 
-impl Lesson<MergeJob, Hand> for Posts {
+impl Lesson<PostedJob, Hand> for Posts {
     ghost use Rattle.std.specs.Prelude.{◌≤◌, length};
 
     ghost fact = { λ v jobs. length jobs ≤ v.posted };
@@ -75,13 +75,13 @@ impl Lesson<MergeJob, Hand> for Posts {
 /// A job is taken.
 pub struct Takes;
 
-impl Outcome<MergeJob, Hand> for Takes {
+impl Outcome<PostedJob, Hand> for Takes {
     ghost use Rattle.merge_board.specs.Hands.{TakesJob};
 
     ghost then = { TakesJob };
 }
 
-impl Lesson<MergeJob, Hand> for Takes {
+impl Lesson<PostedJob, Hand> for Takes {
     ghost use Rattle.std.specs.Prelude.{⊤};
 
     ghost fact = { λ v jobs. ⊤ };
@@ -90,7 +90,7 @@ impl Lesson<MergeJob, Hand> for Takes {
 /// How many jobs were taken, at most.
 pub struct Counts;
 
-impl Lesson<MergeJob, Hand> for Counts {
+impl Lesson<PostedJob, Hand> for Counts {
     ghost use Rattle.std.specs.Prelude.{◌≤◌, ◌<◌, ◌^◌};
     ghost use Rattle.merge_board.specs.Hands.{drawn};
 
@@ -100,7 +100,7 @@ impl Lesson<MergeJob, Hand> for Counts {
 /// What became of all jobs.
 pub struct CountsWaiting;
 
-impl Lesson<MergeJob, Hand> for CountsWaiting {
+impl Lesson<PostedJob, Hand> for CountsWaiting {
     ghost use Rattle.std.specs.Prelude.{◌≡◌, ◌+◌, ◌<◌, ◌^◌, length};
     ghost use Rattle.merge_board.specs.Hands.{drawn};
 
@@ -108,4 +108,4 @@ impl Lesson<MergeJob, Hand> for CountsWaiting {
 }
 
 /// The jobs that wait for a worker.
-pub type JobQueue = CountedQueue<MergeJob, Hand, JobRule>;
+pub type JobQueue = CountedQueue<PostedJob, Hand, JobRule>;

@@ -1,6 +1,6 @@
 //! The queue of outcomes: what the holder of each of its passes knows, and how a step changes that.
 
-use bucket_merge::MergeOut;
+use crate::posted_out::PostedOut;
 use counted_queue::{Closing, CountedQueue};
 use crossbeam_queue::protocol::{Join, Lesson, Outcome, Protocol, Split};
 use std::collections::LinkedList;
@@ -9,13 +9,13 @@ use std::collections::LinkedList;
 #[derive(Drop)]
 pub struct Sent {
     pub worker: u64,
-    pub out: MergeOut,
+    pub out: PostedOut,
 }
 
 /// What a worker that has ended pushed in all. No value of it is made.
 pub struct Known {
     pub worker: u64,
-    pub pushed: LinkedList<MergeOut>,
+    pub pushed: LinkedList<PostedOut>,
 }
 
 /// What a pass of the done queue knows: its parts of sixteen, of which the collector's pass begins with all, whether it
@@ -28,7 +28,7 @@ pub struct Log {
     pub pushes: bool,
     pub made: u64,
     pub worker: u64,
-    pub pushed: LinkedList<MergeOut>,
+    pub pushed: LinkedList<PostedOut>,
     pub absorbed: u64,
     pub got: LinkedList<Sent>,
     pub known: LinkedList<Known>,

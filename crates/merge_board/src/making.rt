@@ -10,7 +10,7 @@ use crate::given_up::GivenUp;
 use crate::hand::{self, Hand, JobQueue};
 use crate::log::{self, Log, OutQueue, Sent};
 use crate::parts::{Board, Collector, Parts, Room, Worker, WorkerSeats};
-use bucket_merge::MergeJob;
+use crate::posted::PostedJob;
 use counted_queue::Seat;
 use std::alloc::{AllocError, Global};
 
@@ -21,7 +21,7 @@ const CAPACITY: usize = 64;
 fn hire(
     alloc: Global,
     room: &Room,
-    poster: &mut Seat<MergeJob, Hand>,
+    poster: &mut Seat<PostedJob, Hand>,
     gatherer: &mut Seat<Sent, Log>,
     number: u64,
 ) -> Result<Worker, AllocError>
@@ -57,7 +57,7 @@ fn hire(
 fn hire_all(
     alloc: Global,
     room: &Room,
-    poster: &mut Seat<MergeJob, Hand>,
+    poster: &mut Seat<PostedJob, Hand>,
     gatherer: &mut Seat<Sent, Log>,
     workers: u32,
 ) -> Result<Vec<Worker>, AllocError>

@@ -8,7 +8,8 @@ ghost use Rattle.merge_board.specs.Logs.{pushed_count, new_log};
 use crate::given_up::GivenUp;
 use crate::hand::{Hand, JobQueue};
 use crate::log::{Log, OutQueue, Sent};
-use bucket_merge::{MergeJob, MergeOut};
+use crate::posted::PostedJob;
+use crate::posted_out::PostedOut;
 use counted_queue::Seat;
 
 /// What `make` gives.
@@ -32,7 +33,7 @@ pub struct Room {
 /// The right to post jobs.
 #[derive(Drop)]
 pub struct Board {
-    pub(crate) seat: Seat<MergeJob, Hand>,
+    pub(crate) seat: Seat<PostedJob, Hand>,
     pub(crate) posted: u64,
     ghost poster: { (view seat).posts ≡ true },
     ghost count: { (view seat).posted ≡ posted },
@@ -42,7 +43,7 @@ pub struct Board {
 /// A board that was closed.
 #[derive(Drop)]
 pub struct BoardEnd {
-    pub(crate) seat: Seat<MergeJob, Hand>,
+    pub(crate) seat: Seat<PostedJob, Hand>,
     ghost poster: { (view seat).posts ≡ true },
     ghost took_none: { drawn (view seat) ≡ 0 },
 }
@@ -51,7 +52,7 @@ pub struct BoardEnd {
 #[derive(Drop)]
 pub(crate) struct WorkerSeats {
     pub(crate) number: u64,
-    pub(crate) jobs: Seat<MergeJob, Hand>,
+    pub(crate) jobs: Seat<PostedJob, Hand>,
     pub(crate) outs: Seat<Sent, Log>,
     pub(crate) given_up: GivenUp,
 }
@@ -60,7 +61,7 @@ pub(crate) struct WorkerSeats {
 #[derive(Drop)]
 pub struct Worker {
     pub(crate) seats: WorkerSeats,
-    pub(crate) left: Vec<MergeOut>,
+    pub(crate) left: Vec<PostedOut>,
     ghost took_none: { view seats.jobs ≡ new_hand },
     ghost pushed_none: { view seats.outs ≡ new_log seats.number },
     ghost none_given_up: { seats.given_up ≡ [] },
@@ -78,7 +79,7 @@ pub struct WorkerEnd {
     pub taken: u64,
     pub pushed: u64,
     pub given_up: u64,
-    pub left: Vec<MergeOut>,
+    pub left: Vec<PostedOut>,
     pub(crate) seats: WorkerSeats,
     ghost job_parts: { (view seats.jobs).parts ≡ 1 },
     ghost all_taken: { drawn (view seats.jobs) ≡ taken },
@@ -122,5 +123,5 @@ pub struct Settled {
     /// How many of them were collected.
     pub collected: u64,
     /// Those of them that were not, in their order.
-    pub queued: Vec<MergeOut>,
+    pub queued: Vec<PostedOut>,
 }

@@ -13,14 +13,15 @@ ghost use Rattle.merge_board.specs.Settling.{AreTakenIn, IsDrained};
 use crate::hand::{self, Counts, CountsWaiting, Hand};
 use crate::log::{self, Collects, Log, Sent};
 use crate::parts::{BoardEnd, CollectorEnd, Room, Settled, WorkerEnd, WorkerSeats};
-use bucket_merge::{MergeJob, MergeOut};
+use crate::posted::PostedJob;
+use crate::posted_out::PostedOut;
 use counted_queue::Seat;
 use std::alloc::{AllocError, Global};
 use std::sync::Wait;
 
 impl Room {
     /// Takes in the seats of a worker that has ended.
-    fn take_in(&self, hand: &mut Seat<MergeJob, Hand>, log: &mut Seat<Sent, Log>, end: WorkerEnd)
+    fn take_in(&self, hand: &mut Seat<PostedJob, Hand>, log: &mut Seat<Sent, Log>, end: WorkerEnd)
         requires jobs { IsSeatOf self.now.jobs hand.old × ((view hand.old).posts ≡ true) }
         requires outs { IsSeatOf self.now.outs log.old × ((view log.old).collects ≡ true) }
         requires end { IsWorkerEndOf self.now end }
@@ -51,7 +52,7 @@ impl Room {
     /// Takes in the seats of all workers, and answers how many jobs they took and how many outcomes they pushed.
     fn take_in_all(
         &self,
-        hand: &mut Seat<MergeJob, Hand>,
+        hand: &mut Seat<PostedJob, Hand>,
         log: &mut Seat<Sent, Log>,
         mut ends: Vec<WorkerEnd>,
     ) -> (u64, u64)
@@ -82,7 +83,7 @@ impl Room {
         rt: &R,
         alloc: Global,
         log: &mut Seat<Sent, Log>,
-    ) -> Result<Vec<MergeOut>, AllocError>
+    ) -> Result<Vec<PostedOut>, AllocError>
         requires outs { IsSeatOf self.now.outs log.old }
         requires collects { (view log.old).collects ≡ true }
         ensures drained { IfOk result (λ queued. IsDrained (view log.old) (view log.new) queued.items) }

@@ -140,6 +140,7 @@ module _ (input out err : Seen) (vol : SeenVolume) (end : Status) (a : Asks inpu
     ];
     runs = a.runs;
     reads = stays;
+    survives = a.survives;
     any = answered_or_untouched input out vol end a.any;
     unopened = untouched input out vol end a.any;
     ended = at_end input out vol end a.any;
@@ -161,6 +162,7 @@ module _ (input out err : Seen) (vol : SeenVolume) (end : Status) (a : Asks inpu
     ];
     runs = a.runs;
     reads = stays;
+    survives = a.survives;
     any = cut_or_untouched input out vol end status.WriteFault tt tt a.any;
     unopened = λ un. absurd un;
     ended = λ e. absurd cc;
@@ -183,6 +185,7 @@ module _ (input out err : Seen) (vol : SeenVolume) (end : Status) (a : Asks inpu
     ];
     runs = a.runs;
     reads = stays;
+    survives = a.survives;
     any = cut_or_untouched input out vol end status.NoMemory tt tt a.any;
     unopened = λ un. absurd un;
     ended = λ e. absurd cc;

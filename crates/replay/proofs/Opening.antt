@@ -9,7 +9,7 @@ use Rattle.replay.proofs.Runs.{empty_prefix}
 use Rattle.replay.proofs.Turning.{cut_answered}
 use Rattle.replay.proofs.After.{opens_none}
 use Rattle.replay.proofs.Keeping.{failed_cut}
-use Rattle.replay.proofs.Surviving.{unmounted}
+use Rattle.replay.proofs.Surviving.{reads_survive, unmounted}
 use Rattle.replay.proofs.OneState.{opens_to_one, opens_not_missing, opens_not_bad, missing_not_bad, bad_at_one}
 
 abbrev pub NowLeaves : SeenVolume → Type 0
@@ -63,9 +63,8 @@ not_begun s input out vol status.NoMemory o only now d runs u =
     cut_run s input out vol status.NoMemory only now d runs tt
     (inl (inl (opens_none s [] vol.now.reads (subst (λ (x : Image). OpensTo x s) (sym u) o))))
 not_begun s input out vol status.DiskFault o only now d runs u =
-    let x = runs.crash vol.now.reads now in
     cut_run s input out vol status.DiskFault only now d runs tt
-    (inr (refl, tt, u, subst (λ (y : Image). vol.before.may_leave y) (sym x.2) x.1))
+    (inr (refl, tt, u, reads_survive vol.before vol.now runs now))
 not_begun s input out vol status.Done o only now d runs u = absurd u
 not_begun s input out vol status.Usage o only now d runs u = absurd u
 not_begun s input out vol status.Refused o only now d runs u = absurd u

@@ -133,6 +133,7 @@ module _ (out err : Seen) (vol : SeenVolume) (end : Status) (s : Shows out vol e
     ];
     runs = s.runs;
     reads = stays;
+    survives = s.survives;
     unopened = none_written out vol end s.any;
     write_fault = λ e. inl (write_failed out vol end s.any e);
     disk_fault = disk_failed out vol end s.any;
@@ -150,6 +151,7 @@ module _ (out err : Seen) (vol : SeenVolume) (end : Status) (s : Shows out vol e
     ];
     runs = s.runs;
     reads = stays;
+    survives = s.survives;
     unopened = λ un. absurd un;
     write_fault = λ e. inr failed;
     disk_fault = λ e. absurd cc;
@@ -168,6 +170,7 @@ module _ (out err : Seen) (vol : SeenVolume) (end : Status) (s : Shows out vol e
     ];
     runs = s.runs;
     reads = stays;
+    survives = s.survives;
     unopened = λ un. absurd un;
     write_fault = λ e. absurd cc;
     disk_fault = λ e. absurd cc;

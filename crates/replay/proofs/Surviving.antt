@@ -76,6 +76,12 @@ survived s at input out vol mid end only reads_now first safe opens k =
 
 -- ---- a run that ends as it is mounted
 
+-- what is read now, a crash might have left before
+pub reads_survive : (before now : Disk) → Runs Same before now → now.may_leave now.reads → before.may_leave now.reads
+reads_survive before now runs reads =
+    let x = runs.crash now.reads reads in
+    subst (λ (y : Image). before.may_leave y) (sym x.2) x.1
+
 -- nothing was written to the output, and the volume stays
 pub unmounted : (s : ClosingState) (given : List ℕ) (vol : SeenVolume) (end : Status)
     → ((c : Image) → vol.before.left_since vol.before.moment c → vol.before.may_leave c)

@@ -46,8 +46,8 @@ run_end kind status.Missing is = absurd is
 run_end kind status.AlreadyThere is = absurd is
 
 -- the outcome of an input is that of the records after its image
-outcome_of : (kind : FileKind) (passphrase : List ℕ) (s : ClosingState) (at : ℕ) (ahead others : List ℕ) (input : Seen)
-    (start : StartsAt passphrase s at ahead input) (o : FileOutcome)
+pub outcome_of : (kind : FileKind) (passphrase : List ℕ) (s : ClosingState) (at : ℕ) (ahead others : List ℕ)
+    (input : Seen) (start : StartsAt passphrase s at ahead input) (o : FileOutcome)
     → IsFileRun kind s (record { at = at; rest = ahead ++ others }) o
     → IsFileOutcome kind passphrase ((start.cut.prefix ++ ahead) ++ others) o
 outcome_of kind passphrase s at ahead others input start o run =
@@ -88,8 +88,8 @@ did_write kind passphrase s at ahead input out err now faults end start w = reco
 
 -- ---- without one
 
-faulty_file : (kind : FileKind) (passphrase : List ℕ) (at : ℕ) (before : Option (List ℕ)) → IfSome before (IsFaulty at)
-    → IfSome before (λ bytes. IsFileOutcome kind passphrase bytes (without_file (status.BadInput at)))
+pub faulty_file : (kind : FileKind) (passphrase : List ℕ) (at : ℕ) (before : Option (List ℕ))
+    → IfSome before (IsFaulty at) → IfSome before (λ bytes. IsFileOutcome kind passphrase bytes (without_file (status.BadInput at)))
 faulty_file kind passphrase at before faulty =
     if_some before (IsFaulty at)
     (λ bytes. IsFileOutcome kind passphrase bytes (without_file (status.BadInput at)))
@@ -98,8 +98,8 @@ faulty_file kind passphrase at before faulty =
     (sym h.1) (ap (λ (n : ℕ). without_file (status.BadInput n)) h.2)) faulty
 
 -- the image breaks a rule
-unjudged_file : (kind : FileKind) (passphrase : List ℕ) (image : StartImage) (at : ℕ) (ahead : List ℕ) (input : Seen)
-    (rule : ImageRule) → Cut image at ahead input
+pub unjudged_file : (kind : FileKind) (passphrase : List ℕ) (image : StartImage) (at : ℕ) (ahead : List ℕ)
+    (input : Seen) (rule : ImageRule) → Cut image at ahead input
     → IsJudged (network_id_of passphrase) image (Err (image_fault.BadImage rule))
     → IfSome input.before (λ bytes. IsFileOutcome kind passphrase bytes (without_file (status.BadImage rule)))
 unjudged_file kind passphrase image at ahead input rule c is =

@@ -21,6 +21,7 @@ AnsweredOrNot input out vol end =
 
 pub record Asks (input out : Seen) (vol : SeenVolume) (end : Status) : Type 0 where
   pub runs : Runs Same vol.before vol.now
+  pub survives : vol.reports → vol.before.may_leave vol.now.reads
   pub reported : vol.reports → (HasAnswered input out vol end × (vol.now.reads ≡ vol.before.reads))
       ⊎ (IsUntouched input × IsUntouched out × OpensNot vol.before.reads vol.now.reads end)
   pub any : AnsweredOrNot input out vol end

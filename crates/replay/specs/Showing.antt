@@ -25,6 +25,7 @@ WroteOrNot out vol end =
 
 pub record Shows (out : Seen) (vol : SeenVolume) (end : Status) : Type 0 where
   pub runs : Runs Same vol.before vol.now
+  pub survives : vol.reports → vol.before.may_leave vol.now.reads
   pub reported : vol.reports → (WroteShown out vol end × (vol.now.reads ≡ vol.before.reads))
       ⊎ (IsUntouched out × OpensNot vol.before.reads vol.now.reads end)
   pub any : WroteOrNot out vol end

@@ -197,3 +197,23 @@ module _ {K V : Type 0} {R : K → K → Ordering} (total : IsTotalOrder R) wher
       pub above_before : R x.0 k ≡ Greater → first_above R k row ≡ option_or (first_above R k before) (Some x)
       above_before gt = ap (first_above R k) p.is ∙ above_prefix_or k before (x ∷ after)
           ∙ ap (option_or (first_above R k before)) (at_top Greater gt)
+
+      module _ (o : Option V) where
+        -- the change of k, where x is on top
+        changed_top_by : (r : Ordering) → R x.0 k ≡ r → changed R k o (x ∷ after)
+            ≡ by_order r (x ∷ changed R k o after) (prefix k o after) (prefix k o (x ∷ after))
+        changed_top_by r e = ap (λ (t : Ordering). by_order t (x ∷ changed R k o after) (prefix k o after)
+            (prefix k o (x ∷ after))) e
+
+        pub changed_after : R x.0 k ≡ Less → changed R k o row ≡ before ++ x ∷ changed R k o after
+        changed_after lt = ap (changed R k o) p.is
+            ∙ changed_past k o before (x ∷ after) (below_more before x.0 k lt p.below)
+            ∙ ap (λ r. before ++ r) (changed_top_by Less lt)
+
+        pub changed_top : R x.0 k ≡ Equal → changed R k o row ≡ before ++ prefix k o after
+        changed_top tied = ap (changed R k o) p.is
+            ∙ changed_past k o before (x ∷ after) (below_same before x.0 k tied p.below)
+            ∙ ap (λ r. before ++ r) (changed_top_by Equal tied)
+
+        pub changed_before : R x.0 k ≡ Greater → changed R k o row ≡ changed R k o before ++ x ∷ after
+        changed_before gt = ap (changed R k o) p.is ∙ changed_prefix k o before x after gt

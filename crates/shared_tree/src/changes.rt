@@ -9,7 +9,6 @@ use crate::kept::Kept;
 use crate::tree::Tree;
 use std::alloc::{AllocError, Global};
 use std::cmp::Ordering;
-use std::slice;
 
 /// How many changes are of keys below one. It halves the changes at each step.
 fn count_below<K: Ord, V>(changes: &[Change<'_, K, V>], key: &K) -> usize
@@ -89,12 +88,38 @@ impl<K: Ord + Drop, V: Drop> Tree<K, V> {
         Tree::joined(alloc, &before, middle, &after)
     }
 
+    /// The row with one change. The way down to its key is made anew.
+    fn with_change(
+        &self,
+        alloc: Global,
+        change: &Change<'_, K, V>,
+    ) -> Result<Tree<K, V>, AllocError>
+        requires { IsRising K.cmp self.now }
+        ensures { IfOk result (λ tree. tree ≡ changed K.cmp change.now.0 change.now.1 self.now) }
+    {
+        let Some(fork) = self.top() else {
+            let none = Tree::empty();
+            return Tree::joined(alloc, &none, change.kept(), &none);
+        };
+        match fork.kept.order(change.key()) {
+            Ordering::Less => {
+                let after = fork.after.with_change(alloc, change)?;
+                Tree::leveled(alloc, &fork.before, &fork.kept, &after)
+            }
+            Ordering::Equal => Tree::joined(alloc, &fork.before, change.kept(), &fork.after),
+            Ordering::Greater => {
+                let before = fork.before.with_change(alloc, change)?;
+                Tree::leveled(alloc, &before, &fork.kept, &fork.after)
+            }
+        }
+    }
+
     /// The row with a value put under its key.
     pub fn put(&self, alloc: Global, kept: &Kept<K, V>) -> Result<Tree<K, V>, AllocError>
         requires { IsRising K.cmp self.now }
         ensures { IfOk result (λ tree. tree ≡ changed K.cmp kept.now.0 (Some kept.now.1) self.now) }
     {
-        self.with_changes(alloc, slice::from_ref(&Change::put(kept)))
+        self.with_change(alloc, &Change::put(kept))
     }
 
     /// The row without what is under a key.
@@ -102,6 +127,6 @@ impl<K: Ord + Drop, V: Drop> Tree<K, V> {
         requires { IsRising K.cmp self.now }
         ensures { IfOk result (λ tree. tree ≡ changed K.cmp key.now None self.now) }
     {
-        self.with_changes(alloc, slice::from_ref(&Change::take(key)))
+        self.with_change(alloc, &Change::take(key))
     }
 }

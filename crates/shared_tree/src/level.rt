@@ -81,7 +81,7 @@ impl<K: Drop, V: Drop> Tree<K, V> {
     }
 
     /// A value between two rows, one of which may be a little too heavy.
-    fn leveled(
+    pub(crate) fn leveled(
         alloc: Global,
         before: &Tree<K, V>,
         kept: &Kept<K, V>,

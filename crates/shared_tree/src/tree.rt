@@ -34,11 +34,6 @@ pub(crate) struct Fork<K, V> {
     len: usize,
 }
 
-// What a tree shares with others is behind `Arc`s, so it crosses threads where its keys and values may be shared.
-unsafe impl<K: Send + Sync, V: Send + Sync> Send for Tree<K, V> {}
-
-unsafe impl<K: Send + Sync, V: Send + Sync> Sync for Tree<K, V> {}
-
 impl<K, V> Model for Tree<K, V> {
     ghost use Rattle.std.specs.Prelude.{List, length};
     ghost use Rattle.std.specs.Coded.{coded×, coded_list};

@@ -1,5 +1,5 @@
 //! What the scripts in bench/ hold to a bound and the program `ledger` can't show apart: books of offers, a store in a
-//! directory, what `verify` has to compute, and the hops of paths.
+//! directory, what `verify` has to compute, the hops of paths, and closing beside readers.
 //!
 //!     speed book COUNT              makes a map of so many offers, a thousand of them changed; walks their book for a
 //!                                   million answers
@@ -29,18 +29,30 @@
 //!     speed paths-base IMAGE QUERY  opens the ledger alone
 //!
 //! These print how many paths were tried, how many of them had a cost, and the least cost.
+//!
+//!     speed readers IMAGE RECORDS   closes the ledgers of records after an image, publishing each, while three readers
+//!                                   read an account in threads of their own
+//!     speed readers-base IMAGE RECORDS  closes them alone
+//!     speed reads IMAGE COUNT       has a reader read the account so often
+//!     speed reads-base IMAGE COUNT  looks it up in the ledger so often
+//!
+//! These print how many ledgers were closed and how many reads were answered.
 #![tactic(auto)]
 
 mod histories;
 mod order_books;
 mod paths;
+mod readers;
 mod stores;
 
 use histories::pass_history;
 use order_books::{Seen, pass_book, pass_head, pass_index};
 use outside::LockFiles;
 use paths::{Served, pass_paths};
+use readers::{Done, pass_closes, pass_reads};
 use std::fs::Files;
+use std::sync::Wait;
+use std::thread::Threads;
 use std::{env, fs, io};
 use stores::pass_store;
 
@@ -123,8 +135,46 @@ fn report_paths<R: Files + Print + AllocGlobal>(
     println!(rt; "{command}: {tried} paths, {served} served, least {least}")
 }
 
+/// Prints what was done.
+fn report_done<R: Print>(rt: &R, command: &str, done: Option<Done>) -> io::Result<()> {
+    let Some(Done { ledgers, reads }) = done else {
+        return println!(rt; "{command}: nothing was done");
+    };
+    println!(rt; "{command}: {ledgers} ledgers, {reads} reads")
+}
+
+/// Closes the ledgers of the records in a file after the image in another one, and prints what was done.
+fn report_closes<R: Threads + Wait + Sync + Files + Print + AllocGlobal>(
+    rt: &R,
+    command: &str,
+    image: &str,
+    records: &str,
+) -> io::Result<()> {
+    let image = fs::read(rt, image)?;
+    let records = fs::read(rt, records)?;
+    let beside = command == "readers";
+    let done = pass_closes(rt, rt.alloc(), image.as_slice(), records.as_slice(), beside);
+    report_done(rt, command, done)
+}
+
+/// Reads an account of the ledger of the image in a file, and prints what was done.
+fn report_reads<R: Wait + Files + Print + AllocGlobal>(
+    rt: &R,
+    command: &str,
+    image: &str,
+    count: &str,
+) -> io::Result<()> {
+    let image = fs::read(rt, image)?;
+    let by_reader = command == "reads";
+    let done = match count.parse() {
+        Ok(count) => pass_reads(rt, rt.alloc(), image.as_slice(), count, by_reader),
+        Err(_) => None,
+    };
+    report_done(rt, command, done)
+}
+
 /// Runs a command on two words.
-fn report_two<R: LockFiles + Print + AllocGlobal>(
+fn report_two<R: Threads + Wait + Sync + LockFiles + Print + AllocGlobal>(
     rt: &R,
     command: &str,
     first: &str,
@@ -133,6 +183,8 @@ fn report_two<R: LockFiles + Print + AllocGlobal>(
     match command.as_bytes() {
         b"index" | b"index-base" => report_seen(rt, command, run_index(rt, command, first, second)),
         b"paths" | b"paths-base" => report_paths(rt, command, first, second),
+        b"readers" | b"readers-base" => report_closes(rt, command, first, second),
+        b"reads" | b"reads-base" => report_reads(rt, command, first, second),
         _ => report_store(rt, command, first, second),
     }
 }

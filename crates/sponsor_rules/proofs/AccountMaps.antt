@@ -17,6 +17,16 @@ use Rattle.ledger_types.specs.declared.key.LedgerKey.TheVariants as key
 use Rattle.reserve_rules.proofs.entry_map_proofs.KeyMaps.{same_itself}
 use Rattle.reserve_rules.specs.entry_slots.declared.accounts.AccountSlot.{AccountSlot}
 use Rattle.reserve_rules.specs.entry_slots.EntrySponsor.{with_sponsor}
+use Rattle.std.specs.Prelude.{ℕ, ℤ}
+use Rattle.ledger_types.specs.Keys.{key_of_body}
+use Rattle.ledger_types.specs.declared.offer.OfferEntry.{OfferEntry}
+use Rattle.reserve_rules.specs.entry_map.Book.{offer_in, offer_of}
+use Rattle.sponsor_rules.specs.declared.count.Count.TheVariants.{Sponsoring}
+use Rattle.sponsor_rules.specs.declared.charge.Charge.{Charge}
+use Rattle.sponsor_rules.specs.declared.charge.Charge.TheVariants as charge
+use Rattle.sponsor_rules.specs.Counting.{with_less}
+use Rattle.sponsor_rules.specs.Paying.{map_after_releasing, without_subentry}
+use Rattle.sponsor_rules.specs.Removing.{map_without_charge}
 use Rattle.sponsor_rules.proofs.Keeping.{core_kept, core_kept_twice}
 
 -- ---- slots and accounts
@@ -306,3 +316,49 @@ leaves_then_others k q a b c same first second = record {
 
 pub leaves_others : (k : LedgerKey) (a b : EntryMap) → LeavesCore a b → LeavesOtherCores k a b
 leaves_others k a b leaves = record { kept = λ id was apart. leaves.kept id was }
+
+-- ---- offers stay where accounts change
+
+module _ (seller : AccountId) (id : ℤ) where
+  abbrev offer_key : LedgerKey
+  offer_key = key.Offer seller id
+
+  offer_by : (m : EntryMap) (e : LedgerEntry) (f : AccountEntry → AccountEntry) (b : LedgerEntryBody)
+      → get (with_account_in m e f b) offer_key ≡ get m offer_key
+  offer_by m e f (body.Account a) = get-insert keys_total m (key.Account (f a).account_id)
+      (record e { body = body.Account (f a) }) offer_key
+  offer_by m e f other = refl
+
+  offer_where : (m : EntryMap) (f : AccountEntry → AccountEntry) (o : Option LedgerEntry)
+      → get (with_account_of m f o) offer_key ≡ get m offer_key
+  offer_where m f None = refl
+  offer_where m f (Some e) = offer_by m e f e.body
+
+  offer_beside : (m : EntryMap) (account : AccountId) (f : AccountEntry → AccountEntry)
+      → get (with_account m account f) offer_key ≡ get m offer_key
+  unfolding with_account
+  offer_beside m account f = offer_where m f (get m (key.Account account))
+
+  offer_released : (k : ℕ) (sponsor : Option AccountId) (m : EntryMap)
+      → get (map_after_releasing k sponsor m) offer_key ≡ get m offer_key
+  offer_released k None m = refl
+  offer_released k (Some sponsor) m = offer_beside m sponsor (with_less Sponsoring k)
+
+  pub offer_uncharged : (c : Charge) (sponsor : Option AccountId) (m : EntryMap)
+      → get (map_without_charge c sponsor m) offer_key ≡ get m offer_key
+  offer_uncharged (charge.Itself owner) sponsor m = offer_released 2 sponsor m
+  offer_uncharged (charge.Subentry owner k) sponsor m =
+      offer_beside (map_after_releasing k sponsor m) owner (without_subentry k sponsor) ∙ offer_released k sponsor m
+  offer_uncharged (charge.Payer k) sponsor m = offer_released k sponsor m
+  offer_uncharged charge.Nobody sponsor m = refl
+
+-- an offer that was found is there when its charge is gone
+pub offer_still : (m now : EntryMap) (k : LedgerKey) (e : LedgerEntry) (o : OfferEntry) (c : Charge)
+    (sponsor : Option AccountId) → now ≡ map_without_charge c sponsor m → get m k ≡ Some e → key_of e ≡ k
+    → e.body ≡ body.Offer o → offer_of (get now k) ≡ Some o
+offer_still m now k e o c sponsor is found own is_offer =
+    let here : key.Offer o.seller_id o.offer_id ≡ k = sym (ap key_of_body is_offer) ∙ own in
+    ap (λ n. offer_of (get n k)) is
+    ∙ ap (λ q. offer_of (get (map_without_charge c sponsor m) q)) (sym here)
+    ∙ ap offer_of (offer_uncharged o.seller_id o.offer_id c sponsor m ∙ ap (get m) here ∙ found)
+    ∙ ap offer_in is_offer

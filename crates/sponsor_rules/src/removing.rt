@@ -11,8 +11,8 @@ use crate::charge::{Charge, charge_of};
 use crate::context::Ctx;
 use crate::owner::lose_subentry;
 use crate::paying::lower_sponsoring;
-use crate::stored::{erase_entry, load, store_changed};
-use ledger_types::{AccountId, LedgerKey};
+use crate::stored::{erase_entry, erase_offer, load, store_changed};
+use ledger_types::{AccountId, LedgerEntryBody, LedgerKey};
 use reserve_rules::entry_map::{Base, Entries};
 use reserve_rules::entry_slots::sponsor_in;
 use std::alloc::AllocError;
@@ -33,7 +33,10 @@ pub fn remove_entry<B: Base>(
         return Ok(());
     };
     remove_charge(entries, charge_of(&entry.body), &sponsor_in(&entry.ext))?;
-    erase_entry(entries, key)
+    match &entry.body {
+        LedgerEntryBody::Offer(offer) => erase_offer(entries, key, offer),
+        _ => erase_entry(entries, key),
+    }
 }
 
 /// Lowers what a thing has added to counts: its sponsor's, and its owner's where it is a subentry. An account's own

@@ -1,7 +1,9 @@
 //! Accounts that are loaded, and stored after a change of counts or signers.
 
 ghost use Rattle.std.specs.Prelude.{◌≡◌, ◌≢◌, Some, OnOk, IfOk};
+ghost use Rattle.std.specs.FinMap.{get};
 ghost use Rattle.ledger_types.specs.Keys.{key_of};
+ghost use Rattle.reserve_rules.specs.entry_map.Book.{offer_of};
 ghost use Rattle.reserve_rules.specs.entry_map.EntryMap.{put, erase};
 ghost use Rattle.reserve_rules.specs.entry_map.Undo.{with_current};
 ghost use Rattle.reserve_rules.specs.entry_slots.Accounts.{entry_of_account};
@@ -9,7 +11,7 @@ ghost use Rattle.sponsor_rules.specs.declared.count.Count.{Count as ACount};
 ghost use Rattle.sponsor_rules.specs.Keeping as spec;
 
 use crate::payers::is_same_account;
-use ledger_types::{AccountId, LedgerEntry, LedgerKey};
+use ledger_types::{AccountId, LedgerEntry, LedgerKey, OfferEntry};
 use reserve_rules::entry_map::{Base, Entries};
 use reserve_rules::entry_slots::{AccountSlot, load_account, store_account};
 use std::alloc::AllocError;
@@ -83,4 +85,18 @@ pub fn erase_entry<B: Base>(entries: &mut Entries<'_, B>, key: &LedgerKey) -> Re
     ensures core { OnOk result (spec.LeavesOtherCores key.now entries.old.current entries.new.current) }
 {
     entries.erase(key)
+}
+
+/// Removes the offer under a key, which is known. No account but one under that key changes.
+pub fn erase_offer<B: Base>(
+    entries: &mut Entries<'_, B>,
+    key: &LedgerKey,
+    offer: &OfferEntry,
+) -> Result<(), AllocError>
+    requires { offer_of (get entries.old.current key.now) ≡ Some offer.now }
+    ensures erased { OnOk result (entries.new ≡ with_current entries.old (erase entries.old.current key.now)) }
+    ensures low { OnOk result (spec.RaisesNone entries.old.current entries.new.current) }
+    ensures core { OnOk result (spec.LeavesOtherCores key.now entries.old.current entries.new.current) }
+{
+    entries.erase_offer(key, offer)
 }

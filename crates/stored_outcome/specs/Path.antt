@@ -33,6 +33,8 @@ pub record DidPath (input out err : Seen) (vol : SeenVolume) (end : Status) : Ty
   -- the volume stays
   pub runs : Runs Same vol.before vol.now
   pub reads : vol.reports → VolumeFailed vol ⊎ ReadsStay vol
+  -- where it failed, it reads what a crash might have left before, and so opens to what that opened to
+  pub survives : vol.reports → vol.before.may_leave vol.now.reads
   -- whatever the volume reports
   pub any : IsAnsweredOrUntouched input out end
   pub unopened : IsUnopenedEnd end → IsUntouched input × IsUntouched out

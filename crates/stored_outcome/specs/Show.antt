@@ -47,6 +47,8 @@ pub record DidShow (out err : Seen) (vol : SeenVolume) (end : Status) : Type 0 w
   -- the volume stays
   pub runs : Runs Same vol.before vol.now
   pub reads : vol.reports → VolumeFailed vol ⊎ ReadsStay vol
+  -- where it failed, it reads what a crash might have left before, and so opens to what that opened to
+  pub survives : vol.reports → vol.before.may_leave vol.now.reads
   -- whatever the volume reports
   pub unopened : IsUnopenedEnd end → IsUntouched out
   pub write_fault : end ≡ status.WriteFault → Failed out ⊎ Failed err

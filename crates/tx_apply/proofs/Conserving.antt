@@ -109,12 +109,12 @@ all_lumens last between none first pool sum coins e nothing h g = omega (arith, 
 
 module _ (laws : TransactionLaws) (settles : LegalSettles) (setting : Setting) (set : TransactionSet) (m : EntryMap)
     (can : CanClose setting set m) where
-  fees_sound : AreTaken setting.header.id_pool m (fees_taken_of setting set m)
+  pub fees_sound : AreTaken setting.header.id_pool m (fees_taken_of setting set m)
   fees_sound = all_taken laws setting.header.id_pool (set_base_fee setting.header set.txs) (envelopes_in_order set)
       m
       (settles setting.header m can.legal)
 
-  set_fit : AreAllFit (envelopes_in_order set)
+  pub set_fit : AreAllFit (envelopes_in_order set)
   set_fit = all_at (λ (w : TransactionEnvelope). AreFit (operations_of w)) set.txs (apply_order_of set) can.fit
 
   sound : AreSound (operation_total (envelopes_in_order set)) setting.header.id_pool

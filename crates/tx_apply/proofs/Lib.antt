@@ -13,6 +13,8 @@ pub mod Within
 pub mod FewOperations
 pub mod Drawing
 pub mod SetsHold
+pub mod EachConserved
+pub mod KeptReserves
 pub use Rattle.fee_rules.proofs as fee_rules_proofs
 pub use Rattle.op_laws.proofs.legal_rules_proofs
 pub use Rattle.op_laws.proofs.offer_exchange_proofs

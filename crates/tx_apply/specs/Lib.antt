@@ -12,6 +12,8 @@ pub mod Operations
 pub mod Indices
 pub mod Set
 pub mod Laws
+pub mod EachTransaction
+pub mod KeptReserves
 pub use Rattle.entry_slots.specs as entry_slots
 pub use Rattle.fee_rules.specs as fee_rules
 pub use Rattle.op_claim.specs.hash_ids

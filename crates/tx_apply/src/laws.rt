@@ -1,6 +1,8 @@
 //! What holds of complete sets, over their definition.
 
 ghost use Rattle.tx_apply.specs.Laws as spec;
+ghost use Rattle.tx_apply.specs.EachTransaction.{EachConserves};
+ghost use Rattle.tx_apply.specs.KeptReserves.{OperationsKeepReserves};
 
 use op_laws::steps::{legal_settles, transaction_laws};
 
@@ -40,6 +42,24 @@ pub fn sets_conserve()
 /// Each operation of a set leaves each account an available balance of at least 0, or of what it had.
 pub fn operations_are_lawful()
     ensures { spec.OperationsAreLawful }
+{
+    legal_settles();
+    transaction_laws();
+}
+
+/// The fee of each transaction of a set that closes over a legal state goes to the fee pool, and its operations move
+/// what their moves say, so that neither makes or loses lumens.
+pub fn each_conserves()
+    ensures { EachConserves }
+{
+    legal_settles();
+    transaction_laws();
+}
+
+/// Each operation of a set leaves each account an available balance of at least 0, or of what it had, by the base
+/// reserve of the ledger before.
+pub fn operations_keep_reserves()
+    ensures { OperationsKeepReserves }
 {
     legal_settles();
     transaction_laws();

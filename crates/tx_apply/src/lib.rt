@@ -25,7 +25,8 @@ mod transaction;
 pub use contexts::ctx_of;
 pub use fault::SetFault;
 pub use laws::{
-    fees_conserve, operations_are_lawful, sets_conserve, transactions_conserve, turns_conserve,
+    each_conserves, fees_conserve, operations_are_lawful, operations_keep_reserves, sets_conserve,
+    transactions_conserve, turns_conserve,
 };
 pub use op_laws;
 pub use set::{SetDone, apply_set, apply_set_in_order};

@@ -11,6 +11,7 @@ ghost use Rattle.op_laws.specs.legal_rules.Legal.{IsLegal};
 ghost use Rattle.op_form.specs.Sequences.{last_seq};
 ghost use Rattle.op_laws.specs.Underway.{IsSettled};
 ghost use Rattle.tx_apply.specs.Laws as laws;
+ghost use Rattle.tx_apply.specs.EachTransaction.{AreEachConserved};
 ghost use Rattle.tx_apply.specs.Indices.{envelopes_at};
 ghost use Rattle.tx_apply.specs.Set as spec;
 
@@ -164,6 +165,8 @@ pub fn apply_set_in_order<B: Base>(
         result }
     ensures conserved { OnOk result (
         laws.IsConserved (spec.setting_of setting.now) set.now entries.old.current) }
+    ensures each { OnOk result (
+        AreEachConserved (spec.setting_of setting.now) set.now entries.old.current) }
     ensures lawful { OnOk result (
         laws.AreLawful (spec.set_done (spec.setting_of setting.now) set.now
         entries.old.current).steps) }
@@ -201,6 +204,13 @@ pub fn apply_set<B: Base>(
     }) set.now entries.old entries.new result }
     ensures conserved { OnOk result (
         laws.IsConserved (record {
+          network = network.now;
+          header = header.now;
+          close_time = close_time;
+          vouches = vouches.now;
+        }) set.now entries.old.current) }
+    ensures each { OnOk result (
+        AreEachConserved (record {
           network = network.now;
           header = header.now;
           close_time = close_time;

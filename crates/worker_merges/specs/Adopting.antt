@@ -15,7 +15,7 @@ IsHandedIn out old new =
 -- merges of some workers are handed in, one after another
 abbrev pub AreHandedIn : List Sent → (old new : LedgerAt) → Type 0
 AreHandedIn [] old new = new ≡ old
-AreHandedIn (sent ∷ more) old new = (mid : LedgerAt) × IsHandedIn sent.out old mid × AreHandedIn more mid new
+AreHandedIn (sent ∷ more) old new = (mid : LedgerAt) × IsHandedIn sent.out.job old mid × AreHandedIn more mid new
 
 -- all by which the list of what was collected has grown
 pub record Adopts (before after : List Sent) (old new : LedgerAt) : Type 0 where

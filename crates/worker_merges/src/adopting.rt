@@ -29,7 +29,7 @@ pub fn adopt<R: Wait>(rt: &R, ledger: &mut Ledger, room: &Room, collector: &mut 
 {
     for _ in rt.forever() {
         match collector.take(rt, room) {
-            Some(out) => hand_in(ledger, out),
+            Some(posted) => hand_in(ledger, posted.into_out()),
             None => return,
         }
     }

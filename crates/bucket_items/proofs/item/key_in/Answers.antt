@@ -1,4 +1,4 @@
-use Rattle.bucket_items.proofs.Prelude.{◌≡◌, ◌∙◌}
+use Rattle.bucket_items.proofs.Prelude.{◌∙◌}
 use Rattle.bucket_items.proofs.Holding.{live_key, init_key, dead_key}
 use Rattle.bucket_items.proofs.item.key_in.Goals as goal
 

@@ -1,15 +1,50 @@
-use Rattle.entry_map.proofs.Prelude.{sym, subst, Some, option_copied, contains_key, is_changed, is_known, IsLeastKey}
-use Rattle.entry_map.proofs.KnownKeys.{next_of_three}
+use Rattle.entry_map.proofs.Prelude.{◌||◌, sym, ap, subst, ◌∙◌, Some, IfOk-weaker, option_copied}
+use Rattle.entry_map.proofs.Prelude.{contains_key, key_cmp, keys_compared, is_changed, IsNextAfter, IsNextKey}
+use Rattle.std.proofs.Common.{option_map}
+use Rattle.entry_map.specs.declared.walk.Known.TheVariants.{Changed}
+use Rattle.entry_map.proofs.KnownKeys.{none_kept, none_changed, kept_first, changed_first, next_is}
 use Rattle.entry_map.proofs.walk.next_known.Goals as goal
 
-pub returns : goal.returns
-returns g c =
-    subst (IsLeastKey (is_known (g.B.Base.entries c.args.base.now) c.args.lower.now c.args.top.now) c.args.key.now)
-    (sym c.in_ok-copy-in-Some.ensures)
-    (next_of_three (contains_key (g.B.Base.entries c.args.base.now)) (contains_key c.args.top.now)
-    (is_changed c.args.lower.now) c.args.key.now
-    c.in_ok-in_base.in_base (option_copied c.next_after.result) (option_copied c.next_changed.result)
-    (option_copied c.as_ref.result)
-    (option_copied c.lesser-in_layers.result) (Some c.in-Some.least.now)
-    c.in_ok-in_base.ensures c.next_after.ensures c.next_changed.ensures c.lesser-in_layers.ensures
-    c.as_ref.ensures.value c.in-Some.ensures)
+pub returns-in_default : goal.returns-in_default
+returns-in_default g c =
+    let m = g.B.Base.entries c.args.base.now in
+    let layers = c.next_in_layers-in_layers in
+    IfOk-weaker c.changed.result _ _ (λ known is. next_is m c.args.lower.now c.args.top.now c.args.key.now
+    (option_map Changed (option_copied layers.result)) known (sym is)
+    (none_kept m c.args.lower.now c.args.top.now c.args.key.now (option_copied layers.result)
+    (subst (IsNextAfter m c.args.key.now) c.in_default.is c.in_ok-entry.ensures.next) layers.ensures))
+    c.changed.ensures
+
+pub returns-in_default-in_layers : goal.returns-in_default-in_layers
+returns-in_default-in_layers g c =
+    let m = g.B.Base.entries c.args.base.now in
+    none_changed m c.args.lower.now c.args.top.now c.args.key.now c.in-Some.entry
+    (subst (IsNextAfter m c.args.key.now) c.in-Some.is c.in_ok-entry.ensures.next)
+    (subst (IsNextKey (λ q. contains_key c.args.top.now q || is_changed c.args.lower.now q) c.args.key.now)
+    (ap option_copied c.in_default-in_layers.is) c.next_in_layers-in_layers.ensures)
+
+pub returns-in-Less : goal.returns-in-Less
+returns-in-Less g c =
+    let m = g.B.Base.entries c.args.base.now in
+    let least = c.in-Some-in_layers.least.now in
+    kept_first m c.args.lower.now c.args.top.now c.args.key.now c.in-Some.entry least
+    (subst (IsNextAfter m c.args.key.now) c.in-Some.is c.in_ok-entry.ensures.next)
+    (subst (IsNextKey (λ q. contains_key c.args.top.now q || is_changed c.args.lower.now q) c.args.key.now)
+    (ap option_copied c.in-Some-in_layers.is) c.next_in_layers-in_layers.ensures)
+    (ap (λ k. key_cmp k least) (sym c.in_ok-key.ensures) ∙ sym (keys_compared c.in_ok-key.field-0 least)
+    ∙ sym c.cmp.ensures ∙ c.in-Less.is)
+
+pub returns-in_default-cmp : goal.returns-in_default-cmp
+returns-in_default-cmp g c =
+    let m = g.B.Base.entries c.args.base.now in
+    let least = c.in-Some-in_layers.least.now in
+    let layers = subst (IsNextKey (λ q. contains_key c.args.top.now q || is_changed c.args.lower.now q) c.args.key.now)
+    (ap option_copied c.in-Some-in_layers.is) c.next_in_layers-in_layers.ensures in
+    IfOk-weaker c.changed-in_default-cmp.result _ _ (λ known is. next_is m c.args.lower.now c.args.top.now
+    c.args.key.now (Some (Changed least)) known
+    (sym (is ∙ ap (λ o. option_map Changed (option_copied o)) c.in-Some-in_layers.is))
+    (changed_first m c.args.lower.now c.args.top.now c.args.key.now c.in-Some.entry least
+    (subst (IsNextAfter m c.args.key.now) c.in-Some.is c.in_ok-entry.ensures.next) layers
+    (λ less. c.in_default-cmp.not-Less (c.cmp.ensures ∙ keys_compared c.in_ok-key.field-0 least
+    ∙ ap (λ k. key_cmp k least) c.in_ok-key.ensures ∙ less))))
+    c.changed-in_default-cmp.ensures

@@ -6,9 +6,9 @@ returns-then-dated c = (
   λ said. record {
     entries = c.in_ok-within.ensures.0 c.if-dated.true.0;
     dated = c.are_dated-dated.ensures.0 c.if-dated.true.1;
-    authorized = c.in_ok-authorized.ensures.0 said;
+    authorized = c.are_all_authorized-authorized.ensures.0 said;
   },
-  λ range. c.in_ok-authorized.ensures.1 range.authorized,
+  λ range. c.are_all_authorized-authorized.ensures.1 range.authorized,
 )
 
 pub returns-else-dated : goal.returns-else-dated

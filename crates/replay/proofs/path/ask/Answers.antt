@@ -1,4 +1,5 @@
 use Rattle.replay.proofs.Prelude.{refl, subst, inl, inr, Image, OpensTo}
+use Rattle.replay.proofs.Surviving.{reads_survive}
 use Rattle.replay.proofs.path.ask.Goals as goal
 
 pub returns-in-Ok : goal.returns-in-Ok
@@ -6,6 +7,7 @@ returns-in-Ok g c =
     let s = c.in-Ok.opened.ledger.state in
     record {
       runs = c.open.ensures.runs;
+      survives = λ te. reads_survive _ _ c.open.ensures.runs (g.met.V.Volume.reads_now c.open.new.vol te);
       reported = λ te.
           let opens = c.in-Ok.ensures.opens te in
           inl (
@@ -18,6 +20,7 @@ returns-in-Ok g c =
 pub returns-in-Err : goal.returns-in-Err
 returns-in-Err g c = record {
   runs = c.open.ensures.runs;
+  survives = λ te. reads_survive _ _ c.open.ensures.runs (g.met.V.Volume.reads_now c.open.new.vol te);
   reported = λ te. inr ((refl, refl), (refl, refl), c.in-Err.ensures.opens te);
   any = inr ((refl, refl), (refl, refl), c.in-Err.ensures.cause);
 }

@@ -2,6 +2,7 @@ use Rattle.replay.proofs.Prelude.{ℕ, length, refl, subst, inl, inr, Seen, seen
 use Rattle.replay.proofs.Prelude.{Wrote}
 use Rattle.std.specs.FinMap.{entries}
 use Rattle.stored_outcome.specs.run_outcome.declared.status.Status.TheVariants as status
+use Rattle.replay.proofs.Surviving.{reads_survive}
 use Rattle.replay.proofs.show.show.Goals as goal
 
 pub returns-in-Ok : goal.returns-in-Ok
@@ -12,6 +13,7 @@ returns-in-Ok g c =
     let end = c.show_opened.result in
     record {
       runs = c.open.ensures.runs;
+      survives = λ te. reads_survive _ _ c.open.ensures.runs (g.met.V.Volume.reads_now c.open.new.vol te);
       reported = λ te.
           let opens = c.in-Ok.ensures.opens te in
           let stored = opens.0.ready.kept in
@@ -34,6 +36,7 @@ returns-in-Ok g c =
 pub returns-in-Err : goal.returns-in-Err
 returns-in-Err g c = record {
   runs = c.open.ensures.runs;
+  survives = λ te. reads_survive _ _ c.open.ensures.runs (g.met.V.Volume.reads_now c.open.new.vol te);
   reported = λ te. inr ((refl, refl), c.in-Err.ensures.opens te);
   any = inr ((refl, refl), c.in-Err.ensures.cause);
 }

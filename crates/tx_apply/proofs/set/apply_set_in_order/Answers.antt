@@ -2,6 +2,7 @@ use Rattle.tx_apply.proofs.Prelude.{ℕ, ◌*◌, List, All, length, sym, subst,
 use Rattle.tx_apply.proofs.Prelude.{envelopes_within, CanDraw, setting_of}
 use Rattle.tx_apply.proofs.Drawing.{ids_of_set}
 use Rattle.tx_apply.proofs.Conserving.{set_conserved, set_lawful}
+use Rattle.tx_apply.proofs.EachConserved.{each_conserved}
 use Rattle.fee_rules.proofs.Ordered.{indices_exist}
 use Rattle.tx_apply.proofs.set.apply_set_in_order.Goals as goal
 
@@ -32,6 +33,12 @@ apply_in_order-requires-clause-ids g c =
 pub returns-clause-conserved : goal.returns-clause-conserved
 returns-clause-conserved g c =
     set_conserved c.transaction_laws.ensures c.legal_settles.ensures
+    (setting_of c.args.setting.now) c.args.set.now c.args.entries.now.current
+    (record { legal = c.requires.legal; seq = c.requires.seq; fit = search rules })
+
+pub returns-clause-each : goal.returns-clause-each
+returns-clause-each g c =
+    each_conserved c.transaction_laws.ensures c.legal_settles.ensures
     (setting_of c.args.setting.now) c.args.set.now c.args.entries.now.current
     (record { legal = c.requires.legal; seq = c.requires.seq; fit = search rules })
 

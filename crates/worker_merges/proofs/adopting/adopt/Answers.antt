@@ -1,4 +1,4 @@
-use Rattle.worker_merges.proofs.Prelude.{◌∙◌}
+use Rattle.worker_merges.proofs.Prelude.{◌∙◌, subst, Job, IsHandedIn}
 use Rattle.worker_merges.proofs.Handing.{one_more}
 use Rattle.worker_merges.proofs.adopting.adopt.Goals as goal
 
@@ -9,6 +9,7 @@ loop-preserved g c =
       parts = c.take.ensures.parts ∙ c.loop.invariant.parts;
       looks = c.in-Some-take.ensures.kept ∙ c.loop.invariant.looks;
       state = c.hand_in.ensures.state ∙ c.loop.invariant.state;
-      adopts = one_more _ _ _ c.in-Some-take.out _ _ _ c.loop.invariant.adopts c.in-Some-take.ensures.out
-          c.hand_in.ensures.handed_in;
+      adopts = one_more _ _ _ c.in-Some-take.posted _ _ _ c.loop.invariant.adopts c.in-Some-take.ensures.out
+          (subst (λ (out : Job). IsHandedIn out c.loop.ledger c.hand_in.new.ledger) c.into_out.ensures
+          c.hand_in.ensures.handed_in);
     }

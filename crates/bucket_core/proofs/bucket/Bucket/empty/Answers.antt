@@ -6,4 +6,5 @@ pub bucket_of-requires : goal.bucket_of-requires
 bucket_of-requires c = subst IsFile (sym c.new.ensures.items) no_bytes_are_file
 
 pub returns : goal.returns
-returns c = c.in_ok-bucket.ensures ∙ c.bucket_of.ensures ∙ ap contents_of c.new.ensures.items ∙ nothing_in_no_bytes
+returns c = c.in_ok-bucket.ensures ∙ c.in_ok-bucket_of.ensures ∙ ap contents_of c.new.ensures.items
+    ∙ nothing_in_no_bytes

@@ -1,11 +1,12 @@
-use Rattle.bucket_core.proofs.Prelude.{◌≡◌, ap, ◌∙◌, option_map, IfOk-weaker, change_at, item_of, item_under}
-use Rattle.bucket_core.proofs.Walking.{item_of_change}
+use Rattle.bucket_core.proofs.Prelude.{ap, ◌∙◌, option_map, change_at, item_of, Contents, ledger_key}
+use Rattle.std.proofs.Common.{rules}
+use Rattle.bucket_core.specs.Encoded.{IsEncoded}
+use Rattle.bucket_core.proofs.Unencoded.{nothing_said}
 use Rattle.bucket_core.proofs.bucket.Bucket.find.Goals as goal
 
-pub returns : goal.returns
-returns c =
+pub returns-in-None : goal.returns-in-None
+returns-in-None c =
     let key = c.args.key.now in
-    IfOk-weaker c.find_ahead.result (λ found. found ≡ item_under key c.cursor.result)
-    (λ found. found ≡ option_map (λ change. item_of (key, change)) (change_at c.args.self.now key))
-    (λ found is. is ∙ ap (item_under key) c.cursor.ensures.items
-    ∙ item_of_change key c.args.self.now c.cursor.ensures.file.keyed) c.find_ahead.ensures
+    let none : IsEncoded ledger_key key → ⊥ = search (rules, c.in_ok-text.ensures, c.in-None.is) in
+    nothing_said _ key c.self.invariant.stated.file.has none
+    ∙ ap (λ (contents : Contents). option_map (λ change. item_of (key, change)) (change_at contents key)) c.self.view_is

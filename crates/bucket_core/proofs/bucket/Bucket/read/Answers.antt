@@ -1,4 +1,4 @@
-use Rattle.bucket_core.proofs.Prelude.{◌≡◌, ℕ, ap, sym, subst, ◌∙◌, file_of, IsFile}
+use Rattle.bucket_core.proofs.Prelude.{ap, sym, subst, ◌∙◌, file_of, IsFile}
 use Rattle.bucket_core.proofs.Files.{no_fault_is_file}
 use Rattle.bucket_core.proofs.bucket.Bucket.read.Goals as goal
 
@@ -11,4 +11,4 @@ pub returns-clause-file : goal.returns-clause-file
 returns-clause-file c =
     let is = subst IsFile c.as_slice.ensures.value
     (no_fault_is_file c.as_slice.result.now c.in_ok-judge.ensures.bytes c.in_ok-judge.ensures.fault) in
-    ap file_of (c.in_ok-bucket.ensures ∙ c.bucket_of.ensures) ∙ sym is.is
+    ap file_of (c.in_ok-bucket.ensures ∙ c.in_ok-bucket_of.ensures) ∙ sym is.is

@@ -1,14 +1,14 @@
-use Rattle.entry_map.proofs.Prelude.{empty}
-use Rattle.entry_map.proofs.Building.{more_offers, all_offers_in, no_offers_in}
+use Rattle.entry_map.proofs.Prelude.{◌∙◌}
+use Rattle.entry_map.proofs.PositionMaps.{rising_built, index_built}
 use Rattle.entry_map.proofs.index.OfferIndex.from_offers.Goals as goal
 
-pub loop-offer-init : goal.loop-offer-init
-loop-offer-init c = no_offers_in empty c.empty-index.result c.empty-index.ensures
-
-pub loop-offer-preserved : goal.loop-offer-preserved
-loop-offer-preserved c = more_offers c.args.offers.now c.loop-offer.offer-index _ empty c.loop-offer.index
-    c.in_ok-index.index c.loop-offer-test.true c.in_ok-index.ensures.value c.loop-offer.invariant
+pub invariant_of-result : goal.invariant_of-result
+invariant_of-result c =
+    rising_built c.in_ok-positioned.field-0.items c.in_ok-of_row.field-0 c.in_ok-tree.tree c.in_ok-tree.ensures
+    (c.in_ok-of_row.ensures ∙ c.as_slice.ensures.value ∙ c.in_ok-row.ensures)
 
 pub returns : goal.returns
-returns c = all_offers_in c.args.offers.now c.loop-offer.offer-index empty c.loop-offer.index c.loop-offer-test.false
-    c.loop-offer.invariant
+returns c =
+    index_built c.args.offers.now c.in_ok-positioned.field-0.items c.in_ok-of_row.field-0 c.in_ok-tree.tree
+    c.in_ok-positioned.ensures c.in_ok-tree.ensures
+    (c.in_ok-of_row.ensures ∙ c.as_slice.ensures.value ∙ c.in_ok-row.ensures)

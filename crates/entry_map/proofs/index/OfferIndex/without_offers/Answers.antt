@@ -6,7 +6,7 @@ loop-offer-init c = none_gone c.args.self.now c.in_ok-index.index c.in_ok-index.
 
 pub loop-offer-preserved : goal.loop-offer-preserved
 loop-offer-preserved c = less_offers c.args.offers.now c.loop-offer.offer-index _ c.args.self.now c.loop-offer.index
-    c.in_ok-index-2.index c.loop-offer-test.true c.in_ok-index-2.ensures c.loop-offer.invariant
+    c.in_ok-index-2.index c.loop-offer-test.true c.in_ok-index-2.ensures.value c.loop-offer.invariant
 
 pub returns : goal.returns
 returns c = all_offers_gone c.args.offers.now c.loop-offer.offer-index c.args.self.now c.loop-offer.index

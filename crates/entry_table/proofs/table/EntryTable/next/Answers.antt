@@ -1,5 +1,5 @@
 use Rattle.entry_table.proofs.Prelude.{refl, sym, subst, ap, ◌∙◌, map, key_of, Batch, AreRising, map_of, IsTableRow}
-use Rattle.entry_table.proofs.Batches.{stamped_keys, next_row_is, next_entries, exact_batch}
+use Rattle.entry_table.proofs.Batches.{stamped_keys, next_row_is, next_entries, exact_batch, row_becomes}
 use Rattle.entry_table.proofs.Stamped.{next_index}
 use Rattle.entry_table.proofs.Tables.{keyed_row}
 use Rattle.entry_table.proofs.table.EntryTable.next.Goals as goal
@@ -28,9 +28,11 @@ invariant_of-result c =
     record {
       rows = is_row;
       index = next_index c.args.seq c.args.self.now c.requires.0 (map_of tree) c.args.offers c.requires.1
-          (next_entries c.args.seq c.self.inside.tree tree c.args.self.now c.requires.0 (map_of tree)
-          c.args.batch.now new c.self.invariant.rows.rises c.self.view_is c.requires.1.keyed c.requires.2
-          c.stamp_list.ensures c.stamp_list-2.ensures refl c.in_ok-tree.ensures refl)
+          (next_entries c.args.seq c.args.self.now c.requires.0 (map_of tree) c.args.batch.now new
+          c.requires.1.keyed c.requires.2 c.stamp_list.ensures c.stamp_list-2.ensures refl
+          (row_becomes c.args.seq c.self.inside.tree tree c.args.self.now (map_of tree) c.args.batch.now new
+          c.self.invariant.rows.rises c.self.view_is c.stamp_list.ensures c.stamp_list-2.ensures refl
+          c.in_ok-tree.ensures refl))
           (keyed_row tree (map_of tree) is_row refl);
     }
 
@@ -41,13 +43,14 @@ returns-clause-next c worked keyed b =
       init = c.stamp_list.new.entries;
       live = c.stamp_list-2.new.entries;
       dead = c.args.batch.now.dead;
-    } in (
-      next_entries c.args.seq c.self.inside.tree c.in_ok-tree.tree c.args.self.now worked after
-          c.args.batch.now new c.self.invariant.rows.rises c.self.view_is keyed b c.stamp_list.ensures
-          c.stamp_list-2.ensures refl c.in_ok-tree.ensures refl,
-      exact_batch c.args.seq c.self.inside.tree c.in_ok-tree.tree c.args.self.now worked after
-          c.args.batch.now new c.self.invariant.rows.rises c.self.view_is keyed b c.stamp_list.ensures
-          c.stamp_list-2.ensures refl c.in_ok-tree.ensures refl,
+    } in
+    let becomes = row_becomes c.args.seq c.self.inside.tree c.in_ok-tree.tree c.args.self.now after
+    c.args.batch.now new c.self.invariant.rows.rises c.self.view_is c.stamp_list.ensures c.stamp_list-2.ensures refl
+    c.in_ok-tree.ensures refl in (
+      next_entries c.args.seq c.args.self.now worked after c.args.batch.now new keyed b c.stamp_list.ensures
+          c.stamp_list-2.ensures refl becomes,
+      exact_batch c.args.seq c.args.self.now worked after c.args.batch.now new keyed b c.stamp_list.ensures
+          c.stamp_list-2.ensures refl becomes,
     )
 
 pub returns-clause-keyed : goal.returns-clause-keyed

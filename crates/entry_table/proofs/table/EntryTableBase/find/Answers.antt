@@ -1,15 +1,5 @@
-use Rattle.entry_table.proofs.Prelude.{ap, ◌∙◌, IfOk-weaker, find, derived_is}
-use Rattle.entry_table.proofs.Tables.{get_in, keyed_row}
-use Rattle.entry_table.proofs.Walks.{derived_sorted}
+use Rattle.entry_table.proofs.Prelude.{◌∙◌, IfOk-weaker}
 use Rattle.entry_table.proofs.table.EntryTableBase.find.Goals as goal
 
-pub find-requires : goal.find-requires
-find-requires c = derived_sorted c.self.inside.tree c.self.invariant.rows.rises
-
 pub returns-clause-found : goal.returns-clause-found
-returns-clause-found c = IfOk-weaker c.copied.result _ _ (λ entry is. is ∙ c.find.ensures
-    ∙ ap (λ R. find R c.args.key.now c.self.inside.tree) derived_is
-    ∙ get_in c.self.inside.tree c.args.self.now c.args.key.now c.self.invariant.rows c.self.view_is) c.copied.ensures
-
-pub returns-clause-keyed : goal.returns-clause-keyed
-returns-clause-keyed c = keyed_row c.self.inside.tree c.args.self.now c.self.invariant.rows c.self.view_is
+returns-clause-found c = IfOk-weaker c.copied.result _ _ (λ entry is. is ∙ c.get.ensures.found) c.copied.ensures

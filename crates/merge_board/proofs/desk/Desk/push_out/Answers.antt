@@ -1,4 +1,5 @@
-use Rattle.merge_board.proofs.Prelude.{◌++◌, ◌∷◌, [], List, ap, sym, subst, ◌∙◌, arith, view, Job, AreDealt, Sent, Log}
+use Rattle.merge_board.proofs.Prelude.{◌++◌, ◌∷◌, [], List, ap, sym, subst, ◌∙◌, arith, view, AreDealt, PostedJob}
+use Rattle.merge_board.proofs.Prelude.{Sent, Log}
 use Rattle.merge_board.proofs.OutSteps.{pushes}
 use Rattle.merge_board.proofs.Working.{pushed_one, left_one}
 use Rattle.merge_board.proofs.desk.Desk.push_out.Goals as goal
@@ -16,7 +17,7 @@ returns-in-Ok-clause-dealt g c =
     let hand = c.requires.in_hand in
     let taken = (view desk.seats.jobs).taken in
     let given_up = desk.seats.given_up in
-    subst (λ (xs : List Job). AreDealt taken xs desk.left.items given_up)
+    subst (λ (xs : List PostedJob). AreDealt taken xs desk.left.items given_up)
     (sym (ap (λ (v : Log). v.pushed) c.in-Ok.ensures.pushed))
     (pushed_one c.args.out taken (view desk.seats.outs).pushed desk.left.items given_up hand.dealt hand.taken
     hand.above_pushed hand.above_left hand.above_given_up)
@@ -30,7 +31,7 @@ returns-in-Err-clause-dealt g c =
     let given_up = desk.seats.given_up in
     let more = c.push_reserved.ensures.items
     ∙ ap (λ (s : Sent). desk.left.items ++ s.out ∷ []) c.in-Err.ensures.back in
-    subst (λ (x : List Job × List Job). AreDealt taken x.0 x.1 given_up)
+    subst (λ (x : List PostedJob × List PostedJob). AreDealt taken x.0 x.1 given_up)
     (λ i. (sym (ap (λ (v : Log). v.pushed) c.in-Err.ensures.kept) i, sym more i))
     (left_one c.args.out taken pushed desk.left.items given_up hand.dealt hand.taken hand.above_pushed
     hand.above_left hand.above_given_up)

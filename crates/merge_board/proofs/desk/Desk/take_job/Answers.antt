@@ -1,5 +1,5 @@
-use Rattle.merge_board.proofs.Prelude.{◌∷◌, [], List, length, length-append, ap, sym, subst, arith, view, Has, Job}
-use Rattle.merge_board.proofs.Prelude.{AreDealt, Hand}
+use Rattle.merge_board.proofs.Prelude.{◌∷◌, [], List, length, length-append, ap, sym, subst, arith, view, Has}
+use Rattle.merge_board.proofs.Prelude.{AreDealt, Hand, PostedJob}
 use Rattle.merge_board.proofs.Lists.{has_last}
 use Rattle.merge_board.proofs.Working.{hand_grown, below_all, took}
 use Rattle.merge_board.proofs.desk.Desk.take_job.Goals as goal
@@ -36,9 +36,9 @@ returns-clause-in_hand g c =
     let left = desk.left.items in
     let given_up = desk.seats.given_up in
     let more = sym (ap (λ (v : Hand). v.taken) c.in_ok-job.ensures.job.0) in record {
-      dealt = subst (λ (xs : List Job). AreDealt xs pushed left given_up) more
+      dealt = subst (λ (xs : List PostedJob). AreDealt xs pushed left given_up) more
           (took job old pushed left given_up dealt above);
-      taken = subst (λ (xs : List Job). Has xs job) more (has_last old job);
+      taken = subst (λ (xs : List PostedJob). Has xs job) more (has_last old job);
       above_pushed = below_all job.number old pushed above dealt.pushed_taken;
       above_left = below_all job.number old left above dealt.left_taken;
       above_given_up = below_all job.number old given_up above dealt.given_up_taken;

@@ -1,0 +1,6 @@
+pub mod Lookups
+pub mod Leasts
+pub mod Afters
+pub mod Counting
+pub mod Unencoded
+pub mod Represented

@@ -1,0 +1,4 @@
+pub mod Newest
+pub mod Next
+pub mod Above
+pub mod Represented

@@ -1,0 +1,3 @@
+pub mod WatchProgram
+pub mod Watching
+pub mod WatchLaws

@@ -1,7 +1,7 @@
 -- What the levels represent: of each key, what the newest file says that says something of it.
 use Rattle.std.specs.Prelude.{◌≡◌, List, [], ◌∷◌, Option, Some, None}
 use Rattle.std.specs.List.{flat_map}
-use Rattle.std.specs.FinMap.{get}
+use Rattle.std.specs.FinMap.{empty, entries, get, insert, remove}
 use Rattle.ledger_types.specs.declared.entry.LedgerEntry.{LedgerEntry}
 use Rattle.ledger_types.specs.declared.key.LedgerKey.{LedgerKey}
 use Rattle.entry_map.specs.EntryMap.{EntryMap}
@@ -37,6 +37,25 @@ entry_by (newest ∷ older) = entry_after newest
 -- the entry under each key is that of the newest change
 abbrev pub Represent : List Pair → EntryMap → Type 0
 Represent pairs m = (k : LedgerKey) → get m k ≡ entry_by (changes_of (files_of pairs) k)
+
+-- the map that files represent, made of it: the entries of the older files, with what the newest says of its keys
+
+abbrev pub changed : EntryMap → LedgerKey × Change → EntryMap
+changed m (k, Init entry) = insert m k entry
+changed m (k, Live entry) = insert m k entry
+changed m (k, Dead) = remove m k
+
+abbrev pub all_changed : EntryMap → List (LedgerKey × Change) → EntryMap
+all_changed m [] = m
+all_changed m (x ∷ xs) = changed (all_changed m xs) x
+
+unfoldable pub entries_in : List Contents → EntryMap
+entries_in [] = empty
+entries_in (None ∷ older) = entries_in older
+entries_in (Some filled ∷ older) = all_changed (entries_in older) (entries filled.changes)
+
+abbrev pub entries_of : List Pair → EntryMap
+entries_of pairs = entries_in (files_of pairs)
 
 -- ---- what may follow what
 

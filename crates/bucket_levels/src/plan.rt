@@ -1,6 +1,6 @@
 //! The step that a close makes, before the levels take it.
 
-ghost use Rattle.std.specs.Prelude.{◌≡◌, ◌≤◌, ◌+◌, length, IfOk};
+ghost use Rattle.std.specs.Prelude.{◌≡◌, ◌≤◌, ◌+◌, length, map, IfOk};
 ghost use Rattle.bucket_core.specs.Bucket.{Contents};
 ghost use Rattle.bucket_core.specs.File.{count_of};
 ghost use Rattle.bucket_merge.specs.Merge.{IsMerge};
@@ -50,6 +50,13 @@ impl Model for LevelStep {
 }
 
 impl LevelStep {
+    /// The files of each level after the step, from the first level on.
+    pub fn pairs(&self) -> &[LevelPair]
+        ensures { map pair_of result.now ≡ self.now.pairs }
+    {
+        self.pairs.as_slice()
+    }
+
     /// The hash of the levels after the step, as `Levels::hash` answers it then.
     pub fn hash(&self) -> Hash
         ensures { result ≡ list_hash self.now.pairs }

@@ -1,11 +1,12 @@
 -- An image is judged to be one thing.
 use Rattle.close_laws.proofs.Prelude.{◌≡◌, ℕ, List, [], ◌∷◌, Option, Some, None, Result, Ok, Err, refl, sym, ap, subst}
-use Rattle.close_laws.proofs.Prelude.{◌∙◌, inl, inr, ◌⊎◌, flat_map, same_map, All-head, All-tail, keys_total}
-use Rattle.close_laws.proofs.Prelude.{keys_exact, Hash, LedgerHeader, StartImage, EntryMap, Contents, file_of, HasFile}
+use Rattle.close_laws.proofs.Prelude.{◌∙◌, inl, inr, ◌⊎◌, flat_map, All-head, All-tail}
+use Rattle.close_laws.proofs.Prelude.{Hash, LedgerHeader, StartImage, EntryMap, Contents, file_of, HasFile}
 use Rattle.close_laws.proofs.Prelude.{Pair, list_hash, ClosingState, entry_rules, IsFirstBroken, header_in, HasHeader}
 use Rattle.close_laws.proofs.Prelude.{HasFiles, HasLevels, HasEntries, state_of, IsJudged, BreaksEntries}
 use Rattle.close_laws.proofs.Prelude.{AreFieldsInRange, ImagesAreOne}
 use Rattle.std.specs.Prelude.{All}
+use Rattle.bucket_levels.proofs.Represented.{one_map}
 use Rattle.bucket_levels.proofs.bucket_core_proofs.Files.{files_distinguish}
 use Rattle.bucket_levels.specs.Meaning.{Represent, AreWellMarked}
 use Rattle.close_rules.specs.legal_rules.Headers.{IsSupported}
@@ -59,7 +60,7 @@ same_levels : (image : StartImage) (a b : List Pair) → HasFiles image a → Ha
 same_levels image a b h i = same_pairs a b h.files.have i.files.have (sym h.files.are ∙ i.files.are)
 
 same_entries : (levels : List Pair) (m n : EntryMap) → Represent levels m → Represent levels n → m ≡ n
-same_entries levels m n h i = same_map keys_total keys_exact m n (λ k. h k ∙ sym (i k))
+same_entries levels m n h i = sym (one_map levels m h) ∙ one_map levels n i
 
 -- ---- rules of entries
 

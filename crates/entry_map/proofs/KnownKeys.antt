@@ -297,6 +297,7 @@ module _ (m : EntryMap) (ls : List LayerMap) (top : LayerMap) where
   none_changed k e base next = (
     next_either (contains_key m) changed k (Some (key_of e)) None (base_next m k e base) next,
     unchanged m ls top (key_of e) (next (key_of e) base.above) ∙ base.there,
+    next (key_of e) base.above,
   )
 
   lesser_known : (k : LedgerKey) (e : LedgerEntry) (x : LedgerKey) (b : Bool) → IsLeastAbove m k e
@@ -317,6 +318,7 @@ module _ (m : EntryMap) (ls : List LayerMap) (top : LayerMap) where
       ] refl in (
         lesser_known k e x false base next (ap is_lt after),
         unchanged m ls top (key_of e) same ∙ base.there,
+        same,
       )
 
   pub changed_first : (k : LedgerKey) (e : LedgerEntry) (x : LedgerKey) → IsLeastAbove m k e
@@ -330,6 +332,22 @@ module _ (m : EntryMap) (ls : List LayerMap) (top : LayerMap) where
         | Greater ↦ λ after. lesser_known k e x true base next
             (ap is_lt (keys_total.antisymm x (key_of e) ∙ ap ordering_reverse after))
       ] refl
+
+  -- what the layers change next is next after an entry of the base that comes before it
+  pub still_ahead : (k : LedgerKey) (e : LedgerEntry) (o : Option LedgerKey) → IsNextKnown m ls top k (Some (Kept e))
+      → IsNextKey changed k o → IsNextKey changed (key_of e) o
+  still_ahead k e None known next = λ q above. next q (keys_total.trans k (key_of e) q known.0.above above)
+  still_ahead k e (Some x) known next = record {
+    there = next.there;
+    above = elim (key_cmp (key_of e) x) as (λ r. key_cmp (key_of e) x ≡ r → key_cmp (key_of e) x ≡ Less) [
+      | Less ↦ λ less. less
+      | Equal ↦ λ tied. cannot_be (changed (key_of e)) known.2
+          (ap changed (keys_exact (key_of e) x tied) ∙ next.there)
+      | Greater ↦ λ after. absurd
+          (known.0.least_of x next.above (or_right (contains_key m x) (changed x) next.there) after)
+    ] refl;
+    least_of = λ q above passes. next.least_of q (keys_total.trans k (key_of e) q known.0.above above) passes;
+  }
 
 pub next_is : (m : EntryMap) (ls : List LayerMap) (top : LayerMap) (k : LedgerKey) (o p : Option Known) → o ≡ p
     → IsNextKnown m ls top k o → IsNextKnown m ls top k p

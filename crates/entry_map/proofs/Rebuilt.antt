@@ -8,6 +8,9 @@ use Rattle.entry_map.proofs.KeyMaps.{or_none}
 use Rattle.entry_map.proofs.PositionMaps.{terms_in, some_terms, get-index_of, get-without_offers, with_more}
 use Rattle.entry_map.proofs.PositionMaps.{same_positions}
 use Rattle.entry_map.proofs.Positions.{same_position}
+use Rattle.entry_map.proofs.Aggregates.{terms_exist}
+use Rattle.entry_map.specs.Book.{offers_of}
+use Rattle.entry_map.specs.Indexes.{IndexesAreOfOffers}
 
 -- what a filter leaves of a position, where it treats all offers there alike
 module _ (p : BookPosition) (q : OfferEntry → Bool) (b : Bool)
@@ -83,3 +86,9 @@ pub stays_right : IndexStaysRight
 stays_right offers [] last replaced made = made
 stays_right offers (step ∷ steps) last replaced made = stays_right (offers_after offers step.1) steps last replaced.1
     (subst (λ index. AreChangedTo index steps last) (made.1.0 offers refl replaced.0) made.1.1)
+
+-- the index of a map is that of its offers
+pub indexes_of_offers : IndexesAreOfOffers
+indexes_of_offers m index h =
+    same_positions index (index_of (offers_of m))
+    (λ p. h.each p ∙ sym (terms_exist m p h.keyed) ∙ sym (get-index_of (offers_of m) p))

@@ -20,7 +20,7 @@ use Rattle.entry_map.specs.contracts.position.OfferTerms as terms
 use Rattle.entry_map.specs.Order.{order}
 use Rattle.entry_map.specs.EntryMap.{EntryMap, IsKeyed}
 use Rattle.entry_map.specs.Undo.{Undo}
-use Rattle.entry_map.specs.Book.{offer_of, offers_in}
+use Rattle.entry_map.specs.Book.{offer_of, offers_in, offers_of}
 use Rattle.entry_map.specs.Positions.{IsNarrow, position_of, terms_of, key_at}
 
 -- offers by their positions: under each position what of its offer it doesn't determine
@@ -82,6 +82,10 @@ pub record IsIndexOf (m : EntryMap) (index : PositionMap) : Type 0 where
   pub keyed : IsKeyed m
   pub each : (p : BookPosition) → get index p ≡ existing m p
   pub narrow : (k : LedgerKey) → IfSome (offer_of (get m k)) (λ offer. IsNarrow offer.price)
+
+-- so it is the index of the map's offers
+abbrev pub IndexesAreOfOffers : Type 0
+IndexesAreOfOffers = (m : EntryMap) (index : PositionMap) → IsIndexOf m index → index ≡ index_of (offers_of m)
 
 -- nothing but an offer can be under a key
 abbrev pub is_of_offer : LedgerKey → Bool

@@ -9,4 +9,5 @@ pub mod Order
 pub mod Positions
 pub mod Indexes
 pub mod Walk
+pub mod Reached
 pub use Rattle.ledger_types.specs as ledger_types

@@ -14,6 +14,7 @@ use crate::base::Base;
 use crate::batch::Batch;
 use crate::index::{OfferIndex, is_of_offer, offer_in};
 use crate::layered::Layered;
+use crate::walk::EntryWalk;
 use ledger_types::{Asset, LedgerEntry, LedgerKey, OfferEntry, Price};
 use std::alloc::{AllocError, Global};
 use std::marker::Model;
@@ -123,6 +124,13 @@ impl<'a, B: Base> Entries<'a, B> {
         ensures { IfOk result (IsNextAfter self.now.current key.now) }
     {
         self.layered.next_after(key)
+    }
+
+    /// A walk over the entries in the order of their keys, which begins at a key.
+    pub fn walk_from(&self, key: &LedgerKey) -> Result<EntryWalk<'_, B>, AllocError>
+        ensures { IfOk result (λ walk. walk ≡ record { entries = self.now.current; at = key.now }) }
+    {
+        self.layered.walk_from(key)
     }
 
     /// The first offer of a pair's book after a price and an id, or at its head. None exactly where there is none.

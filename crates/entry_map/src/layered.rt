@@ -13,7 +13,7 @@ use crate::batch::Batch;
 use crate::changes::changes_of;
 use crate::layer::Layer;
 use crate::lookup::{change_at, entry_at};
-use crate::walk::entry_after;
+use crate::walk::{EntryWalk, entry_after};
 use ledger_types::{LedgerEntry, LedgerKey};
 use std::alloc::{AllocError, Global};
 use std::marker::Model;
@@ -82,6 +82,13 @@ impl<'a, B: Base> Layered<'a, B> {
         ensures { IfOk result (IsNextAfter self.now.current key.now) }
     {
         entry_after(self.base, self.lower.as_slice(), &self.top, key)
+    }
+
+    /// A walk over the entries in the order of their keys, which begins at a key.
+    pub fn walk_from(&self, key: &LedgerKey) -> Result<EntryWalk<'_, B>, AllocError>
+        ensures { IfOk result (λ walk. walk ≡ record { entries = self.now.current; at = key.now }) }
+    {
+        EntryWalk::new(self.base, self.lower.as_slice(), &self.top, key)
     }
 
     /// Puts an entry under its key, in place of what was there.

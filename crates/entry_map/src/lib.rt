@@ -21,3 +21,4 @@ pub use entries::Entries;
 pub use index::{OfferIndex, push_offer};
 pub use ledger_types;
 pub use map_base::MapBase;
+pub use walk::EntryWalk;

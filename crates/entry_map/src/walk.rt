@@ -1,11 +1,13 @@
 //! The entries of a base under layers, in the order of their keys.
 
-ghost use Rattle.std.specs.Prelude.{◌≡◌, ◌||◌, IfOk, option_map};
+ghost use Rattle.std.specs.Prelude.{◌≡◌, ◌||◌, IfOk, IfSome, List, option_map};
 ghost use Rattle.std.specs.Option.{option_copied};
 ghost use Rattle.std.specs.FinMap.{contains_key};
+ghost use Rattle.ledger_types.specs.Keys.{key_of};
 ghost use Rattle.entry_map.specs.EntryMap.{IsNextAfter};
-ghost use Rattle.entry_map.specs.Layers.{under, under_one, is_changed, lesser_of, IsNextKey};
+ghost use Rattle.entry_map.specs.Layers.{LayerMap, under, under_one, is_changed, lesser_of, IsNextKey};
 ghost use Rattle.entry_map.specs.Walk.{IsNextKnown};
+ghost use Rattle.entry_map.specs.Reached.{IsReached};
 ghost use Rattle.entry_map.specs.declared.walk.Known.TheVariants.{Changed};
 
 use crate::base::Base;
@@ -14,6 +16,7 @@ use crate::lookup::entry_at;
 use ledger_types::{LedgerEntry, LedgerKey};
 use std::alloc::AllocError;
 use std::cmp::Ordering;
+use std::marker::Model;
 
 /// The lesser of two keys that may be missing.
 fn lesser<'a>(one: Option<&'a LedgerKey>, other: Option<&'a LedgerKey>) -> Option<&'a LedgerKey>
@@ -65,30 +68,65 @@ fn next_in_layers<'a>(lower: &'a [Layer], top: &'a Layer, key: &LedgerKey) -> Op
     lesser(top.next_after(key), next_changed(lower, key))
 }
 
-/// The least key above a key that the base has or one of the layers changed. The base's entry is at hand, so that one
-/// that no layer changed needs no other look-up.
+/// The least key above a key that the base has or one of the layers changed, where the least that the layers changed is
+/// known. The base's entry is at hand, so that one that no layer changed needs no other look-up.
 fn next_known<B: Base>(
     base: &B,
-    lower: &[Layer],
-    top: &Layer,
+    ahead: Option<&LedgerKey>,
     key: &LedgerKey,
 ) -> Result<Option<Known>, AllocError>
-    ensures { IfOk result (IsNextKnown (B.entries base.now) lower.now top.now key.now) }
+    ensures { (ls : List LayerMap) (top : LayerMap)
+        → IsNextKey (λ q. contains_key top q || is_changed ls q) key.now (option_copied ahead.entry)
+        → IfOk result (IsNextKnown (B.entries base.now) ls top key.now) }
 {
-    let in_layers = next_in_layers(lower, top, key);
     let Some(entry) = base.next_after(key)? else {
-        return changed(in_layers);
+        return changed(ahead);
     };
-    let Some(least) = in_layers else {
+    let Some(least) = ahead else {
         return Ok(Some(Known::Kept(entry)));
     };
     match entry.key()?.cmp(least) {
         Ordering::Less => Ok(Some(Known::Kept(entry))),
-        _ => changed(in_layers),
+        _ => changed(ahead),
     }
 }
 
-/// The entry with the least key above a key: goes over the known keys, past those that are erased.
+/// An entry that a walk came to, and the least key above its own that one of the layers changed.
+#[derive(Drop)]
+struct Reached<'a> {
+    entry: LedgerEntry,
+    ahead: Option<&'a LedgerKey>,
+}
+
+/// The entry with the least key above a key: goes over the known keys, past those that are erased. `ahead` is the least
+/// key above the first one that the layers changed; it is looked up anew only where the walk comes to it.
+fn reach<'a, B: Base>(
+    base: &B,
+    lower: &'a [Layer],
+    top: &'a Layer,
+    key: &LedgerKey,
+    ahead: Option<&'a LedgerKey>,
+) -> Result<Option<Reached<'a>>, AllocError>
+    requires { IsNextKey (λ q. contains_key top.now q || is_changed lower.now q) key.now (option_copied ahead) }
+    ensures { IfOk result (IsReached (B.entries base.now) lower.now top.now key.now) }
+{
+    let mut at = key.copy()?;
+    let mut ahead = ahead;
+    while let Some(known) = next_known(base, ahead, &at)? {
+        let next = match known {
+            Known::Kept(entry) => return Ok(Some(Reached { entry, ahead })),
+            Known::Changed(next) => next,
+        };
+        ahead = next_in_layers(lower, top, &next);
+        if let Some(entry) = entry_at(base, lower, top, &next)? {
+            return Ok(Some(Reached { entry, ahead }));
+        }
+        at = next;
+    }
+    Ok(None)
+}
+
+/// The entry with the least key above a key.
 pub fn entry_after<B: Base>(
     base: &B,
     lower: &[Layer],
@@ -97,16 +135,76 @@ pub fn entry_after<B: Base>(
 ) -> Result<Option<LedgerEntry>, AllocError>
     ensures { IfOk result (IsNextAfter (under_one (under (B.entries base.now) lower.now) top.now) key.now) }
 {
-    let mut at = key.copy()?;
-    while let Some(known) = next_known(base, lower, top, &at)? {
-        let next = match known {
-            Known::Kept(entry) => return Ok(Some(entry)),
-            Known::Changed(next) => next,
-        };
-        if let Some(entry) = entry_at(base, lower, top, &next)? {
-            return Ok(Some(entry));
-        }
-        at = next;
+    match reach(base, lower, top, key, next_in_layers(lower, top, key))? {
+        None => Ok(None),
+        Some(reached) => Ok(Some(reached.entry)),
     }
-    Ok(None)
+}
+
+/// A walk over the entries of a base under layers, in the order of their keys. Contracts see the map and the key that
+/// it came to.
+#[derive(Drop)]
+pub struct EntryWalk<'a, B: Base> {
+    base: &'a B,
+    lower: &'a [Layer],
+    top: &'a Layer,
+    at: LedgerKey,
+    // The least key above that one that one of the layers changed.
+    ahead: Option<&'a LedgerKey>,
+}
+
+impl<'a, B: Base> Model for EntryWalk<'a, B> {
+    ghost use Rattle.std.specs.Prelude.{◌||◌};
+    ghost use Rattle.std.specs.Option.{option_copied};
+    ghost use Rattle.std.specs.FinMap.{contains_key};
+    ghost use Rattle.entry_map.specs.Layers.{under, under_one, is_changed, IsNextKey};
+    ghost use Rattle.entry_map.specs.Walk.{WalkAt, walk_code};
+
+    ghost Value = { WalkAt };
+
+    ghost coded = { walk_code };
+
+    ghost view = { λ w. record {
+      entries = under_one (under (B.entries w.base.now) w.lower.now) w.top.now;
+      at = w.at;
+    } };
+
+    ghost invariant = { λ w.
+        IsNextKey (λ q. contains_key w.top.now q || is_changed w.lower.now q) w.at (option_copied w.ahead) };
+}
+
+impl<'a, B: Base> EntryWalk<'a, B> {
+    /// A walk that begins at a key.
+    pub(crate) fn new(
+        base: &'a B,
+        lower: &'a [Layer],
+        top: &'a Layer,
+        key: &LedgerKey,
+    ) -> Result<EntryWalk<'a, B>, AllocError>
+        ensures { IfOk result (λ walk. walk
+            ≡ record { entries = under_one (under (B.entries base.now) lower.now) top.now; at = key.now }) }
+    {
+        Ok(EntryWalk {
+            base,
+            lower,
+            top,
+            at: key.copy()?,
+            ahead: next_in_layers(lower, top, key),
+        })
+    }
+
+    /// The entry with the least key above the one that the walk came to; it goes on from there.
+    pub fn next(&mut self) -> Result<Option<LedgerEntry>, AllocError>
+        ensures entries { self.new.entries ≡ self.old.entries }
+        ensures next { IfOk result (IsNextAfter self.old.entries self.old.at) }
+        ensures at { IfOk result (λ entry. IfSome entry (λ e. self.new.at ≡ key_of e)) }
+    {
+        let Some(reached) = reach(self.base, self.lower, self.top, &self.at, self.ahead)? else {
+            return Ok(None);
+        };
+        let Reached { entry, ahead } = reached;
+        self.at = entry.key()?;
+        self.ahead = ahead;
+        Ok(Some(entry))
+    }
 }

@@ -7,7 +7,7 @@ use Rattle.std.specs.FinMap.{get-insert, get-remove}
 use Rattle.entry_table.specs.AfterBatch.{all_put, all_erased, after_batch}
 use Rattle.entry_table.proofs.Batches.{Becomes, own_in}
 
-get_put : (m : EntryMap) (es : List LedgerEntry) (k : LedgerKey)
+pub get_put : (m : EntryMap) (es : List LedgerEntry) (k : LedgerKey)
     → get (all_put m es) k ≡ option_or (value_at k (map with_key es)) (get m k)
 get_put m [] k = refl
 get_put m (e ∷ es) k =
@@ -20,7 +20,7 @@ get_put m (e ∷ es) k =
       | false ↦ refl
     ]
 
-get_erased : (m : EntryMap) (ks : List LedgerKey) (k : LedgerKey)
+pub get_erased : (m : EntryMap) (ks : List LedgerKey) (k : LedgerKey)
     → get (all_erased m ks) k ≡ cond (is_among k ks) None (get m k)
 get_erased m [] k = refl
 get_erased m (q ∷ ks) k =

@@ -1,10 +1,10 @@
--- The row after a batch is that of the next entries, and the stamped batch lists all that changed.
+-- What a batch leaves are the next entries, and the stamped batch lists all that changed.
 use Rattle.entry_table.proofs.Prelude.{◌≡◌, ◌≢◌, ◌↔◌, ◌⊎◌, ◌==◌, inl, inr, ℕ, Bool, true, false, cond, List, [], ◌∷◌}
 use Rattle.entry_table.proofs.Prelude.{Option, Some, None, map, refl, sym, ap, subst, ◌∙◌, IfSome, Contains, option_or}
-use Rattle.entry_table.proofs.Prelude.{eq_by_cmp_equiv, get, get-from_sorted, find, LedgerKey, LedgerEntry, key_cmp}
+use Rattle.entry_table.proofs.Prelude.{eq_by_cmp_equiv, get, find, LedgerKey, LedgerEntry, key_cmp}
 use Rattle.entry_table.proofs.Prelude.{key_of, keys_total, Batch, EntryMap, IsKeyed, AreRising, stamped, IsNextAt}
-use Rattle.entry_table.proofs.Prelude.{AreNextEntries, IsExactBatch, value_at, is_among, with_key, map_of, later}
-use Rattle.entry_table.proofs.Prelude.{IsRowAfter, IsTableRow, same_keys}
+use Rattle.entry_table.proofs.Prelude.{AreNextEntries, IsExactBatch, value_at, is_among, with_key}
+use Rattle.entry_table.proofs.Prelude.{same_keys}
 use Rattle.entry_map.specs.Batch.{parts_of, IsNew, IsChanged, IsGone, IsBatch}
 use Rattle.std.specs.Coded.{Coded}
 use Rattle.std.proofs.lemmas.Map.Views.{list_any-from_Contains, Contains-from_any}
@@ -13,7 +13,7 @@ use base.Stored.{Gv, gnil, gnum, gcons}
 use Rattle.ledger_types.specs.contracts.entry.LedgerEntry as entry
 use Rattle.entry_table.proofs.Walks.{Sorted}
 use Rattle.entry_table.proofs.Positions.{found_at, at_of}
-use Rattle.entry_table.proofs.Tables.{sorted_keys, own_found, own_from, own_keys}
+use Rattle.entry_table.proofs.Tables.{sorted_keys, own_found, own_keys}
 use Rattle.ledger_types.proofs.Lists.{contained_in_map, map_contains}
 
 -- ---- distinguishing entries
@@ -105,17 +105,6 @@ abbrev pub Becomes : ℕ → EntryMap → EntryMap → Batch → Type 0
 Becomes seq before after old = (k : LedgerKey) → get after k
     ≡ option_or (option_or (value_at k (stamped_row seq old.live)) (value_at k (stamped_row seq old.init)))
     (cond (is_among k old.dead) None (get before k))
-
-pub row_becomes : (seq : ℕ) (row next : List (LedgerKey × LedgerEntry)) (before after : EntryMap) (old new : Batch)
-    → Sorted row → map_of row ≡ before → new.init ≡ map (stamped seq) old.init → new.live ≡ map (stamped seq) old.live
-    → new.dead ≡ old.dead → IsRowAfter row new.init new.live new.dead next → map_of next ≡ after
-    → Becomes seq before after old
-row_becomes seq row next before after old new rises is_before init live dead n is_after = λ k.
-    let was : value_at k row ≡ get before k =
-    sym (get-from_sorted key_cmp row k rises) ∙ ap (λ m. get m k) is_before in
-    sym (ap (λ m. get m k) is_after) ∙ get-from_sorted key_cmp next k n.rises ∙ n.each k
-    ∙ (λ i. option_or (option_or (value_at k (map with_key (live i))) (value_at k (map with_key (init i))))
-    (cond (is_among k (dead i)) None (was i)))
 
 module _ (seq : ℕ) (before worked after : EntryMap) (old new : Batch) (keyed : IsKeyed worked)
     (b : IsBatch before worked old) (init : new.init ≡ map (stamped seq) old.init)
@@ -291,32 +280,8 @@ module _ (seq : ℕ) (before worked after : EntryMap) (old new : Batch) (keyed :
     others = same_else;
   }
 
--- ---- each entry of the new row is under its own key
+-- ---- each entry that is left is under its own key
 
 pub own_in : (es : List LedgerEntry) (k : LedgerKey) (v : LedgerEntry) → value_at k (map with_key es) ≡ Some v
     → key_of v ≡ k
 own_in es = own_found (map with_key es) (own_keys es)
-
-pub own_after : (row : List (LedgerKey × LedgerEntry)) (init live : List LedgerEntry) (dead : List LedgerKey)
-    → IsTableRow row → (k : LedgerKey) (v : LedgerEntry) → later row init live dead k ≡ Some v → key_of v ≡ k
-own_after row init live dead t k v =
-    elim (value_at k (map with_key live)) as (λ l. value_at k (map with_key live) ≡ l
-    → option_or (option_or l (value_at k (map with_key init))) (cond (is_among k dead) None (value_at k row)) ≡ Some v
-    → key_of v ≡ k) [
-      | Some x ↦ λ f is. own_in live k v (f ∙ is)
-      | None ↦ λ f. elim (value_at k (map with_key init)) as (λ i. value_at k (map with_key init) ≡ i
-          → option_or i (cond (is_among k dead) None (value_at k row)) ≡ Some v → key_of v ≡ k) [
-            | Some x ↦ λ g is. own_in init k v (g ∙ is)
-            | None ↦ λ g. elim (is_among k dead) as (λ d. cond d None (value_at k row) ≡ Some v → key_of v ≡ k) [
-              | true ↦ λ is. absurd (cc)
-              | false ↦ λ is. own_found row t.own k v is
-            ]
-          ] refl
-    ] refl
-
-pub next_row_is : (row next : List (LedgerKey × LedgerEntry)) (init live : List LedgerEntry) (dead : List LedgerKey)
-    → IsTableRow row → IsRowAfter row init live dead next → IsTableRow next
-next_row_is row next init live dead t n = record {
-  rises = n.rises;
-  own = own_from next n.rises (λ k e f. own_after row init live dead t k e (sym (n.each k) ∙ f));
-}

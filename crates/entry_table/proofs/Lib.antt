@@ -8,5 +8,6 @@ pub mod Above
 pub mod Batches
 pub mod Stamped
 pub mod AfterBatch
+pub mod Counts
 pub use Rattle.shared_tree.proofs as shared_tree_proofs
 mod Prelude

@@ -21,8 +21,8 @@ pub use Rattle.entry_map.specs.EntryMap.{EntryMap, IsKeyed, IsNextAfter, put}
 pub use Rattle.entry_map.specs.Indexes.{IsIndexOf, PositionMap, terms_at}
 pub use Rattle.entry_map.specs.KeyMaps.{AreRising}
 pub use Rattle.entry_map.specs.declared.batch.Batch.{Batch}
-pub use Rattle.entry_table.specs.Rows.{AreOwn, IsOverlaid, IsPassed, IsRising, IsRowAfter, IsTableRow, IsWithout}
-pub use Rattle.entry_table.specs.Rows.{is_among, later, map_of, putting, taking, value_at, with_key}
+pub use Rattle.entry_table.specs.Rows.{AreOwn, IsOverlaid, IsPassed, IsRising, IsTableRow}
+pub use Rattle.entry_table.specs.Rows.{is_among, map_of, putting, value_at, with_key}
 pub use Rattle.ledger_types.proofs.KeyOrdering.{keys_compared, keys_exact, keys_total, same_keys}
 pub use Rattle.ledger_types.specs.KeyOrder.{key_cmp}
 pub use Rattle.ledger_types.specs.Keys.{key_of}

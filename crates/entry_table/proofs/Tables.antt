@@ -1,12 +1,12 @@
 -- The rows of tables.
 use Rattle.entry_table.proofs.Prelude as prelude
 use prelude.{◌≡◌, ℕ, Bool, true, false, cond, List, [], ◌∷◌, Option, Some, None, IfSome, map, refl, sym, ap, subst, ◌∙◌}
-use prelude.{◌++◌, length, take, drop, All, option_map, Ordering, Less, is_lt, is_eq, eq_by_cmp, tied_itself, slice_get}
-use prelude.{option_or, get, entries, values, from_entries, entries-from_sorted, get-from_sorted, get-from_entries}
+use prelude.{◌++◌, length, take, drop, All, option_map, Less, is_lt, eq_by_cmp, slice_get}
+use prelude.{get, entries, values, from_entries, entries-from_sorted, get-from_sorted, get-from_entries}
 use prelude.{same_map, find, below_all, All-head, All-tail, slice_get-map, LedgerKey, LedgerEntry, key_cmp, key_of}
-use prelude.{keys_total, keys_exact, EntryMap, IsKeyed, AreRising, or_or, map_of, with_key, value_at, is_among, AreOwn}
-use prelude.{IsTableRow, IsOverlaid, IsWithout, IsRowAfter, same_keys}
-use Rattle.entry_table.proofs.Walks.{both, first, second, is_less, none_found, Sorted, Above}
+use prelude.{keys_total, keys_exact, EntryMap, IsKeyed, AreRising, map_of, with_key, AreOwn}
+use prelude.{IsTableRow, same_keys}
+use Rattle.entry_table.proofs.Walks.{both, is_less, Sorted, Above}
 
 take_prefix : {X Y : Type 0} (f : X → Y) (xs : List X) (zs : List Y) → take (length xs) (map f xs ++ zs) ≡ map f xs
 take_prefix f [] zs = refl
@@ -79,31 +79,3 @@ keyed_row row m t is k =
       | None ↦ λ e. tt
       | Some v ↦ λ e. own_found row t.own k v e
     ] refl)
-
-found_later : (x : LedgerKey × LedgerEntry) (k : LedgerKey) (e : LedgerEntry) (xs : List (LedgerKey × LedgerEntry))
-    → Above x.0 xs → find key_cmp k xs ≡ Some e → (b : Bool) → eq_by_cmp key_cmp k x.0 ≡ b
-    → cond b (Some x.1) (find key_cmp k xs) ≡ Some e
-found_later x k e xs h f true tied = absurd (cc (f, none_found k x.0 xs tied h))
-found_later x k e xs h f false tied = f
-
-pub own_from : (row : List (LedgerKey × LedgerEntry)) → Sorted row
-    → ((k : LedgerKey) (e : LedgerEntry) → find key_cmp k row ≡ Some e → key_of e ≡ k) → AreOwn row
-own_from [] s h = tt
-own_from (x ∷ xs) s h = (
-  h x.0 x.1 (ap (λ (o : Ordering). cond (is_eq o) (Some x.1) (find key_cmp x.0 xs)) (tied_itself keys_total x.0)),
-  own_from xs (second _ _ s) (λ k e f. h k e (found_later x k e xs (first _ _ s) f (eq_by_cmp key_cmp k x.0) refl)),
-)
-
--- ---- the row after a batch
-
-pub row_after : (row left made all : List (LedgerKey × LedgerEntry)) (init live : List LedgerEntry)
-    (dead : List LedgerKey) → IsWithout row dead left → IsOverlaid left (map with_key init) made
-    → IsOverlaid made (map with_key live) all → IsRowAfter row init live dead all
-row_after row left made all init live dead w i l = record {
-  rises = l.rises;
-  each = λ k. l.each k
-      ∙ ap (option_or (value_at k (map with_key live)))
-      (i.each k ∙ ap (option_or (value_at k (map with_key init))) (w.each k))
-      ∙ or_or (value_at k (map with_key live)) (value_at k (map with_key init))
-      (cond (is_among k dead) None (value_at k row));
-}

@@ -1,6 +1,6 @@
 -- Rows of values under keys, in the order of the keys.
-use Rattle.std.specs.Prelude.{◌≡◌, ◌+◌, ◌<◌, ◌++◌, Bool, T, Option, Some, None, List, [], ◌∷◌, map}
-use Rattle.std.specs.Prelude.{length, if◌then◌else◌}
+use Rattle.std.specs.Prelude.{◌≡◌, ◌+◌, ◌<◌, ◌++◌, Bool, T, Option, Some, List, [], ◌∷◌, map}
+use Rattle.std.specs.Prelude.{length}
 use Rattle.std.specs.List.{list_any}
 use Rattle.std.specs.Option.{option_or}
 use Rattle.std.specs.Ordering.{eq_by_cmp}
@@ -30,12 +30,6 @@ pub record IsOverlaid {V : Type 0} (older newer all : List (LedgerKey × V)) : T
 abbrev pub is_among : LedgerKey → List LedgerKey → Bool
 is_among k keys = list_any (eq_by_cmp key_cmp k) keys
 
--- a row without what is under some keys
-pub record IsWithout {V : Type 0} (row : List (LedgerKey × V)) (gone : List LedgerKey) (left : List (LedgerKey × V))
-    : Type 0 where
-  pub rises : IsRising left
-  pub each : (k : LedgerKey) → value_at k left ≡ (if is_among k gone then None else value_at k row)
-
 -- ---- entries
 
 abbrev pub with_key : LedgerEntry → LedgerKey × LedgerEntry
@@ -61,12 +55,9 @@ pub record IsTable (row : List (LedgerKey × LedgerEntry)) (offers : PositionMap
 
 -- ---- changing a row
 
--- changes that put each value of a row, and changes that put nothing
+-- changes that put each value of a row
 abbrev pub putting : {V : Type 0} → List (LedgerKey × V) → List (LedgerKey × Option V)
 putting row = map (λ y. (y.0, Some y.1)) row
-
-abbrev pub taking : {V : Type 0} → List LedgerKey → List (LedgerKey × Option V)
-taking keys = map (λ k. (k, None)) keys
 
 -- One step of a pass over two rows: what was written goes on as before, less is ahead, and that rises as before.
 pub record IsPassed {V : Type 0} (older newer older_left newer_left before after : List (LedgerKey × V)) : Type 0 where
@@ -75,17 +66,3 @@ pub record IsPassed {V : Type 0} (older newer older_left newer_left before after
   pub less : length older_left + length newer_left < length older + length newer
   pub older_rises : IsRising older_left
   pub newer_rises : IsRising newer_left
-
--- ---- the row after a batch
-
--- what is under a key in a row that changed entries were put over and some keys were taken from
-abbrev pub later : (row : List (LedgerKey × LedgerEntry)) → (init live : List LedgerEntry) → (dead : List LedgerKey)
-    → LedgerKey → Option LedgerEntry
-later row init live dead k = option_or
-    (option_or (value_at k (map with_key live)) (value_at k (map with_key init)))
-    (if is_among k dead then None else value_at k row)
-
-pub record IsRowAfter (row : List (LedgerKey × LedgerEntry)) (init live : List LedgerEntry) (dead : List LedgerKey)
-    (next : List (LedgerKey × LedgerEntry)) : Type 0 where
-  pub rises : IsRising next
-  pub each : (k : LedgerKey) → value_at k next ≡ later row init live dead k

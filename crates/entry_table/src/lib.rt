@@ -1,5 +1,5 @@
-//! The entries after a closed ledger: a tree in the order of their keys, which shares what doesn't change with the tree
-//! after the next ledger.
+//! The entries after a closed ledger, as a table in the order of their keys, and what a batch of changes leaves of
+//! them.
 #![tactic(auto)]
 
 mod kept;
@@ -10,7 +10,7 @@ mod rows;
 mod table;
 
 pub use kept::{Kept, kept_entry};
-pub use next::stamp_batch;
+pub use next::{count_after, stamp_batch};
 pub use row::EntryRow;
 pub use rows::overlay;
 pub use table::EntryTable;

@@ -17,7 +17,7 @@ use std::alloc::{AllocError, Global};
 use std::marker::Model;
 
 /// The entries after a closed ledger, in the rising order of their keys, and the index of the offers among them. It
-/// never changes, and the table after the next ledger shares what stays. Contracts see the map.
+/// never changes. Contracts see the map.
 #[derive(Drop)]
 pub struct EntryTable {
     pub(crate) tree: Tree<LedgerKey, LedgerEntry>,

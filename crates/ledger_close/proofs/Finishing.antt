@@ -5,7 +5,7 @@ use prelude.{◌∙◌, subst, if◌then◌else◌, option_or, Hash, LedgerHeade
 use prelude.{ledger_hash_of, results_hash_of, EntryMap, Pair, LevelsAfter, list_hash, file_total, upgrade_in}
 use prelude.{all_upgraded, finished, CloseFault, ClosingState, record_in, term_fault, upgrade_fault, PreparedClose}
 use prelude.{IsClosed, applied_in, result_set, filled_header, upgraded_header, IsClosable, Worked, filled, Leaves}
-use prelude.{IsLeveled, IsClosedBy, Answers, terms_of, state_of}
+use prelude.{IsLeveled, IsClosedBy, Answers, terms_of, state_of, entries_after}
 use Rattle.value_hashes.specs.xdr_results.Results.{transaction_result_set}
 use Rattle.ledger_types.proofs.Arithmetic.{less_from_unequal}
 use Rattle.ledger_types.specs.declared.header.StellarValue.{StellarValue}
@@ -71,11 +71,12 @@ headed s closing given next e1 e2 e3 e4 e5 e6 is =
 -- ---- the close
 
 pub closes : (s : ClosingState) (closing : CloseRecord) (worked : Worked) (step : LevelsAfter) → Leaves s closing worked
-    → IsLeveled s (all_upgraded s.header (map upgrade_in closing.scp_value.upgrades)).ledger_version worked.entries step
+    → IsLeveled s (all_upgraded s.header (map upgrade_in closing.scp_value.upgrades)).ledger_version (entries_after s worked)
+    step
     → IsClosed s closing (record {
       results = worked.done.results.results;
       state = state_of s.network (finished (upgraded_header s closing) (list_hash step.pairs)) step.pairs
-          worked.entries;
+          (entries_after s worked);
     })
 closes s closing worked step leaves leveled = record {
   results = leaves.done.results;

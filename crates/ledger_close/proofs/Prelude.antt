@@ -49,7 +49,7 @@ pub use Rattle.ledger_close.specs.ImageFiles.{IsFileFault, IsFileOf, IsNoFile, f
 pub use Rattle.ledger_close.specs.Judging.{AreJudged, DoFilesFit, IsHeaderJudged, Lists}
 pub use Rattle.ledger_close.specs.Leveled.{IsLeveled}
 pub use Rattle.ledger_close.specs.States.{IsKept, LedgerAt}
-pub use Rattle.ledger_close.specs.Worked.{Leaves}
+pub use Rattle.ledger_close.specs.Worked.{Leaves, entries_after}
 pub use Rattle.ledger_close.specs.declared.apply.Worked.{Worked}
 pub use Rattle.ledger_types.specs.Keys.{key_of}
 pub use Rattle.ledger_types.specs.declared.entry.LedgerEntry.{LedgerEntry}

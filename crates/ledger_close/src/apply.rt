@@ -11,16 +11,16 @@ ghost use Rattle.ledger_close.specs.Worked as spec;
 use crate::ledger::Ledger;
 use close_laws::tx_apply::{SetDone, SetFault, Setting, VouchIndex, apply_set_in_order};
 use close_rules::CloseFault;
-use entry_map::{Batch, Entries};
-use entry_table::EntryTable;
+use entry_map::{Batch, Entries, OfferIndex};
+use entry_table::stamp_batch;
 use xdr_header::CloseRecord;
 
-/// What a set leaves: its results with the fee pool and the ids, the entries after the close, and what of them is
-/// another than it was.
+/// What a set leaves: its results with the fee pool and the ids, what of the entries is another than it was, and the
+/// index of the offers after the close.
 #[derive(Drop)]
 pub(crate) struct Worked {
     pub(crate) done: SetDone,
-    pub(crate) entries: EntryTable,
+    pub(crate) offers: OfferIndex,
     pub(crate) batch: Batch,
 }
 
@@ -58,12 +58,10 @@ impl Ledger {
         };
         let mut batch = entries.changes()?;
         let offers = entries.offers()?;
-        let next = self
-            .entries
-            .next(self.header.ledger_seq + 1, &mut batch, offers)?;
+        stamp_batch(self.header.ledger_seq + 1, &mut batch);
         Ok(Worked {
             done,
-            entries: next,
+            offers,
             batch,
         })
     }

@@ -5,6 +5,7 @@ ghost use Rattle.xdr_header.specs.Header.{ledger_header};
 ghost use Rattle.xdr_header.specs.Image.{start_image};
 ghost use Rattle.bucket_levels.specs.Spills.{level_count};
 ghost use Rattle.bucket_levels.specs.Levels.{pair_of};
+ghost use Rattle.bucket_levels.specs.Meaning.{Represent};
 ghost use Rattle.bucket_levels.specs.Pairs.{Pair};
 ghost use Rattle.bucket_levels.specs.Pending.{AreUndrawnAt};
 ghost use Rattle.close_rules.specs.Images.{IsJudged};
@@ -19,11 +20,13 @@ use bucket_core::laws::a_file_is_of_one_bucket;
 use bucket_levels::{LevelPair, Levels};
 use close_laws::images::images_represent_states;
 use close_rules::{ImageFault, ImageRule};
+use entry_map::Base;
 use entry_table::EntryTable;
 use image_rules::{are_fields_in_range, first_broken};
 use item_list::ItemList;
 use ledger_types::{Hash, LedgerHeader};
 use level_entries::level_entries;
+use level_pages::{StoredEntries, share_pairs};
 use std::alloc::{AllocError, Global};
 use value_hashes::ledger_hash;
 use xdr_core::{Builder, Cursor, ReadFault};
@@ -111,6 +114,20 @@ fn judge_marks(alloc: Global, pairs: &[LevelPair]) -> Result<EntryTable, ImageFa
     }
 }
 
+/// The entries of a table, found in the files that represent them, beside the index of the offers among them.
+fn stored_entries(
+    alloc: Global,
+    pairs: &[LevelPair],
+    table: &EntryTable,
+) -> Result<StoredEntries, AllocError>
+    requires { Represent (map pair_of pairs.now) table.now }
+    ensures { IfOk result (λ entries. entries ≡ table.now) }
+{
+    let offers = table.offers()?;
+    let shared = share_pairs(alloc, pairs)?;
+    Ok(StoredEntries::new(shared, offers, table.len()))
+}
+
 /// Whether two hashes are one.
 fn is_same_hash(a: &Hash, b: &Hash) -> bool
     ensures { IsTrue result ↔ (a.now ≡ b.now) }
@@ -157,21 +174,22 @@ impl Ledger {
             Ok(header) => header,
             Err(fault) => return Err(fault),
         };
+        let digest = ledger_hash(alloc, &header)?;
         let StartImage { header: _, files } = image;
         let pairs = match judge_files(alloc, files) {
             Ok(pairs) => pairs,
             Err(fault) => return Err(fault),
         };
-        let entries = match judge_marks(alloc, pairs.as_slice()) {
-            Ok(entries) => entries,
+        let table = match judge_marks(alloc, pairs.as_slice()) {
+            Ok(table) => table,
             Err(fault) => return Err(fault),
         };
+        let entries = stored_entries(alloc, pairs.as_slice(), &table)?;
         let levels = Levels::restart(pairs, header.ledger_seq)?;
-        match judge_entries(&header, &levels, &entries) {
+        match judge_entries(&header, &levels, &table) {
             Ok(()) => {}
             Err(fault) => return Err(fault),
         }
-        let digest = ledger_hash(alloc, &header)?;
         Ok(Ledger {
             network,
             header,

@@ -12,20 +12,21 @@ use crate::prepared::Prepared;
 use bucket_levels::Levels;
 use close_laws::closes::{next_is_closing, taken_is_closable};
 use entry_map::{Base, OfferIndex};
-use entry_table::EntryTable;
 use ledger_types::{Hash, LedgerEntry, LedgerHeader, LedgerKey};
+use level_pages::StoredEntries;
 use std::alloc::AllocError;
 use std::marker::Model;
 
-/// A ledger after its last close: its header, its entries, and the files of its levels. Contracts see these, with the
-/// network that its transactions are signed for, and what is there of the merge that is pending into each level.
+/// A ledger after its last close: its header, the files of its levels, and its entries, which are looked up in the
+/// files. Contracts see these, with the network that its transactions are signed for, and what is there of the merge
+/// that is pending into each level.
 #[derive(Drop)]
 pub struct Ledger {
     pub(crate) network: Hash,
     pub(crate) header: LedgerHeader,
     // The hash of the header.
     pub(crate) digest: Hash,
-    pub(crate) entries: EntryTable,
+    pub(crate) entries: StoredEntries,
     pub(crate) levels: Levels,
 }
 

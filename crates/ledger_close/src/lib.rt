@@ -8,6 +8,7 @@ mod image;
 mod ledger;
 mod leveling;
 mod merges;
+mod next_entries;
 mod prepare;
 mod prepared;
 mod refusals;

@@ -65,9 +65,10 @@ impl Ledger {
         }
         let Worked {
             done,
-            entries,
+            offers,
             batch,
         } = worked;
+        let entries = self.entries_after(&step, offers, &batch)?;
         let header = self.head(alloc, next, closing.scp_value, &done, &step)?;
         let digest = ledger_hash(alloc, &header)?;
         let prepared = Prepared {

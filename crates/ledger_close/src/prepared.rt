@@ -5,8 +5,8 @@ ghost use Rattle.value_hashes.specs.Hashes.{ledger_hash_of};
 
 use bucket_levels::LevelStep;
 use entry_map::Batch;
-use entry_table::EntryTable;
 use ledger_types::{Hash, LedgerHeader};
+use level_pages::StoredEntries;
 use op_types::{TransactionResultSet, TransactionSet};
 use std::marker::Model;
 
@@ -18,7 +18,7 @@ pub struct Prepared {
     pub(crate) header: LedgerHeader,
     // The hash of the header.
     pub(crate) digest: Hash,
-    pub(crate) entries: EntryTable,
+    pub(crate) entries: StoredEntries,
     pub(crate) step: LevelStep,
 }
 

@@ -32,7 +32,7 @@ impl Model for View {
     ghost use Rattle.std.specs.Prelude.{◌≡◌, map};
     ghost use Rattle.value_hashes.specs.Hashes.{ledger_hash_of};
     ghost use Rattle.bucket_levels.specs.Levels.{pair_of};
-    ghost use Rattle.level_pages.specs.Represented.{entries_of};
+    ghost use Rattle.bucket_levels.specs.Meaning.{entries_of};
     ghost use Rattle.close_rules.specs.State.{ClosingState};
     ghost use Rattle.close_rules.specs.Images.{state_of};
     ghost use Rattle.ledger_close.specs.States.{state_code};

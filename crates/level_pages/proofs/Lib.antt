@@ -3,4 +3,3 @@ pub mod Leasts
 pub mod Afters
 pub mod Counting
 pub mod Unencoded
-pub mod Represented

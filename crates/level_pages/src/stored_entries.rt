@@ -30,7 +30,8 @@ impl Model for StoredEntries {
     ghost use Rattle.entry_map.specs.EntryMap.{EntryMap};
     ghost use Rattle.entry_map.specs.Undo.{map_code};
     ghost use Rattle.bucket_levels.specs.Levels.{pair_of};
-    ghost use Rattle.level_pages.specs.Represented.{AreCounted, entries_of};
+    ghost use Rattle.bucket_levels.specs.Meaning.{entries_of};
+    ghost use Rattle.level_pages.specs.Represented.{AreCounted};
 
     ghost Value = { EntryMap };
 
@@ -79,17 +80,6 @@ impl StoredEntries {
         ensures keyed { IsKeyed self.now }
     {
         self.len
-    }
-
-    /// The same entries, for one owner more. It shares the files.
-    pub fn share(&self) -> Result<StoredEntries, AllocError>
-        ensures { IfOk result (λ shared. shared ≡ self.now) }
-    {
-        Ok(StoredEntries {
-            pairs: share_pairs(*self.pairs.allocator(), self.pairs.as_slice())?,
-            offers: self.offers.share()?,
-            len: self.len,
-        })
     }
 }
 

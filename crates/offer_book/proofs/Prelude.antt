@@ -16,4 +16,4 @@ pub use Rattle.ledger_types.specs.KeyOrder.{account_cmp, key_cmp}
 pub use Rattle.ledger_types.specs.Keys.{key_of, key_of_body}
 pub use Rattle.ledger_types.specs.declared.entry.LedgerEntry.{LedgerEntry}
 pub use Rattle.ledger_types.specs.declared.key.LedgerKey.{LedgerKey}
-pub use Rattle.offer_book.specs.Sold.{IsNextSold, IsSoldIn, above, left, sold_in}
+pub use Rattle.offer_book.specs.Sold.{IsSoldIn, above, sold_in}

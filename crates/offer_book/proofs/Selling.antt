@@ -4,10 +4,11 @@ use prelude.{◌≡◌, ◌≢◌, refl, sym, ap, ◌∙◌, arith, Bool, true, 
 use prelude.{length, All, Option, Some, None, IfSome, Less, Equal, Greater, is_eq, ordering_then, int_cmp, int_cmp_is}
 use prelude.{get, find, entries, entries_sorted, get-entries, is_sorted, first, second, LedgerEntry, LedgerKey, key_of}
 use prelude.{key_of_body, account_cmp, key_cmp, EntryMap, IsKeyed, IsLeastAbove, IsNextAfter, offer_in, offers_in}
-use prelude.{above, left, sold_in, IsSoldIn, IsNextSold, found_first, found_later, account_cmp_itself, exact_accounts}
+use prelude.{above, sold_in, IsSoldIn, found_first, found_later, account_cmp_itself, exact_accounts}
 use prelude.{same_from_both_orders}
 use Rattle.std.specs.List.{cons_option}
-use Rattle.std.proofs.lemmas.List.Elements.{All-nil, All-cons, All-head, All-tail}
+use Rattle.std.proofs.Common.{append_assoc, append-nil, subst, ◌++◌}
+use Rattle.std.proofs.lemmas.List.Elements.{All-nil, All-cons, All-head, All-tail, All-push, filter_map-append}
 use Rattle.ledger_types.proofs.Lists.{if_some_at}
 use Rattle.std.proofs.lemmas.Int.{ints}
 use Rattle.ledger_types.specs.declared.ids.AccountId.{AccountId}
@@ -15,7 +16,9 @@ use Rattle.ledger_types.specs.declared.offer.OfferEntry.{OfferEntry}
 use Rattle.ledger_types.specs.declared.entry.LedgerEntryBody.{LedgerEntryBody}
 use Rattle.ledger_types.specs.declared.entry.LedgerEntryBody.TheVariants as body
 use Rattle.ledger_types.specs.declared.key.LedgerKey.TheVariants as key
+use Rattle.entry_map.specs.Walk.{WalkAt}
 use Rattle.offer_book.specs.Book.{sold_by, offers_by, AreNumbered}
+use Rattle.offer_book.specs.Sold.{AreSold, IsAmong, IsFirstSold, IsOfferOf}
 use Rattle.offer_book.proofs.Above.{Pairs, skipped, taken, nothing_left, next_left}
 
 pub offer_key : (b : LedgerEntryBody) (o : OfferEntry) → offer_in b ≡ Some o
@@ -119,35 +122,82 @@ all_own m keyed = own_listed (entries m) (entries_sorted m)
 
 -- ---- the next offer of an account
 
-pub none_next : (m : EntryMap) (s : AccountId) (i : ℤ) → IsNextAfter m (key.Offer s i) None → IsNextSold m s i None
-none_next m s i none keyed = ap (sold_in s) (nothing_left m (key.Offer s i) none)
+pub nothing_sold : (m : EntryMap) (at : LedgerKey) (s : AccountId) → IsNextAfter m at None
+    → sold_in s (above at (entries m)) ≡ []
+nothing_sold m at s none = ap (sold_in s) (nothing_left m at none)
 
-other_next : (m : EntryMap) (s : AccountId) (i : ℤ) (e : LedgerEntry) → IsLeastAbove m (key.Offer s i) e
-    → IsSoldIn e s None → IsNextSold m s i None
-other_next m s i e least none keyed = ap (sold_in s) (next_left m (key.Offer s i) e least)
+pub other_sold : (m : EntryMap) (at : LedgerKey) (s : AccountId) (e : LedgerEntry) → IsLeastAbove m at e
+    → IsSoldIn e s None → IsKeyed m → IsAmong s at → sold_in s (above at (entries m)) ≡ []
+other_sold m at s e least none keyed (i, is) =
+    ap (sold_in s) (next_left m at e least)
     ∙ not_sold s (key_of e, e) (above (key_of e) (entries m)) none
-    ∙ none_sold s i (key_of e) (entries m) (all_own m keyed) least.above (λ n. by_key s e.body n none)
+    ∙ none_sold s i (key_of e) (entries m) (all_own m keyed)
+    (subst (λ k. key_cmp k (key_of e) ≡ Less) is least.above) (λ n. by_key s e.body n none)
 
-some_next : (m : EntryMap) (s : AccountId) (i : ℤ) (e : LedgerEntry) (o : OfferEntry)
-    → IsLeastAbove m (key.Offer s i) e → IsSoldIn e s (Some o) → IsNextSold m s i (Some o)
-some_next m s i e o least is =
+pub some_sold : (old : WalkAt) (now : LedgerKey) (s : AccountId) (e : LedgerEntry) (o : OfferEntry)
+    → IsLeastAbove old.entries old.at e → now ≡ key_of e → IsSoldIn e s (Some o) → IsFirstSold old now s e
+some_sold old now s e o least at is =
     let k : key_of e ≡ key.Offer s o.offer_id = offer_key e.body o is.0 ∙ ap (λ a. key.Offer a o.offer_id) is.1 in
-    let split = next_left m (key.Offer s i) e least in
-    let rest = ap (λ q. above q (entries m)) k in
+    let split = next_left old.entries old.at e least in
+    let rest = ap (λ q. above q (entries old.entries)) (sym at) in
     record {
-      first = ap (sold_in s) split ∙ first_sold s (key_of e, e) o (above (key_of e) (entries m)) is.0 is.1
+      found = record { offer = o; is = is.0; there = least.there };
+      at = (o.offer_id, at ∙ k);
+      first = ap (sold_in s) split
+          ∙ first_sold s (key_of e, e) o (above (key_of e) (entries old.entries)) is.0 is.1
           ∙ ap (λ r. o ∷ sold_in s r) rest;
-      fewer = shorter (left m s i) (above (key_of e) (entries m)) (left m s o.offer_id) (key_of e, e) split rest;
+      fewer = shorter (above old.at (entries old.entries)) (above (key_of e) (entries old.entries))
+          (above now (entries old.entries)) (key_of e, e) split rest;
     }
   where
     shorter : (all rest other : Pairs) (x : LedgerKey × LedgerEntry) → all ≡ x ∷ rest → rest ≡ other
         → length other < length all
     shorter all rest other x is same = omega (arith, ap (λ r. length r) is, ap (λ r. length r) same)
 
-pub entry_next : (m : EntryMap) (s : AccountId) (i : ℤ) (e : LedgerEntry) (o : Option OfferEntry)
-    → IsLeastAbove m (key.Offer s i) e → IsSoldIn e s o → IsNextSold m s i o
-entry_next m s i e None least is = other_next m s i e least is
-entry_next m s i e (Some o) least is = some_next m s i e o least is
+-- ---- what was found so far
+
+pub offers_more : (es : List LedgerEntry) (e : LedgerEntry)
+    → offers_in (es ++ e ∷ []) ≡ offers_in es ++ offers_in (e ∷ [])
+offers_more es e = filter_map-append (λ x. offer_in x.body) es (e ∷ [])
+
+-- of an account's offers these entries were found, and the others come after the key
+pub record AreFound (m : EntryMap) (s : AccountId) (walk : WalkAt) (sold : List LedgerEntry) : Type 0 where
+  pub same : walk.entries ≡ m
+  pub among : IsAmong s walk.at
+  pub found : offers_in sold ++ sold_in s (above walk.at (entries m)) ≡ sold_in s (above (key.Offer s (pos 0)) (entries m))
+  pub each : All (IsOfferOf m) sold
+
+pub none_found : (m : EntryMap) (s : AccountId) (walk : WalkAt) (sold : List LedgerEntry)
+    → walk ≡ record { entries = m; at = key.Offer s (pos 0) } → sold ≡ [] → AreFound m s walk sold
+none_found m s walk sold is empty = record {
+  same = ap (λ (w : WalkAt). w.entries) is;
+  among = (pos 0, ap (λ (w : WalkAt). w.at) is);
+  found = ap (λ (es : List LedgerEntry). offers_in es ++ sold_in s (above walk.at (entries m))) empty
+      ∙ ap (λ (w : WalkAt). sold_in s (above w.at (entries m))) is;
+  each = subst (All (IsOfferOf m)) (sym empty) (All-nil (IsOfferOf m));
+}
+
+pub one_more_found : (m : EntryMap) (s : AccountId) (old new : WalkAt) (sold next : List LedgerEntry) (e : LedgerEntry)
+    → AreFound m s old sold → new.entries ≡ old.entries → IsFirstSold old new.at s e → next ≡ sold ++ e ∷ []
+    → AreFound m s new next
+one_more_found m s old new sold next e far same first is =
+    let in_m : old.entries ≡ m = far.same in
+    let rest = sold_in s (above new.at (entries m)) in
+    let o : OfferEntry = first.found.offer in
+    let split : sold_in s (above old.at (entries m)) ≡ o ∷ rest =
+    subst (λ (x : EntryMap). sold_in s (above old.at (entries x)) ≡ o ∷ sold_in s (above new.at (entries x)))
+    in_m first.first in
+    record {
+      same = same ∙ in_m;
+      among = first.at;
+      found = ap (λ (es : List LedgerEntry). offers_in es ++ rest) is
+          ∙ ap (λ (os : List OfferEntry). os ++ rest) (offers_more sold e)
+          ∙ ap (λ (x : Option OfferEntry). (offers_in sold ++ cons_option x []) ++ rest) first.found.is
+          ∙ append_assoc (offers_in sold) (o ∷ []) rest
+          ∙ ap (λ (os : List OfferEntry). offers_in sold ++ os) (sym split) ∙ far.found;
+      each = subst (All (IsOfferOf m)) (sym is)
+          (All-push (IsOfferOf m) sold e far.each (subst (λ (x : EntryMap). IsOfferOf x e) in_m first.found));
+    }
 
 with_option : (s : AccountId) (o : Option OfferEntry) (xs ys : List OfferEntry) → sold_by s xs ≡ sold_by s ys
     → sold_by s (cons_option o xs) ≡ sold_by s (cons_option o ys)
@@ -209,6 +259,18 @@ all_left s (x ∷ xs) own low =
     ] refl
 
 -- no offer of an account is left out at the start
-pub all_ahead : (m : EntryMap) (s : AccountId) → AreNumbered m → sold_in s (left m s (pos 0)) ≡ offers_by m s
+pub all_ahead : (m : EntryMap) (s : AccountId) → AreNumbered m
+    → sold_in s (above (key.Offer s (pos 0)) (entries m)) ≡ offers_by m s
 unfolding offers_by
 all_ahead m s h = all_left s (entries m) (all_own m h.keyed) h.low
+
+-- all were found where no other comes
+pub all_found : (m : EntryMap) (s : AccountId) (walk : WalkAt) (sold : List LedgerEntry) → AreFound m s walk sold
+    → sold_in s (above walk.at (entries walk.entries)) ≡ [] → AreNumbered m → AreSold m s sold
+all_found m s walk sold far none numbered = record {
+  offers = sym (append-nil (offers_in sold))
+      ∙ ap (λ (os : List OfferEntry). offers_in sold ++ os)
+      (sym (subst (λ (x : EntryMap). sold_in s (above walk.at (entries x)) ≡ []) far.same none))
+      ∙ far.found ∙ all_ahead m s numbered;
+  each = far.each;
+}

@@ -5,4 +5,4 @@ mod book;
 mod sold;
 
 pub use book::best;
-pub use sold::of_account;
+pub use sold::{of_account, sold_entries};

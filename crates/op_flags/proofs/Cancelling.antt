@@ -6,7 +6,11 @@ use Rattle.op_flags.proofs.Prelude.{All-nil, All-cons, All-head, All-tail, All-w
 use Rattle.op_flags.proofs.Prelude.{Asset, OfferEntry, LedgerEntry, EntryMap, Undo, with_current, offer_of, offer_at}
 use Rattle.op_flags.proofs.Prelude.{View, is_key, none_more, Owed, IsLegalOwing, Leaves, leaves_itself, keeps_both}
 use Rattle.op_flags.proofs.Prelude.{IsCrossable, offer_key, trades_in, map_after_cancelling_all, IsThere, AreExisting}
-use Rattle.op_flags.proofs.Prelude.{map_after_one, same_keys, all_both}
+use Rattle.op_flags.proofs.Prelude.{map_after_one, same_keys, all_both, cons_option, key_of, Option}
+use Rattle.entry_map.specs.Book.{offer_in, offers_in}
+use Rattle.offer_book.specs.Sold.{IsOfferOf}
+use Rattle.op_flags.specs.Existing.{AreFound, map_after_offer}
+use Rattle.trade_cross.proofs.Cancelled.{found_key}
 use Rattle.entry_map.proofs.KeyMaps.{same_itself}
 use Rattle.trade_cross.specs.legal_rules.OneMore.{IsOwedRightly}
 use Rattle.trade_cross.specs.Cancelling.{map_after_cancelling}
@@ -111,22 +115,65 @@ module _ (v : View) (id_pool : ℕ) (owed : Owed) (right : IsOwedRightly owed) (
       (not_there os now legal_now next o (cancelling_takes v id_pool owed sum o m legal right exists))
       (all_gone os now legal_now next)
 
--- ---- offer by offer
+-- ---- entry by entry
 
--- Of some offers those are still to be looked at that are left; the others in the asset are removed.
-pub record AreLeft (held : Asset) (offers left : List OfferEntry) (old now : Undo) : Type 0 where
+module _ (v : View) (id_pool : ℕ) (owed : Owed) (right : IsOwedRightly owed) (sum : ℤ) (o : OfferEntry) (m : EntryMap)
+    (legal : IsLegalOwing v id_pool owed sum m) (exists : IsThere m o) where
+  -- the entry of another offer is there as it was
+  still_found : (e : LedgerEntry) → (f : IsOfferOf m e) → o.offer_id ≢ f.offer.offer_id
+      → IsOfferOf (map_after_cancelling o m) e
+  still_found e f apart =
+      let k : key_of e ≡ offer_key f.offer = found_key e f.offer f.is in
+      record {
+        offer = f.offer;
+        is = f.is;
+        there = ap (get (map_after_cancelling o m)) k
+            ∙ cancelling_beside v id_pool owed sum o m legal right exists f.offer (other_keys o f.offer apart)
+            ∙ ap (get m) (sym k) ∙ f.there;
+      }
+
+  all_still_found : (es : List LedgerEntry) → All (IsOfferOf m) es → All (λ x. o.offer_id ≢ x.offer_id) (offers_in es)
+      → All (IsOfferOf (map_after_cancelling o m)) es
+  all_still_found [] all apart = All-nil (IsOfferOf (map_after_cancelling o m))
+  all_still_found (e ∷ es) all apart =
+      let f = All-head (IsOfferOf m) e es all in
+      let with_first : All (λ x. o.offer_id ≢ x.offer_id) (f.offer ∷ offers_in es) =
+      subst (λ (x : Option OfferEntry). All (λ y. o.offer_id ≢ y.offer_id) (cons_option x (offers_in es))) f.is apart in
+      All-cons (IsOfferOf (map_after_cancelling o m)) e es
+      (still_found e f (All-head (λ x. o.offer_id ≢ x.offer_id) f.offer (offers_in es) with_first))
+      (all_still_found es (All-tail (IsOfferOf m) e es all)
+      (All-tail (λ x. o.offer_id ≢ x.offer_id) f.offer (offers_in es) with_first))
+
+-- Of some entries of offers those are still to be looked at that are left; the others in the asset are removed.
+pub record AreLeft (held : Asset) (sold left : List LedgerEntry) (old now : Undo) : Type 0 where
   pub crossable : IsCrossable now.current
-  pub existing : AreExisting now.current left
+  pub found : AreFound now.current left
   pub kept : now ≡ with_current old now.current
-  pub rest : map_after_cancelling_all (filter (trades_in held) left) now.current
-      ≡ map_after_cancelling_all (filter (trades_in held) offers) old.current
+  pub rest : map_after_cancelling_all (filter (trades_in held) (offers_in left)) now.current
+      ≡ map_after_cancelling_all (filter (trades_in held) (offers_in sold)) old.current
 
 -- the others exist after one that was looked at
-rest_existing : (held : Asset) (o : OfferEntry) (os : List OfferEntry) (m : EntryMap) → IsCrossable m
-    → AreExisting m (o ∷ os) → (t : Bool)
-    → AreExisting (if t then map_after_cancelling o m else m) os
-rest_existing held o os m c all true = next_existing c.view c.id_pool c.owed c.right c.sum o os m c.legal all
-rest_existing held o os m c all false = record { there = All-tail (IsThere m) o os all.there; apart = all.apart.1 }
+rest_found : (held : Asset) (e : LedgerEntry) (f : OfferEntry) (es : List LedgerEntry) (m : EntryMap) → IsCrossable m
+    → offer_in e.body ≡ Some f → AreFound m (e ∷ es) → (t : Bool)
+    → AreFound (if t then map_after_cancelling f m else m) es
+rest_found held e f es m c is all t = by t
+  where
+    both : AreExisting m (f ∷ offers_in es)
+    both = subst (λ (x : Option OfferEntry). AreExisting m (cons_option x (offers_in es))) is all.existing
+
+    by : (t : Bool) → AreFound (if t then map_after_cancelling f m else m) es
+    by true = record {
+      each = all_still_found c.view c.id_pool c.owed c.right c.sum f m c.legal
+          (All-head (IsThere m) f (offers_in es) both.there) es (All-tail (IsOfferOf m) e es all.each) both.apart.0;
+      existing = next_existing c.view c.id_pool c.owed c.right c.sum f (offers_in es) m c.legal both;
+    }
+    by false = record {
+      each = All-tail (IsOfferOf m) e es all.each;
+      existing = record {
+        there = All-tail (IsThere m) f (offers_in es) both.there;
+        apart = both.apart.1;
+      };
+    }
 
 rest_same : (held : Asset) (o : OfferEntry) (os : List OfferEntry) (m : EntryMap) (t : Bool)
     → map_after_cancelling_all (filter (trades_in held) os) (if t then map_after_cancelling o m else m)
@@ -134,43 +181,53 @@ rest_same : (held : Asset) (o : OfferEntry) (os : List OfferEntry) (m : EntryMap
 rest_same held o os m true = refl
 rest_same held o os m false = refl
 
-pub one_less : (held : Asset) (offers : List OfferEntry) (o : OfferEntry) (os : List OfferEntry) (old now new : Undo)
-    → AreLeft held offers (o ∷ os) old now → new ≡ with_current now (map_after_one held o now.current)
-    → IsCrossable new.current → AreLeft held offers os old new
-one_less held offers o os old now new left is crossable = record {
+pub one_less : (held : Asset) (sold : List LedgerEntry) (e : LedgerEntry) (es : List LedgerEntry) (old now new : Undo)
+    → AreLeft held sold (e ∷ es) old now → new ≡ with_current now (map_after_one held e now.current)
+    → IsCrossable new.current → AreLeft held sold es old new
+one_less held sold e es old now new left is crossable = record {
   crossable = crossable;
-  existing = subst (λ m. AreExisting m os) (sym current_is)
-      (rest_existing held o os now.current left.crossable left.existing (trades_in held o));
-  kept = is ∙ ap (λ u. with_current u (map_after_one held o now.current)) left.kept
+  found = subst (λ m. AreFound m es) (sym after)
+      (rest_found held e f.offer es now.current left.crossable f.is left.found (trades_in held f.offer));
+  kept = is ∙ ap (λ u. with_current u (map_after_one held e now.current)) left.kept
       ∙ ap (with_current old) (sym current_is);
-  rest = ap (map_after_cancelling_all (filter (trades_in held) os)) current_is
-      ∙ rest_same held o os now.current (trades_in held o) ∙ left.rest;
+  rest = ap (map_after_cancelling_all (filter (trades_in held) (offers_in es))) after
+      ∙ rest_same held f.offer (offers_in es) now.current (trades_in held f.offer)
+      ∙ ap (λ (x : Option OfferEntry). map_after_cancelling_all
+      (filter (trades_in held) (cons_option x (offers_in es))) now.current) (sym f.is) ∙ left.rest;
 }
   where
-    current_is : new.current ≡ map_after_one held o now.current
+    f : IsOfferOf now.current e
+    f = All-head (IsOfferOf now.current) e es left.found.each
+
+    current_is : new.current ≡ map_after_one held e now.current
     current_is = ap (λ (u : Undo). u.current) is
 
--- ---- by the index of an offer
+    after : new.current ≡ (if trades_in held f.offer then map_after_cancelling f.offer now.current else now.current)
+    after = current_is ∙ ap (λ (x : Option OfferEntry). map_after_offer held x now.current) f.is
 
-pub this_exists : (offers : List OfferEntry) (i : ℕ) (d : OfferEntry) (m : EntryMap) → i < length offers
-    → AreExisting m (drop i offers) → IsThere m (get_or offers i d)
-this_exists offers i d m lt all = All-head (IsThere m) (get_or offers i d) (drop (suc i) offers)
-    (subst (All (IsThere m)) (drop-cons offers i d lt) all.there)
+-- ---- by the index of an entry
 
-pub one_further : (held : Asset) (offers : List OfferEntry) (i : ℕ) (d : OfferEntry) (old now new : Undo)
-    → i < length offers → AreLeft held offers (drop i offers) old now
-    → new ≡ with_current now (map_after_one held (get_or offers i d) now.current) → IsCrossable new.current
-    → AreLeft held offers (drop (i + 1) offers) old new
-one_further held offers i d old now new lt left is crossable =
+pub this_found : (sold : List LedgerEntry) (i : ℕ) (e : LedgerEntry) (m : EntryMap) → i < length sold
+    → e ≡ get_or sold i e → AreFound m (drop i sold) → IsOfferOf m e
+this_found sold i e m lt is all = subst (IsOfferOf m) (sym is)
+    (All-head (IsOfferOf m) (get_or sold i e) (drop (suc i) sold)
+    (subst (All (IsOfferOf m)) (drop-cons sold i e lt) all.each))
+
+pub one_further : (held : Asset) (sold : List LedgerEntry) (i : ℕ) (e : LedgerEntry) (old now new : Undo)
+    → i < length sold → e ≡ get_or sold i e → AreLeft held sold (drop i sold) old now
+    → new ≡ with_current now (map_after_one held e now.current) → IsCrossable new.current
+    → AreLeft held sold (drop (i + 1) sold) old new
+one_further held sold i e old now new lt is left after crossable =
     let next : suc i ≡ i + 1 = omega arith in
-    subst (λ n. AreLeft held offers (drop n offers) old new) next
-    (one_less held offers (get_or offers i d) (drop (suc i) offers) old now new
-    (subst (λ os. AreLeft held offers os old now) (drop-cons offers i d lt) left) is crossable)
+    subst (λ n. AreLeft held sold (drop n sold) old new) next
+    (one_less held sold e (drop (suc i) sold) old now new
+    (subst (λ es. AreLeft held sold es old now)
+    (drop-cons sold i e lt ∙ ap (λ x. x ∷ drop (suc i) sold) (sym is)) left) after crossable)
 
 -- none is left
-pub all_looked_at : (held : Asset) (offers : List OfferEntry) (i : ℕ) (old now : Undo) → length offers ≤ i
-    → AreLeft held offers (drop i offers) old now
-    → now ≡ with_current old (map_after_cancelling_all (filter (trades_in held) offers) old.current)
-all_looked_at held offers i old now le left =
-    let last = subst (λ os. AreLeft held offers os old now) (drop_all i offers le) left in
+pub all_looked_at : (held : Asset) (sold : List LedgerEntry) (i : ℕ) (old now : Undo) → length sold ≤ i
+    → AreLeft held sold (drop i sold) old now
+    → now ≡ with_current old (map_after_cancelling_all (filter (trades_in held) (offers_in sold)) old.current)
+all_looked_at held sold i old now le left =
+    let last = subst (λ es. AreLeft held sold es old now) (drop_all i sold le) left in
     last.kept ∙ ap (with_current old) last.rest

@@ -1,19 +1,21 @@
 //! Offers that go with an authorisation that is taken back.
 
 ghost use Rattle.std.specs.Prelude.{◌≡◌, Some, OnOk};
+ghost use Rattle.std.specs.FinMap.{get};
 ghost use Rattle.std.specs.List.{filter};
+ghost use Rattle.ledger_types.specs.Keys.{key_of};
+ghost use Rattle.entry_map.specs.Book.{offers_in};
 ghost use Rattle.entry_map.specs.Undo.{with_current};
-ghost use Rattle.entry_slots.specs.Offers.{offer_at};
 ghost use Rattle.trade_cross.specs.Crossable.{IsCrossable};
 ghost use Rattle.op_flags.specs.Revoking as spec;
-ghost use Rattle.op_flags.specs.Existing.{AreExisting, map_after_one};
+ghost use Rattle.op_flags.specs.Existing.{AreFound, map_after_one};
 
 use entry_map::{Base, Entries};
-use ledger_types::{AccountId, Asset, OfferEntry};
-use offer_book::of_account;
+use ledger_types::{AccountId, Asset, LedgerEntry, LedgerEntryBody, OfferEntry};
+use offer_book::sold_entries;
 use sponsor_rules::Ctx;
 use std::alloc::AllocError;
-use trade_cross::cancel_offer;
+use trade_cross::cancel_found;
 
 /// Whether an offer sells or buys an asset.
 fn trades_in(offer: &OfferEntry, asset: &Asset) -> bool
@@ -22,42 +24,42 @@ fn trades_in(offer: &OfferEntry, asset: &Asset) -> bool
     offer.selling.is_same(asset) || offer.buying.is_same(asset)
 }
 
-/// Removes an existing offer, if it sells or buys the asset.
+/// Removes the offer that an entry is, if it is one that sells or buys the asset.
 fn cancel_trading<B: Base>(
     entries: &mut Entries<'_, B>,
-    ctx: &Ctx,
     asset: &Asset,
-    offer: &OfferEntry,
+    entry: &LedgerEntry,
 ) -> Result<(), AllocError>
     requires crossable { IsCrossable entries.old.current }
-    requires exists { offer_at entries.old.current offer.now.seller_id offer.now.offer_id ≡ Some offer.now }
+    requires found { get entries.old.current (key_of entry.now) ≡ Some entry.now }
     ensures entries { OnOk result (
-        entries.new ≡ with_current entries.old (map_after_one asset.now offer.now entries.old.current)) }
+        entries.new ≡ with_current entries.old (map_after_one asset.now entry.now entries.old.current)) }
     ensures crossable { OnOk result (IsCrossable entries.new.current) }
 {
-    if trades_in(offer, asset) {
-        cancel_offer(entries, ctx, offer)
-    } else {
-        Ok(())
+    match &entry.body {
+        LedgerEntryBody::Offer(offer) if trades_in(offer, asset) => {
+            cancel_found(entries, entry, offer)
+        }
+        _ => Ok(()),
     }
 }
 
-/// Removes those of some offers that sell or buy the asset, one after the other. They all exist, with distinct ids.
+/// Removes those of some offers that sell or buy the asset, one after the other, by their entries. They all exist, with
+/// distinct ids.
 fn cancel_all<B: Base>(
     entries: &mut Entries<'_, B>,
-    ctx: &Ctx,
     asset: &Asset,
-    offers: &[OfferEntry],
+    sold: &[LedgerEntry],
 ) -> Result<(), AllocError>
     requires crossable { IsCrossable entries.old.current }
-    requires existing { AreExisting entries.old.current offers.now }
+    requires found { AreFound entries.old.current sold.now }
     ensures { OnOk result (
         entries.new ≡
         with_current entries.old (
-        spec.map_after_cancelling_all (filter (spec.trades_in asset.now) offers.now) entries.old.current)) }
+        spec.map_after_cancelling_all (filter (spec.trades_in asset.now) (offers_in sold.now)) entries.old.current)) }
 {
-    for offer in offers {
-        cancel_trading(entries, ctx, asset, offer)?;
+    for entry in sold {
+        cancel_trading(entries, asset, entry)?;
     }
     Ok(())
 }
@@ -75,6 +77,6 @@ pub fn revoke_offers<B: Base>(
         entries.new ≡
         with_current entries.old (spec.map_without_offers trustor.now asset.now entries.old.current)) }
 {
-    let offers = of_account(ctx.sponsorships.allocator(), entries, trustor)?;
-    cancel_all(entries, ctx, asset, &offers)
+    let sold = sold_entries(ctx.sponsorships.allocator(), entries, trustor)?;
+    cancel_all(entries, asset, sold.as_slice())
 }

@@ -89,7 +89,8 @@ did_write kind passphrase s at ahead input out err now faults end start w = reco
 -- ---- without one
 
 pub faulty_file : (kind : FileKind) (passphrase : List ℕ) (at : ℕ) (before : Option (List ℕ))
-    → IfSome before (IsFaulty at) → IfSome before (λ bytes. IsFileOutcome kind passphrase bytes (without_file (status.BadInput at)))
+    → IfSome before (IsFaulty at)
+    → IfSome before (λ bytes. IsFileOutcome kind passphrase bytes (without_file (status.BadInput at)))
 faulty_file kind passphrase at before faulty =
     if_some before (IsFaulty at)
     (λ bytes. IsFileOutcome kind passphrase bytes (without_file (status.BadInput at)))

@@ -25,6 +25,6 @@ pub use counting::count_in;
 pub use fault::AddFault;
 pub use moving::move_entry;
 pub use payers::open_sponsor;
-pub use removing::{discount_subentry, remove_entry};
+pub use removing::{discount_subentry, remove_entry, remove_found};
 pub use signer_index::{FoundSigner, found_signer};
 pub use signers::{add_signer, move_signer, remove_preauth, remove_signer};

@@ -1,6 +1,8 @@
 //! Removing entries.
 
-ghost use Rattle.std.specs.Prelude.{◌≡◌, OnOk};
+ghost use Rattle.std.specs.Prelude.{◌≡◌, OnOk, Some};
+ghost use Rattle.std.specs.FinMap.{get};
+ghost use Rattle.ledger_types.specs.Keys.{key_of};
 ghost use Rattle.reserve_rules.specs.entry_map.Undo.{with_current};
 ghost use Rattle.reserve_rules.specs.entry_slots.Accounts.{with_account};
 ghost use Rattle.sponsor_rules.specs.Keeping as keeping;
@@ -12,7 +14,7 @@ use crate::context::Ctx;
 use crate::owner::lose_subentry;
 use crate::paying::lower_sponsoring;
 use crate::stored::{erase_entry, erase_offer, load, store_changed};
-use ledger_types::{AccountId, LedgerEntryBody, LedgerKey};
+use ledger_types::{AccountId, LedgerEntry, LedgerEntryBody, LedgerKey};
 use reserve_rules::entry_map::{Base, Entries};
 use reserve_rules::entry_slots::sponsor_in;
 use std::alloc::AllocError;
@@ -32,6 +34,22 @@ pub fn remove_entry<B: Base>(
     let Some(entry) = entries.get(key)? else {
         return Ok(());
     };
+    remove_found(entries, key, &entry)
+}
+
+/// Removes the entry under its key, which is known: the counts of its sponsor, and of a subentry's owner, fall.
+pub fn remove_found<B: Base>(
+    entries: &mut Entries<'_, B>,
+    key: &LedgerKey,
+    entry: &LedgerEntry,
+) -> Result<(), AllocError>
+    requires found { get entries.old.current key.now ≡ Some entry.now }
+    requires keyed { key_of entry.now ≡ key.now }
+    ensures removed { OnOk result (
+        entries.new ≡ with_current entries.old (spec.map_after_removing key.now entries.old.current)) }
+    ensures low { OnOk result (keeping.RaisesNone entries.old.current entries.new.current) }
+    ensures core { OnOk result (keeping.LeavesOtherCores key.now entries.old.current entries.new.current) }
+{
     remove_charge(entries, charge_of(&entry.body), &sponsor_in(&entry.ext))?;
     match &entry.body {
         LedgerEntryBody::Offer(offer) => erase_offer(entries, key, offer),

@@ -2,7 +2,11 @@
 use Rattle.trade_cross.proofs.Prelude.{◌≡◌, ℕ, Some, ℤ, pos, neg_ℤ, OfferEntry, EntryMap, offer_at, binding, releasing}
 use Rattle.trade_cross.proofs.Prelude.{View, bound_of, IsOwedRightly, Owed, IsLegalOwing, DoesReleaseFit}
 use Rattle.trade_cross.proofs.Prelude.{CancelledOffersKeep, map_after_cancelling, IsCrossable, seller_gives_at}
-use Rattle.trade_cross.proofs.Prelude.{seller_takes_at}
+use Rattle.trade_cross.proofs.Prelude.{◌∙◌, ap, sym, seller_takes_at, offer_key, get, LedgerEntry}
+use Rattle.ledger_types.specs.Keys.{key_of, key_of_body}
+use Rattle.ledger_types.specs.declared.entry.LedgerEntryBody.{LedgerEntryBody}
+use Rattle.ledger_types.specs.declared.entry.LedgerEntryBody.TheVariants as body
+use Rattle.entry_map.specs.Book.{offer_in, offer_of}
 use Rattle.trade_cross.proofs.Bonds.{bond_fits, released_within, bought_within}
 use Rattle.trade_cross.proofs.StepLegal.{lets, legal_unsold, offer_gone, release_open}
 
@@ -35,3 +39,21 @@ still_crossable o m k exists = record {
   legal = cancelled_keeps k.view k.id_pool 0 k.owed k.sum o m k.legal k.right exists;
   right = k.right;
 }
+
+-- ---- an offer that was found as an entry
+
+offer_key_of : (b : LedgerEntryBody) (o : OfferEntry) → offer_in b ≡ Some o → key_of_body b ≡ offer_key o
+offer_key_of (body.Offer x) o is = let same : x ≡ o = cc in ap offer_key same
+offer_key_of (body.Account a) o is = absurd (cc)
+offer_key_of (body.TrustLine a) o is = absurd (cc)
+offer_key_of (body.Data a) o is = absurd (cc)
+offer_key_of (body.ClaimableBalance a) o is = absurd (cc)
+offer_key_of (body.LiquidityPool a) o is = absurd (cc)
+
+pub found_key : (e : LedgerEntry) (o : OfferEntry) → offer_in e.body ≡ Some o → key_of e ≡ offer_key o
+found_key e o is = offer_key_of e.body o is
+
+pub found_offer : (m : EntryMap) (e : LedgerEntry) (o : OfferEntry) → get m (key_of e) ≡ Some e
+    → offer_in e.body ≡ Some o → offer_at m o.seller_id o.offer_id ≡ Some o
+unfolding offer_at
+found_offer m e o there is = ap (λ k. offer_of (get m k)) (sym (found_key e o is)) ∙ ap offer_of there ∙ is

@@ -78,7 +78,8 @@ module _ (v : View) (id_pool : ℕ) (owed : Owed) (sum : ℤ) (o : OfferEntry) (
   unsold_keyed : IsKeyed unsold
   unsold_keyed = (legal_unsold v id_pool 0 owed right o sum m legal exists).keyed
 
-  released_beside : (x : OfferEntry) → get r (offer_key x) ≡ get m (offer_key x)
+  -- what it binds is released, and it is there as it was
+  pub released_beside : (x : OfferEntry) → get r (offer_key x) ≡ get m (offer_key x)
   released_beside x =
       ap (λ n. get n (offer_key x)) (bound_altered unsold unsold_keyed o.seller_id (seller_takes_at o)
       (holder_own o.seller_id o.buying) (pos 0) less_sheep)

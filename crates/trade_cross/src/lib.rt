@@ -22,7 +22,7 @@ mod trade;
 mod turn;
 
 pub use amounts::{acquire, most_given, most_taken, pay, release, take};
-pub use cancel::cancel_offer;
+pub use cancel::{cancel_found, cancel_offer};
 pub use conversion::convert;
 pub use crossed::{CrossEnd, Crossed};
 pub use hops::{hop, is_served};

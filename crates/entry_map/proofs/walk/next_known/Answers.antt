@@ -6,44 +6,43 @@ use Rattle.entry_map.proofs.KnownKeys.{none_kept, none_changed, kept_first, chan
 use Rattle.entry_map.proofs.walk.next_known.Goals as goal
 
 pub returns-in_default : goal.returns-in_default
-returns-in_default g c =
+returns-in_default g c = λ ls top next.
     let m = g.B.Base.entries c.args.base.now in
-    let layers = c.next_in_layers-in_layers in
-    IfOk-weaker c.changed.result _ _ (λ known is. next_is m c.args.lower.now c.args.top.now c.args.key.now
-    (option_map Changed (option_copied layers.result)) known (sym is)
-    (none_kept m c.args.lower.now c.args.top.now c.args.key.now (option_copied layers.result)
-    (subst (IsNextAfter m c.args.key.now) c.in_default.is c.in_ok-entry.ensures.next) layers.ensures))
+    let key = c.args.key.now in
+    IfOk-weaker c.changed.result _ _ (λ known is. next_is m ls top key
+    (option_map Changed (option_copied c.args.ahead)) known (sym is)
+    (none_kept m ls top key (option_copied c.args.ahead)
+    (subst (IsNextAfter m key) c.in_default.is c.in_ok-entry.ensures.next) next))
     c.changed.ensures
 
-pub returns-in_default-in_layers : goal.returns-in_default-in_layers
-returns-in_default-in_layers g c =
+pub returns-in_default-ahead : goal.returns-in_default-ahead
+returns-in_default-ahead g c = λ ls top next.
     let m = g.B.Base.entries c.args.base.now in
-    none_changed m c.args.lower.now c.args.top.now c.args.key.now c.in-Some.entry
+    none_changed m ls top c.args.key.now c.in-Some.entry
     (subst (IsNextAfter m c.args.key.now) c.in-Some.is c.in_ok-entry.ensures.next)
-    (subst (IsNextKey (λ q. contains_key c.args.top.now q || is_changed c.args.lower.now q) c.args.key.now)
-    (ap option_copied c.in_default-in_layers.is) c.next_in_layers-in_layers.ensures)
+    (subst (IsNextKey (λ q. contains_key top q || is_changed ls q) c.args.key.now)
+    (ap option_copied c.in_default-ahead.is) next)
 
 pub returns-in-Less : goal.returns-in-Less
-returns-in-Less g c =
+returns-in-Less g c = λ ls top next.
     let m = g.B.Base.entries c.args.base.now in
-    let least = c.in-Some-in_layers.least.now in
-    kept_first m c.args.lower.now c.args.top.now c.args.key.now c.in-Some.entry least
+    let least = c.in-Some-ahead.least.now in
+    kept_first m ls top c.args.key.now c.in-Some.entry least
     (subst (IsNextAfter m c.args.key.now) c.in-Some.is c.in_ok-entry.ensures.next)
-    (subst (IsNextKey (λ q. contains_key c.args.top.now q || is_changed c.args.lower.now q) c.args.key.now)
-    (ap option_copied c.in-Some-in_layers.is) c.next_in_layers-in_layers.ensures)
+    (subst (IsNextKey (λ q. contains_key top q || is_changed ls q) c.args.key.now)
+    (ap option_copied c.in-Some-ahead.is) next)
     (ap (λ k. key_cmp k least) (sym c.in_ok-key.ensures) ∙ sym (keys_compared c.in_ok-key.field-0 least)
     ∙ sym c.cmp.ensures ∙ c.in-Less.is)
 
 pub returns-in_default-cmp : goal.returns-in_default-cmp
-returns-in_default-cmp g c =
+returns-in_default-cmp g c = λ ls top next.
     let m = g.B.Base.entries c.args.base.now in
-    let least = c.in-Some-in_layers.least.now in
-    let layers = subst (IsNextKey (λ q. contains_key c.args.top.now q || is_changed c.args.lower.now q) c.args.key.now)
-    (ap option_copied c.in-Some-in_layers.is) c.next_in_layers-in_layers.ensures in
-    IfOk-weaker c.changed-in_default-cmp.result _ _ (λ known is. next_is m c.args.lower.now c.args.top.now
-    c.args.key.now (Some (Changed least)) known
-    (sym (is ∙ ap (λ o. option_map Changed (option_copied o)) c.in-Some-in_layers.is))
-    (changed_first m c.args.lower.now c.args.top.now c.args.key.now c.in-Some.entry least
+    let least = c.in-Some-ahead.least.now in
+    let layers = subst (IsNextKey (λ q. contains_key top q || is_changed ls q) c.args.key.now)
+    (ap option_copied c.in-Some-ahead.is) next in
+    IfOk-weaker c.changed-in_default-cmp.result _ _ (λ known is. next_is m ls top c.args.key.now (Some (Changed least))
+    known (sym (is ∙ ap (λ o. option_map Changed (option_copied o)) c.in-Some-ahead.is))
+    (changed_first m ls top c.args.key.now c.in-Some.entry least
     (subst (IsNextAfter m c.args.key.now) c.in-Some.is c.in_ok-entry.ensures.next) layers
     (λ less. c.in_default-cmp.not-Less (c.cmp.ensures ∙ keys_compared c.in_ok-key.field-0 least
     ∙ ap (λ k. key_cmp k least) c.in_ok-key.ensures ∙ less))))

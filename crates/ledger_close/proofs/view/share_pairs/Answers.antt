@@ -1,4 +1,4 @@
-use Rattle.ledger_close.proofs.Prelude.{◌≡◌, ◌+◌, ◌<◌, List, [], ◌∷◌, ◌++◌, length, map, take, sym, ap, ◌∙◌, arith}
+use Rattle.ledger_close.proofs.Prelude.{◌≡◌, ◌<◌, List, [], ◌∷◌, ◌++◌, length, map, take, sym, ap, ◌∙◌, arith}
 use Rattle.ledger_close.proofs.Prelude.{rules, Pair, pair_of, LevelPair, empty_pair, map-append, take_more, take_all}
 use Rattle.ledger_close.proofs.view.share_pairs.Goals as goal
 

@@ -1,20 +1,26 @@
-use Rattle.offer_book.proofs.Prelude.{ap, subst, ◌∙◌, None, w64, IsNextAfter, IsLeastAbove}
-use Rattle.std.proofs.Math.Facts.{to_z-of_z}
-use Rattle.ledger_types.specs.declared.key.LedgerKey.TheVariants.{Offer}
-use Rattle.offer_book.proofs.Selling.{none_next, entry_next}
+use Rattle.offer_book.proofs.Prelude.{◌≡◌, subst, Option, IsNextAfter, IsSoldIn, LedgerEntry, key_of}
+use Rattle.std.specs.Prelude.{IfSome}
+use Rattle.offer_book.proofs.Selling.{nothing_sold, other_sold, some_sold}
 use Rattle.offer_book.proofs.sold.next_sold.Goals as goal
 
-pub returns-in-None : goal.returns-in-None
-returns-in-None g c =
-    let m = c.args.entries.now.current in
-    let key = c.offer_key.ensures ∙ ap (Offer c.args.seller.now) (to_z-of_z {w = w64} {z = c.args.id} c.ranges.id) in
-    none_next m c.args.seller.now c.args.id (subst (λ k. IsNextAfter m k None) key
-    (subst (IsNextAfter m c.offer_key.result) c.in-None.is c.in_ok-next_after.ensures))
+pub returns-in_default-clause-next : goal.returns-in_default-clause-next
+returns-in_default-clause-next g c = λ keyed among.
+    let old = c.args.walk.now in
+    nothing_sold old.entries old.at c.args.seller.now
+    (subst (IsNextAfter old.entries old.at) c.in_default.is c.in_ok-entry.ensures.next)
 
-pub returns : goal.returns
-returns g c =
-    let m = c.args.entries.now.current in
-    let key = c.offer_key.ensures ∙ ap (Offer c.args.seller.now) (to_z-of_z {w = w64} {z = c.args.id} c.ranges.id) in
-    entry_next m c.args.seller.now c.args.id c.in-Some.entry c.sold_in.result
-    (subst (λ k. IsLeastAbove m k c.in-Some.entry) key
-    (subst (IsNextAfter m c.offer_key.result) c.in-Some.is c.in_ok-next_after.ensures)) c.sold_in.ensures
+pub returns-in-None-clause-next : goal.returns-in-None-clause-next
+returns-in-None-clause-next g c = λ keyed among.
+    let old = c.args.walk.now in
+    other_sold old.entries old.at c.args.seller.now c.in-Some.entry
+    (subst (IsNextAfter old.entries old.at) c.in-Some.is c.in_ok-entry.ensures.next)
+    (subst (IsSoldIn c.in-Some.entry c.args.seller.now) c.in-None.is c.sold_in.ensures) keyed among
+
+pub returns-in-Some-sold_in-clause-next : goal.returns-in-Some-sold_in-clause-next
+returns-in-Some-sold_in-clause-next g c =
+    let old = c.args.walk.now in
+    some_sold old c.next.new.self.at c.args.seller.now c.in-Some.entry c.in-Some-sold_in.field-0
+    (subst (IsNextAfter old.entries old.at) c.in-Some.is c.in_ok-entry.ensures.next)
+    (subst (λ (o : Option LedgerEntry). IfSome o (λ e. c.next.new.self.at ≡ key_of e)) c.in-Some.is
+    c.in_ok-entry.ensures.at)
+    (subst (IsSoldIn c.in-Some.entry c.args.seller.now) c.in-Some-sold_in.is c.sold_in.ensures)

@@ -2,7 +2,7 @@ use Rattle.ledger_close.proofs.Prelude.{◌≡◌, ◌≤◌, None, length, ℕ,
 use Rattle.ledger_close.proofs.Prelude.{Worked, AreStepsTo, AreStepsWith, Leaves, LedgerAt, Hash, LedgerHeader}
 use Rattle.ledger_close.proofs.Prelude.{CloseRecord, EntryMap, IsKeyed, list_hash, finished, close_record, ClosingState}
 use Rattle.ledger_close.proofs.Prelude.{IsClosingState, IsEncoded, record_fault, IsClosed, upgraded_header, IsClosable}
-use Rattle.ledger_close.proofs.Prelude.{AreClosed, NextIsLegal, next_counts, IsLeveled}
+use Rattle.ledger_close.proofs.Prelude.{AreClosed, NextIsLegal, next_counts, IsLeveled, LevelsAfter, entries_after}
 use Rattle.ledger_close.proofs.Counting.{steps_with}
 use Rattle.close_laws.proofs.Unrefused.{seq_below}
 use Rattle.ledger_close.proofs.Works.{keyed_by}
@@ -26,6 +26,16 @@ closable_by own now closing is state encoded unrefused few = record {
   few = few;
 }
 
+-- the levels make the step of a close
+leveled_by : NextIsLegal → (l : LedgerAt) (closing : CloseRecord) (worked : Worked) (version : ℕ) (step : LevelsAfter)
+    → IsClosable l.state closing → Leaves l.state closing worked
+    → ((after : EntryMap) → IsExactBatch l.state.entries after worked.batch → IsKeyed after
+    → IsLeveled l.state version after step)
+    → IsLeveled l.state version (entries_after l.state worked) step
+leveled_by law l closing worked version step can left levels =
+    let after = entries_after l.state worked in
+    levels after left.batch (keyed_after law l.state closing after can left.entries)
+
 -- the steps of a close are those of its levels
 counted : NextIsLegal → (l : LedgerAt) (closing : CloseRecord) (worked : Worked) (old new : ℕ)
     → IsClosable l.state closing → Leaves l.state closing worked
@@ -33,8 +43,9 @@ counted : NextIsLegal → (l : LedgerAt) (closing : CloseRecord) (worked : Worke
     → AreStepsTo l after old new)
     → AreStepsWith l closing old new
 counted law l closing worked old new can left few =
-    steps_with l closing worked.entries old new can.unrefused left.entries
-    (few worked.entries left.batch (keyed_after law l.state closing worked.entries can left.entries))
+    let after = entries_after l.state worked in
+    steps_with l closing after old new can.unrefused left.entries
+    (few after left.batch (keyed_after law l.state closing after can left.entries))
 
 pub level-requires-clause-seq : goal.level-requires-clause-seq
 level-requires-clause-seq g c =
@@ -43,38 +54,46 @@ level-requires-clause-seq g c =
 
 pub level-requires-clause-encodable : goal.level-requires-clause-encodable
 level-requires-clause-encodable g c =
+    let after = entries_after c.args.self.now.state c.args.worked in
     let can = closable_by _ c.args.self.now c.args.closing c.self.view_is c.self.invariant.state
     c.requires.encoded c.requires.unrefused c.requires.few in (
-      c.args.worked.entries,
+      after,
       c.requires.worked.batch,
-      c.entries_stay_encodable.ensures c.args.self.now.state c.args.closing c.args.worked.entries can
-          c.requires.worked.entries,
+      c.entries_stay_encodable.ensures c.args.self.now.state c.args.closing after can c.requires.worked.entries,
     )
 
 pub file_total-bytes-requires : goal.file_total-bytes-requires
 file_total-bytes-requires g c =
     let can = closable_by _ c.args.self.now c.args.closing c.self.view_is c.self.invariant.state
     c.requires.encoded c.requires.unrefused c.requires.few in
-    let keyed = keyed_after c.next_is_legal.ensures c.args.self.now.state c.args.closing c.args.worked.entries can
-    c.requires.worked.entries in
-    let leveled = c.in_ok-step.ensures.levels c.args.worked.entries c.requires.worked.batch keyed in
+    let leveled = leveled_by c.next_is_legal.ensures c.args.self.now c.args.closing c.args.worked _ c.in_ok-step.step can
+    c.requires.worked c.in_ok-step.ensures.levels in
     omega (arith, leveled.levels.count)
 
 pub returns-then-bytes-gt-MAX_FILE_TOTAL-clause-finished : goal.returns-then-bytes-gt-MAX_FILE_TOTAL-clause-finished
 returns-then-bytes-gt-MAX_FILE_TOTAL-clause-finished g c =
     let s = c.args.self.now.state in
+    let worked = c.args.worked in
+    let step = c.in_ok-step.step in
     let can = closable_by _ c.args.self.now c.args.closing c.self.view_is c.self.invariant.state
     c.requires.encoded c.requires.unrefused c.requires.few in
-    let keyed = keyed_after c.next_is_legal.ensures s c.args.closing c.args.worked.entries can
-    c.requires.worked.entries in
-    let leveled = subst (λ (h : LedgerHeader). IsLeveled s h.ledger_version c.args.worked.entries c.in_ok-step.step)
-    c.requires.next (c.in_ok-step.ensures.levels c.args.worked.entries c.requires.worked.batch keyed) in
-    let step = c.in_ok-step.step in (
-      closed_with c.args.worked.done.results.results s.network
-          (finished (upgraded_header s c.args.closing) (list_hash step.pairs)) c.args.worked.entries step.pairs,
-      closes s c.args.closing c.args.worked step c.requires.worked leveled,
+    let leveled = subst (λ (h : LedgerHeader). IsLeveled s h.ledger_version (entries_after s worked) step)
+    c.requires.next (leveled_by c.next_is_legal.ensures c.args.self.now c.args.closing worked _ step can
+    c.requires.worked c.in_ok-step.ensures.levels) in (
+      closed_with worked.done.results.results s.network
+          (finished (upgraded_header s c.args.closing) (list_hash step.pairs)) (entries_after s worked) step.pairs,
+      closes s c.args.closing worked step c.requires.worked leveled,
       c.file_total-bytes.ensures,
       omega (arith, c.if-bytes-gt-MAX_FILE_TOTAL.true),
+    )
+
+pub entries_after-requires-clause-step : goal.entries_after-requires-clause-step
+entries_after-requires-clause-step g c =
+    let can = closable_by _ c.args.self.now c.args.closing c.self.view_is c.self.invariant.state
+    c.requires.encoded c.requires.unrefused c.requires.few in (
+      c.args.next.ledger_version,
+      leveled_by c.next_is_legal.ensures c.args.self.now c.args.closing c.args.worked
+          c.args.next.ledger_version c.in_ok-step.step can c.requires.worked c.in_ok-step.ensures.levels,
     )
 
 pub head-requires-clause-seq : goal.head-requires-clause-seq
@@ -103,8 +122,8 @@ invariant_of-prepared g c =
     let closing = c.args.closing in
     let can = closable_by _ c.args.self.now c.args.closing c.self.view_is c.self.invariant.state
     c.requires.encoded c.requires.unrefused c.requires.few in
-    let keyed = keyed_after c.next_is_legal.ensures s closing c.args.worked.entries can c.requires.worked.entries in
-    let leveled = c.in_ok-step.ensures.levels c.args.worked.entries c.requires.worked.batch keyed in
+    let leveled = leveled_by c.next_is_legal.ensures c.args.self.now closing c.args.worked _ c.in_ok-step.step can
+    c.requires.worked c.in_ok-step.ensures.levels in
     let header_is = c.in_ok-header.ensures closing refl c.requires.next c.requires.worked.done in
     let counts = next_counts s closing (list_hash c.in_ok-step.step.pairs) in
     record {
@@ -120,20 +139,36 @@ returns-clause-finished g c =
     let step = c.in_ok-step.step in
     let can = closable_by _ c.args.self.now c.args.closing c.self.view_is c.self.invariant.state
     c.requires.encoded c.requires.unrefused c.requires.few in
-    let keyed = keyed_after c.next_is_legal.ensures s closing worked.entries can c.requires.worked.entries in
-    let leveled = subst (λ (h : LedgerHeader). IsLeveled s h.ledger_version worked.entries step) c.requires.next
-    (c.in_ok-step.ensures.levels worked.entries c.requires.worked.batch keyed) in
+    let leveled = subst (λ (h : LedgerHeader). IsLeveled s h.ledger_version (entries_after s worked) step)
+    c.requires.next (leveled_by c.next_is_legal.ensures c.args.self.now closing worked _ step can c.requires.worked
+    c.in_ok-step.ensures.levels) in
     let header_is = c.in_ok-header.ensures closing refl c.requires.next c.requires.worked.done in
     let made = closes s closing worked step c.requires.worked leveled in
     let headed = subst (λ (h : LedgerHeader).
-    IsClosed s closing (closed_with worked.done.results.results s.network h worked.entries step.pairs))
-    (sym header_is) made in (
+    IsClosed s closing (closed_with worked.done.results.results s.network h (entries_after s worked) step.pairs))
+    (sym header_is) made in
+    let stored = subst (λ (m : EntryMap).
+    IsClosed s closing (closed_with worked.done.results.results s.network c.in_ok-header.header m step.pairs))
+    (sym c.in_ok-entries.ensures) headed in (
       subst (λ (n : Hash).
-          IsClosed s closing (closed_with worked.done.results.results n c.in_ok-header.header worked.entries
+          IsClosed s closing (closed_with worked.done.results.results n c.in_ok-header.header c.in_ok-entries.entries
           step.pairs))
-          (sym (ap (λ (x : LedgerAt). x.state.network) c.self.view_is)) headed,
+          (sym (ap (λ (x : LedgerAt). x.state.network) c.self.view_is)) stored,
       omega (arith, c.file_total-bytes.ensures, c.if-bytes-gt-MAX_FILE_TOTAL.false),
     )
+
+pub returns-clause-detail : goal.returns-clause-detail
+returns-clause-detail g c = record {
+  set = refl;
+  batch = subst (λ (m : EntryMap). IsExactBatch c.args.self.now.state.entries m c.args.worked.batch)
+      (sym c.in_ok-entries.ensures) c.requires.worked.batch;
+}
+
+pub returns-in_err-entries-clause-steps : goal.returns-in_err-entries-clause-steps
+returns-in_err-entries-clause-steps g c =
+    counted c.next_is_legal.ensures c.args.self.now c.args.closing c.args.worked _ _
+    (closable_by _ c.args.self.now c.args.closing c.self.view_is c.self.invariant.state c.requires.encoded
+    c.requires.unrefused c.requires.few) c.requires.worked c.level.ensures.steps
 
 pub returns-in_err-step-clause-steps : goal.returns-in_err-step-clause-steps
 returns-in_err-step-clause-steps g c =

@@ -1,6 +1,6 @@
 use Rattle.ledger_close.proofs.Prelude.{◌≡◌, ◌∙◌, List, ap, map, LedgerAt, Pair, pair_of, state_of}
-use Rattle.level_pages.specs.Represented.{entries_of}
-use Rattle.level_pages.proofs.Represented.{one_map}
+use Rattle.bucket_levels.specs.Meaning.{entries_of}
+use Rattle.bucket_levels.proofs.Represented.{one_map}
 use Rattle.ledger_close.proofs.ledger.Ledger.view.Goals as goal
 
 -- the files that are shared have the ledger's entries

@@ -1,5 +1,5 @@
 use Rattle.ledger_close.proofs.Prelude.{ap, ClosingState}
-use Rattle.level_pages.proofs.Represented.{represents_view}
+use Rattle.bucket_levels.proofs.Represented.{represents_view}
 use Rattle.ledger_close.proofs.view.View.find.Goals as goal
 
 pub returns : goal.returns

@@ -2,7 +2,7 @@ use Rattle.std.proofs.Common.{map, sym, subst}
 use Rattle.entry_map.specs.EntryMap.{EntryMap}
 use Rattle.bucket_levels.specs.Levels.{pair_of}
 use Rattle.level_pages.specs.Represented.{AreCounted}
-use Rattle.level_pages.proofs.Represented.{one_map}
+use Rattle.bucket_levels.proofs.Represented.{one_map}
 use Rattle.level_pages.proofs.stored_entries.StoredEntries.new.Goals as goal
 
 pub invariant_of-result : goal.invariant_of-result

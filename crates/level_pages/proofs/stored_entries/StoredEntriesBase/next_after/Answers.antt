@@ -1,6 +1,6 @@
 use Rattle.std.proofs.Common.{subst}
 use Rattle.entry_map.specs.EntryMap.{IsKeyed}
-use Rattle.level_pages.proofs.Represented.{represents_view}
+use Rattle.bucket_levels.proofs.Represented.{represents_view}
 use Rattle.level_pages.proofs.stored_entries.StoredEntriesBase.next_after.Goals as goal
 
 pub returns-clause-next : goal.returns-clause-next

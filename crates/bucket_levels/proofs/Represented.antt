@@ -13,7 +13,7 @@ use Rattle.bucket_levels.specs.declared.pair.LevelPair.{LevelPair}
 use Rattle.bucket_levels.specs.Levels.{pair_of}
 use Rattle.bucket_levels.specs.Pairs.{Pair}
 use Rattle.bucket_levels.specs.Meaning.{changes_of, prepended, entry_after, entry_by, files_of, Represent}
-use Rattle.level_pages.specs.Represented.{changed, all_changed, entries_in, entries_of}
+use Rattle.bucket_levels.specs.Meaning.{changed, all_changed, entries_in, entries_of}
 
 -- what a change leaves where there is one
 abbrev left : Option Change → Option LedgerEntry → Option LedgerEntry

@@ -10,8 +10,8 @@ and three records, those in examples/; `run` over a store of format 1 too, which
 history; `path` over a store of offers; and `sample`. Each runs once for each call for memory that it makes of the C
 library. A library that is loaded before that one counts the calls and refuses one of them. Each run has to answer 8,
 report `no memory`, and write a prefix of the text that the ledger and the archive in Python in tests/models give; or,
-where the directory of the store is refused memory, 6 with `disk fault`; or it passes over the refusal, and answers 0
-with all of the text. After `init`, `run`, `show` and `path` the store is opened again, by a `run` without input: after
+where the directory of the store is refused memory, 6 with `disk fault`; or it passes over the refusal, as where pages
+are taken after a close, and answers 0 with all of the text. After `init`, `run`, `show` and `path` the store is opened again, by a `run` without input: after
 8 and 0 at the last ledger whose `closed` line was written, after 6 there or one further on. An `init` that answered 8
 has made no store, and one that answered 6 may have.
 

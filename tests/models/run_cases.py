@@ -19,6 +19,7 @@ from apart_cases import read_apart
 from archive_cases import PARTS as ARCHIVE_PARTS
 from archive_model import changes, history, verify
 from asset_cases import PARTS as ASSET_PARTS
+from colliding_cases import PARTS as COLLIDING_PARTS
 from offer_cases import PARTS as OFFER_PARTS
 from path_bound_cases import PARTS as PATH_BOUND_PARTS
 from path_cases import PARTS as PATH_PARTS
@@ -465,7 +466,7 @@ PARTS = [
     ("paths ", PATH_PARTS + PATH_BOUND_PARTS), ("stores ", STORE_PARTS), ("samples ", SAMPLE_PARTS),
     ("sets ", TABLE_PARTS), ("protocol 19 ", PROTOCOL_19_PARTS), ("vouches ", VOUCHED_PARTS),
     ("archives ", ARCHIVE_PARTS),
-    ("queries ", PATH_QUERY_PARTS),
+    ("queries ", PATH_QUERY_PARTS), ("fingerprints ", COLLIDING_PARTS),
 ]
 
 

@@ -57,12 +57,16 @@ LUMEN = 10_000_000
 
 
 def key(name):
-    """The key of an account: of a letter 32 times that letter, of a number 28 zero bytes and that number."""
+    """The key of an account: of a letter 32 times that letter, of a number 28 zero bytes and that number; bytes are
+    the key itself."""
+    if isinstance(name, bytes):
+        return name
     return name.encode() * 32 if isinstance(name, str) else bytes(28) + u32(name)
 
 
 def secret_of(name):
-    return f"secret of {name}".encode()
+    said = name[-8:].hex() if isinstance(name, bytes) else name
+    return f"secret of {said}".encode()
 
 
 # ---- signers and signatures

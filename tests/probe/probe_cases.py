@@ -16,6 +16,7 @@ import change_cases
 import level_cases
 import map_cases
 import operation_cases
+import page_cases
 import sponsor_cases
 import stream_cases
 
@@ -24,7 +25,7 @@ CRATE = f"{os.path.dirname(os.path.abspath(__file__))}/../../crates/probe"
 
 def files() -> Dict[str, str]:
     ledgers = operation_cases.cases() + sponsor_cases.cases()
-    parts = [*map_cases.sheets(), *level_cases.boards(), stream_cases.cases(), call_cases.cases(), change_cases.cases()]
+    parts = [*map_cases.sheets(), *level_cases.boards(), stream_cases.cases(), call_cases.cases(), change_cases.cases(), *page_cases.cases()]
     blocks = [["ledgers", *(f"{it.made} {it.name} {it.encoded.hex()}" for it in ledgers)], *(it.lines for it in parts)]
     expected = [f"{it.made} {it.name}: {it.expected}" for it in ledgers] + [line for it in parts for line in it.expected]
     return {

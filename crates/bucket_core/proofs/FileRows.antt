@@ -81,6 +81,11 @@ index_rises bytes offsets h index =
     subst IsRising (sym (index.row ∙ ap rows_of (items_of_file bytes h))) (file_rises (contents_of bytes) h.has)
 
 -- what exists under a key among the items of an index is what the file says of the key
+-- where there are no offsets there are no items
+pub no_rows : (bytes offsets : List ℕ) → length offsets ≡ 0 → row_at bytes offsets ≡ []
+no_rows bytes [] is = refl
+no_rows bytes (offset ∷ offsets) is = absurd (omega (arith, is))
+
 pub index_tells : (bytes offsets : List ℕ) (k : LedgerKey) → IsFile bytes → AreOffsets bytes offsets
     → value_at k (row_at bytes offsets)
     ≡ option_map (λ change. item_of (k, change)) (change_at (contents_of bytes) k)

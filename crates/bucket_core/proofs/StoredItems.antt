@@ -10,7 +10,7 @@ use Rattle.ledger_types.specs.declared.key.LedgerKey.TheVariants as key
 use Rattle.bucket_items.specs.declared.item.BucketItem.{BucketItem}
 use Rattle.bucket_items.specs.declared.item.BucketEntryType.TheVariants as mark
 use Rattle.ledger_types.specs.Keys.{key_of}
-use Rattle.bucket_items.specs.Item.{item_type, Shows, BeginsWithItemKey}
+use Rattle.bucket_items.specs.Item.{item_type, Shows, BeginsWithItemKey, IsItemText}
 use Rattle.bucket_items.specs.KeyText.{BeginsWithKey, IsKeyText}
 use Rattle.bucket_items.specs.MarkedItem.{item_at, TakesItem}
 use Rattle.bucket_core.specs.Faults.{key_in}
@@ -65,6 +65,14 @@ begins_by text (bucket.Meta version) k is h = absurd (cc (is))
 begins_by text (bucket.Live e) k is h = subst (BeginsWithKey text) (same_key (key_of e) k is) h
 begins_by text (bucket.Dead gone) k is h = subst (BeginsWithKey text) (same_key gone k is) h
 begins_by text (bucket.Init e) k is h = subst (BeginsWithKey text) (same_key (key_of e) k is) h
+
+-- the text of the item whose record is a prefix is that of what is stored there
+pub text_of_stored : (text bytes : List ℕ) (v : LedgerKey × BucketEntry) → IsStored text → stored_in text ≡ v
+    → ((e : BucketEntry) (q : Position) → item_at (start_of text) ≡ Ok (e, q) → IsItemText bytes e)
+    → IsItemText bytes v.1
+text_of_stored text bytes v s is reads =
+    subst (λ (w : LedgerKey × BucketEntry). IsItemText bytes w.1) (sym (is_stored text s) ∙ is)
+    (reads s.item s.after s.reads)
 
 -- the key comes first in what was found from the key on
 pub begins_with_key : (text rest : List ℕ) (v : LedgerKey × BucketEntry) → IsStored text → stored_in text ≡ v

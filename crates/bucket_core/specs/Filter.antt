@@ -11,11 +11,12 @@ word_at text position = if nat_lt (length text) (position + 8) then 0 else big_n
 abbrev pub wrap : ℕ → ℕ
 wrap n = n % 2 ^ 64
 
--- a number for a text: of its words at four offsets
+-- a number for a text: of its words at five offsets
 unfoldable pub fingerprint : List ℕ → ℕ
 fingerprint text =
-    wrap (wrap (wrap (wrap (word_at text 8 + wrap (word_at text 40 * 3)) + wrap (word_at text 48 * 5))
-    + wrap (word_at text 56 * 7)) * 11400714819323198485)
+    wrap (wrap (wrap (wrap (wrap (word_at text 8 + wrap (word_at text 32 * 13787848793156543929))
+    + wrap (word_at text 40 * 10723151780598845931)) + wrap (word_at text 48 * 15485907386658061715))
+    + wrap (word_at text 56 * 14029467366897019727)) * 11400714819323198485)
 
 abbrev pub mask : ℕ → ℕ
 mask h = bit_or (bit_or (2 ^ (h / 2 ^ 14 % 64)) (2 ^ (h / 2 ^ 20 % 64))) (2 ^ (h / 2 ^ 26 % 64))

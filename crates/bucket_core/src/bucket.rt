@@ -16,6 +16,7 @@ ghost use Rattle.bucket_core.specs.Reading.{contents_of, IsFile};
 use crate::cursor::BucketCursor;
 use crate::fault::BucketFault;
 use crate::filter::{fingerprint, may_contain};
+use crate::hints::hinted;
 use crate::index::{filter_of, find_stored, index_of, offsets_of, stored_above, stored_at};
 use crate::judge::judge;
 use crate::key_encoding::encoded_key;
@@ -38,6 +39,8 @@ pub struct Bucket {
     offsets: Vec<u32>,
     /// A filter of their keys.
     words: Vec<u64>,
+    /// Hints at their indices.
+    hints: Vec<u32>,
 }
 
 impl Model for Bucket {
@@ -169,18 +172,27 @@ impl Bucket {
         ensures { (k : AKey) → IsKeyText text.now k → option_map (λ x. x.1) result
             ≡ option_map (λ change. item_of (k, change)) (change_at self.now k) }
     {
+        if self.offsets.as_slice().is_empty() {
+            return None;
+        }
         if !may_contain(self.words.as_slice(), fingerprint) {
             return None;
         }
-        find_stored(self.bytes.as_slice(), self.offsets.as_slice(), text)
+        let hint = hinted(self.hints.as_slice(), fingerprint);
+        find_stored(self.bytes.as_slice(), self.offsets.as_slice(), hint, text)
     }
 
-    /// The item with the least key above a key, by the text of the key.
-    pub fn above(&self, text: &[u8]) -> Option<StoredItem<'_>>
+    /// The item with the least key above a key, by the text of the key. With the key's fingerprint it is found at once
+    /// where the bucket has an item under the key itself.
+    pub fn above(&self, text: &[u8], fingerprint: u64) -> Option<StoredItem<'_>>
         ensures above { (k : AKey) → IsKeyText text.now k → result ≡ above k (rows self.now) }
         ensures file { HasFile self.now }
     {
-        stored_above(self.bytes.as_slice(), self.offsets.as_slice(), text)
+        if self.offsets.as_slice().is_empty() {
+            return None;
+        }
+        let hint = hinted(self.hints.as_slice(), fingerprint);
+        stored_above(self.bytes.as_slice(), self.offsets.as_slice(), hint, text)
     }
 
     /// How many items exist before the one under a key, META left out, by the text of the key; `None` exactly where the
@@ -231,13 +243,14 @@ fn bucket_of(bytes: Vec<u8>) -> Result<Bucket, AllocError>
 {
     let alloc = *bytes.allocator();
     let offsets = offsets_of(alloc, bytes.as_slice())?;
-    let words = filter_of(alloc, bytes.as_slice(), offsets.as_slice())?;
+    let (words, hints) = filter_of(alloc, bytes.as_slice(), offsets.as_slice())?;
     let hash = hash_of_file(bytes.as_slice());
     Ok(Bucket {
         bytes,
         hash: Some(hash),
         offsets,
         words,
+        hints,
     })
 }
 
@@ -248,12 +261,13 @@ fn unhashed(bytes: Vec<u8>) -> Result<Bucket, AllocError>
 {
     let alloc = *bytes.allocator();
     let offsets = offsets_of(alloc, bytes.as_slice())?;
-    let words = filter_of(alloc, bytes.as_slice(), offsets.as_slice())?;
+    let (words, hints) = filter_of(alloc, bytes.as_slice(), offsets.as_slice())?;
     Ok(Bucket {
         bytes,
         hash: None,
         offsets,
         words,
+        hints,
     })
 }
 

@@ -27,9 +27,10 @@ pub fn fingerprint(text: &[u8]) -> u64
     ensures { result ≡ spec.fingerprint text.now }
 {
     let words = word_at(text, 8)
-        .wrapping_add(word_at(text, 40).wrapping_mul(3))
-        .wrapping_add(word_at(text, 48).wrapping_mul(5))
-        .wrapping_add(word_at(text, 56).wrapping_mul(7));
+        .wrapping_add(word_at(text, 32).wrapping_mul(0xBF58_476D_1CE4_E5B9))
+        .wrapping_add(word_at(text, 40).wrapping_mul(0x94D0_49BB_1331_11EB))
+        .wrapping_add(word_at(text, 48).wrapping_mul(0xD6E8_FEB8_6659_FD93))
+        .wrapping_add(word_at(text, 56).wrapping_mul(0xC2B2_AE3D_27D4_EB4F));
     words.wrapping_mul(0x9E37_79B9_7F4A_7C15)
 }
 

@@ -8,6 +8,7 @@ ghost use Rattle.bucket_core.specs.Reading.{IsFile};
 ghost use Rattle.bucket_core.specs.Stored.{stored_in};
 
 use crate::filter::{fingerprint, insert};
+use crate::hints::{NO_HINT, first_probe, note};
 use crate::stored::StoredItem;
 use bucket_items::{BucketEntryType, next_item};
 use std::alloc::{AllocError, Global};
@@ -54,67 +55,86 @@ pub(crate) fn stored_at(file: &[u8], offset: u32) -> StoredItem<'_>
     StoredItem::new(file.split_at(offset as usize).1)
 }
 
-/// Lets the keys of all items at some offsets of a file pass.
-fn insert_all(file: &[u8], offsets: &[u32], words: &mut [u64])
+/// Lets the keys of all items at some offsets of a file pass, and notes the index of each.
+fn insert_all(file: &[u8], offsets: &[u32], words: &mut [u64], hints: &mut [u32])
     requires exist { spec.AreItemsAt file.now offsets.now }
     requires words { 0 < length words.old }
     ensures { spec.IsFilter words.new (spec.row_at file.now offsets.now) }
 {
+    let mut index = 0_u32;
     for offset in offsets {
-        insert(words, fingerprint(stored_at(file, *offset).key()));
+        let fingerprint = fingerprint(stored_at(file, *offset).key());
+        insert(words, fingerprint);
+        note(hints, fingerprint, index);
+        index = index.wrapping_add(1);
     }
 }
 
-/// A filter of the keys of all items at some offsets of a file, of about ten bits a key.
-pub(crate) fn filter_of(alloc: Global, file: &[u8], offsets: &[u32]) -> Result<Vec<u64>, AllocError>
+/// A filter of the keys of all items at some offsets of a file, of about ten bits a key, and hints at their indices, of
+/// 64 bits a key.
+pub(crate) fn filter_of(
+    alloc: Global,
+    file: &[u8],
+    offsets: &[u32],
+) -> Result<(Vec<u64>, Vec<u32>), AllocError>
     requires { spec.AreItemsAt file.now offsets.now }
-    ensures { IfOk result (λ words. spec.IsFilter words.items (spec.row_at file.now offsets.now)) }
+    ensures { IfOk result (λ kept. spec.IsFilter kept.0.items (spec.row_at file.now offsets.now)) }
 {
     let mut words = Vec::new(alloc);
     words.resize(offsets.len() / 6 + 1, 0)?;
-    insert_all(file, offsets, words.as_mut_slice());
-    Ok(words)
+    let mut hints = Vec::new(alloc);
+    hints.resize(offsets.len().saturating_mul(2), 0)?;
+    insert_all(file, offsets, words.as_mut_slice(), hints.as_mut_slice());
+    Ok((words, hints))
 }
 
-/// The item under a key among those at some offsets of a file, by the key's text, if one is there. It halves the
-/// offsets again and again.
-pub(crate) fn find_stored<'a>(file: &'a [u8], offsets: &[u32], key: &[u8]) -> Option<StoredItem<'a>>
+/// The item under a key among those at some offsets of a file, by the key's text, if one is there. It looks where a hint
+/// says, and then halves the offsets again and again.
+pub(crate) fn find_stored<'a>(
+    file: &'a [u8],
+    offsets: &[u32],
+    hint: usize,
+    key: &[u8],
+) -> Option<StoredItem<'a>>
     requires exist { spec.AreItemsAt file.now offsets.now }
     requires rises { spec.IsRising (spec.row_at file.now offsets.now) }
     ensures { (k : AKey) → IsKeyText key.now k
         → option_map (λ x. x.1) result ≡ spec.value_at k (spec.row_at file.now offsets.now) }
 {
-    let (earlier, others) = offsets.split_at(offsets.len() / 2);
+    let (earlier, others) = offsets.split_at(first_probe(offsets.len(), hint));
     let Some((offset, later)) = others.split_first() else {
         return None;
     };
     let item = stored_at(file, *offset);
     match item.order(key) {
-        Ordering::Less => find_stored(file, later, key),
+        Ordering::Less => find_stored(file, later, NO_HINT, key),
         Ordering::Equal => Some(item),
-        Ordering::Greater => find_stored(file, earlier, key),
+        Ordering::Greater => find_stored(file, earlier, NO_HINT, key),
     }
 }
 
-/// The first item above a key among those at some offsets of a file, by the key's text, if one is there.
+/// The first item above a key among those at some offsets of a file, by the key's text, if one is there. It looks where a
+/// hint says that the key is, and then halves the offsets again and again.
 pub(crate) fn stored_above<'a>(
     file: &'a [u8],
     offsets: &[u32],
+    hint: usize,
     key: &[u8],
 ) -> Option<StoredItem<'a>>
     requires exist { spec.AreItemsAt file.now offsets.now }
     requires rises { spec.IsRising (spec.row_at file.now offsets.now) }
     ensures { (k : AKey) → IsKeyText key.now k → result ≡ spec.above k (spec.row_at file.now offsets.now) }
 {
-    let (earlier, others) = offsets.split_at(offsets.len() / 2);
+    let (earlier, others) = offsets.split_at(first_probe(offsets.len(), hint));
     let Some((offset, later)) = others.split_first() else {
         return None;
     };
     let item = stored_at(file, *offset);
     match item.order(key) {
-        Ordering::Less => stored_above(file, later, key),
-        Ordering::Equal => stored_above(file, later, key),
-        Ordering::Greater => match stored_above(file, earlier, key) {
+        Ordering::Less => stored_above(file, later, NO_HINT, key),
+        // the item after this one is the first
+        Ordering::Equal => stored_above(file, later, 0, key),
+        Ordering::Greater => match stored_above(file, earlier, NO_HINT, key) {
             None => Some(item),
             Some(lower) => Some(lower),
         },

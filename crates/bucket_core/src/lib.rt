@@ -5,6 +5,7 @@ mod bucket;
 mod cursor;
 mod fault;
 mod filter;
+mod hints;
 mod index;
 mod item_key;
 mod judge;

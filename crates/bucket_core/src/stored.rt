@@ -7,7 +7,7 @@ ghost use Rattle.ledger_types.specs.declared.key.LedgerKey.{LedgerKey as AKey};
 ghost use Rattle.ledger_types.specs.KeyOrder.{key_cmp};
 ghost use Rattle.bucket_core.specs.Stored.{IsStored, stored_in};
 
-use bucket_items::{BucketEntryType, BucketItem, from_key, next_item, order_prefix};
+use bucket_items::{BucketEntryType, BucketItem, from_key, item_text, next_item, order_prefix};
 use ledger_types::BucketEntry;
 use std::alloc::{AllocError, Global};
 use std::cmp::Ordering;
@@ -92,7 +92,7 @@ impl<'a> StoredItem<'a> {
     pub fn read(&self, alloc: Global) -> Result<BucketEntry, AllocError>
         ensures { IfOk result (λ item. item ≡ self.now.1) }
     {
-        let mut ahead = Cursor::new(self.shown().bytes);
+        let mut ahead = Cursor::new(item_text(self.text));
         match read_bucket_entry(alloc, &mut ahead) {
             Ok(entry) => Ok(entry),
             Err(ReadFault::NoMemory) => Err(AllocError),

@@ -3,7 +3,7 @@ use Rattle.bucket_items.proofs.Prelude.{◌≡◌, ℕ, ◌+◌, ◌<◌, ◌≤
 use Rattle.bucket_items.proofs.Prelude.{arith, append-nil, Result, XdrFault, Position, Reading, ◌>>=◌, IsBytes, Takes}
 use Rattle.bucket_items.proofs.Prelude.{mark, mark_lawful, mark_is_read, marked_leaves, BucketEntry, bucket_entry}
 use Rattle.bucket_items.proofs.Prelude.{bucket_entry_laws, ended, entire_at, max_item_len, record_of, IsEncodable}
-use Rattle.bucket_items.proofs.Prelude.{after_mark, item_in, item_at}
+use Rattle.bucket_items.proofs.Prelude.{after_mark, item_in, item_at, IsItemText}
 use Rattle.bucket_items.proofs.Marking.{entire_is_text, item_says}
 
 -- the offset after a record
@@ -27,6 +27,17 @@ record_is_read at e rest h =
     (mark_is_read max_item_len at (bucket_entry.encoding e) rest (omega arith) h.short)
     ∙ ap (λ (r : Result BucketEntry XdrFault). r >>= λ x. Ok (x, after_record at e rest)) (entire_is_read (at + 4) e h)
 
+-- what is marked where an item was read is the item's text
+pub marked_is_text : (p q new : Position) (e : BucketEntry) (text : List ℕ) → IsBytes p.rest → item_at p ≡ Ok (e, q)
+    → (mark max_item_len).read p ≡ Ok (text, new) → IsItemText text e
+unfolding mark
+marked_is_text p q new e text fits h is =
+    let says = item_says p e q h in
+    let piece = (mark_lawful max_item_len (omega arith)).takes p q says.0 fits says.1 in
+    let same : (says.0, q) ≡ (text, new) = cc (says.1, is) in
+    subst (λ (t : List ℕ). IsItemText t e) (ap (λ (x : List ℕ × Position). x.0) same)
+    (entire_is_text says.0 (after_mark p says.0) e piece.sized refl says.2)
+
 -- what was read as an item is its record
 pub record TakesRecord (p q : Position) (e : BucketEntry) : Type 0 where
   pub encodable : IsEncodable e
@@ -38,7 +49,7 @@ record_is_taken p q e fits h =
     let says = item_says p e q h in
     let text = says.0 in
     let piece = (mark_lawful max_item_len (omega arith)).takes p q text fits says.1 in
-    let item = entire_is_text text (after_mark p text) e piece.sized refl says.2 in
+    let item = marked_is_text p q q e text fits h says.1 in
     record {
       encodable = record {
         within = item.within;

@@ -1,5 +1,5 @@
 -- The text of a key (LedgerKey in Stellar-ledger-entries.x, over RFC 4506).
-use Rattle.std.specs.Prelude.{◌≡◌, ◌++◌, ℕ, List}
+use Rattle.std.specs.Prelude.{◌≡◌, ◌++◌, ℕ, ℤ, pos, List}
 use Rattle.std.specs.declared.cmp.Ordering.{Ordering}
 use Rattle.ledger_types.specs.declared.key.LedgerKey.{LedgerKey}
 use Rattle.ledger_types.specs.declared.key.LedgerKey.TheVariants as key
@@ -27,9 +27,14 @@ OrdersPrefixes a b answer = (k m : LedgerKey) → BeginsWithKey a k → BeginsWi
 abbrev pub OrdersKeys : List ℕ → List ℕ → Ordering → Type 0
 OrdersKeys a b answer = (k m : LedgerKey) → IsKeyText a k → IsKeyText b m → answer ≡ key_cmp k m
 
--- two keys whose encodings are in the keys' order, byte by byte: not two offers, whose ids have signs, nor two names,
--- whose lengths come first
+-- two numbers that aren't negative
+abbrev pub HaveNoSign : ℤ → ℤ → Type 0
+HaveNoSign (pos n) (pos m) = Unit {0}
+HaveNoSign n m = ⊥
+
+-- two keys whose encodings are in the keys' order, byte by byte: not two offers of which one has a negative id, nor two
+-- names, whose lengths come first
 abbrev pub AreByBytes : LedgerKey → LedgerKey → Type 0
-AreByBytes (key.Offer a n) (key.Offer b m) = ⊥
+AreByBytes (key.Offer a n) (key.Offer b m) = HaveNoSign n m
 AreByBytes (key.Data a n) (key.Data b m) = ⊥
 AreByBytes a b = Unit {0}

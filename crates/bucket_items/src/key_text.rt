@@ -1,5 +1,5 @@
-//! The order of keys by their texts. It is not the order of the texts' bytes: an offer's number has a sign, and a
-//! name's length comes before its bytes.
+//! The order of keys by their texts. It is not the order of the texts' bytes: an offer's id has a sign, and a name's
+//! length comes before its bytes.
 
 ghost use Rattle.std.specs.Prelude.{◌≡◌, true};
 ghost use Rattle.ledger_types.specs.declared.key.LedgerKey.{LedgerKey as AKey};
@@ -17,6 +17,10 @@ const KIND_OFFSET: usize = 3;
 
 /// The kind of an offer's key (OFFER of LedgerEntryType in Stellar-ledger-entries.x).
 const OFFER: u8 = 2;
+
+/// The offset in an offer's key of the first byte of its id, after the kind and the seller. That byte is below 128 where
+/// the id isn't negative.
+const ID_OFFSET: usize = 40;
 
 /// The kind of the key of data (DATA of LedgerEntryType in Stellar-ledger-entries.x).
 const DATA: u8 = 3;
@@ -47,7 +51,7 @@ pub fn compare_with(key: &LedgerKey, text: &[u8]) -> Ordering
 }
 
 /// Whether two keys compare as the bytes of their encodings do, which are the prefixes of two texts: they aren't two
-/// offers, nor two names.
+/// names, nor two offers of which one has a negative id.
 fn agree_with_bytes(a: &[u8], b: &[u8]) -> bool
     ensures { (k : AKey) (m : AKey)
         → spec.BeginsWithKey a.now k → spec.BeginsWithKey b.now m → result ≡ true → spec.AreByBytes k m }
@@ -57,7 +61,7 @@ fn agree_with_bytes(a: &[u8], b: &[u8]) -> bool
         return true;
     }
     if kind == OFFER {
-        return false;
+        return byte_at(a, ID_OFFSET) < 128 && byte_at(b, ID_OFFSET) < 128;
     }
     if kind == DATA {
         return false;
@@ -65,8 +69,9 @@ fn agree_with_bytes(a: &[u8], b: &[u8]) -> bool
     true
 }
 
-/// How two keys compare, by their texts. Two offers and two names are read, and any other two keys are compared by
-/// their bytes alone. It takes no memory. Where one text is of no key the answer says nothing.
+/// How two keys compare, by their texts. Two names are read, and two offers of which one has a negative id, and any
+/// other two keys are compared by their bytes alone. It takes no memory. Where one text is of no key the answer says
+/// nothing.
 pub fn order(a: &[u8], b: &[u8]) -> Ordering
     ensures { spec.OrdersKeys a.now b.now result }
 {

@@ -10,4 +10,4 @@ mod text;
 pub use item::{BucketEntryType, BucketItem, from_key};
 pub use key_ref::{KeyRef, read_key_ref};
 pub use key_text::{compare, compare_with, order, order_prefix};
-pub use marked_item::{next_item, read_marked_item};
+pub use marked_item::{item_text, next_item, read_marked_item};

@@ -2,7 +2,7 @@
 
 ghost use Rattle.std.specs.Prelude.{◌≡◌, [], IsSomeAnd};
 ghost use Rattle.ledger_types.specs.declared.bucket.BucketEntry.{BucketEntry as AnItem};
-ghost use Rattle.xdr_core.specs.Position.{Position};
+ghost use Rattle.xdr_core.specs.Position.{Position, start_of};
 ghost use Rattle.bucket_items.specs.Item as item;
 ghost use Rattle.bucket_items.specs.MarkedItem as spec;
 
@@ -76,6 +76,19 @@ pub fn next_item<'a>(cursor: &mut Cursor<'a>) -> Option<BucketItem<'a>>
     match cursor.mark(MAX_ITEM_LEN) {
         Ok(text) => shown(text),
         Err(_) => None,
+    }
+}
+
+/// The text of the item whose record is the prefix of a text, without its record mark. It reads no more than the mark.
+/// Where the prefix is no record the answer says nothing.
+pub fn item_text(text: &[u8]) -> &[u8]
+    ensures { (e : AnItem) (q : Position) → spec.item_at (start_of text.now) ≡ Ok (e, q)
+        → item.IsItemText result.now e }
+{
+    let mut ahead = Cursor::new(text);
+    match ahead.mark(MAX_ITEM_LEN) {
+        Ok(record) => record,
+        Err(_) => text,
     }
 }
 

@@ -41,6 +41,7 @@ pub mod AlikeHoldings
 pub mod ConservedCloses
 pub mod EachLegal
 pub mod KeptLaws
+pub use Rattle.bucket_levels.proofs as bucket_levels_proofs
 pub use Rattle.bucket_levels.proofs.entry_map_proofs
 pub use Rattle.close_rules.proofs.ledger_types_proofs
 pub use Rattle.close_rules.proofs.sponsor_laws_proofs

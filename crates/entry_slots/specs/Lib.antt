@@ -1,3 +1,4 @@
+pub mod EntryKinds
 pub mod Accounts
 pub mod AccountFacts
 pub mod Lines

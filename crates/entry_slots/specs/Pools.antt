@@ -1,5 +1,5 @@
 -- Pools among the entries of a ledger.
-use Rattle.std.specs.Prelude.{Option, Some, None}
+use Rattle.std.specs.Prelude.{Option, Some, None, option_map}
 use Rattle.std.specs.FinMap.{get}
 use Rattle.entry_map.specs.ledger_types.declared.ids.Hash.{Hash}
 use Rattle.entry_map.specs.ledger_types.declared.liquidity_pool.LiquidityPoolEntry.{LiquidityPoolEntry}
@@ -7,7 +7,8 @@ use Rattle.entry_map.specs.ledger_types.declared.entry.LedgerEntry.{LedgerEntry}
 use Rattle.entry_map.specs.ledger_types.declared.entry.LedgerEntryBody.{LedgerEntryBody}
 use Rattle.entry_map.specs.ledger_types.declared.entry.LedgerEntryBody.TheVariants as body
 use Rattle.entry_map.specs.ledger_types.declared.key.LedgerKey.TheVariants as key
-use Rattle.entry_map.specs.EntryMap.{EntryMap, put}
+use Rattle.entry_map.specs.EntryMap.{EntryMap}
+use Rattle.entry_slots.specs.EntryKinds.{EntryKind, entry_at, slot_in, slot_of, value_of, with_entry}
 use Rattle.entry_slots.specs.declared.pools.PoolSlot.{PoolSlot}
 
 -- a pool, where the body is one
@@ -15,35 +16,31 @@ abbrev pub pool_in : LedgerEntryBody → Option LiquidityPoolEntry
 pool_in (body.LiquidityPool pool) = Some pool
 pool_in other = None
 
+abbrev pub pool_kind : EntryKind LiquidityPoolEntry
+pool_kind = record { body_of = body.LiquidityPool; value_in = pool_in }
+
 abbrev pub pool_of : Option LedgerEntry → Option LiquidityPoolEntry
-pool_of None = None
-pool_of (Some entry) = pool_in entry.body
+pool_of found = value_of pool_kind found
 
 -- the pool with this id, if it exists
 unfoldable pub pool_at : EntryMap → Hash → Option LiquidityPoolEntry
-pool_at m pool_id = pool_of (get m (key.LiquidityPool pool_id))
+pool_at m pool_id = entry_at pool_kind m (key.LiquidityPool pool_id)
 
 -- ---- entries, taken apart
 
-abbrev pub pool_slot_by : LedgerEntry → LedgerEntryBody → Option PoolSlot
-pool_slot_by entry (body.LiquidityPool pool) =
-    Some (record { last_modified_ledger_seq = entry.last_modified_ledger_seq; pool = pool; ext = entry.ext })
-pool_slot_by entry other = None
+abbrev pub pool_slot : LedgerEntry → LiquidityPoolEntry → PoolSlot
+pool_slot entry pool =
+    record { last_modified_ledger_seq = entry.last_modified_ledger_seq; pool = pool; ext = entry.ext }
 
 -- the parts of an entry, where it is that of a pool
 abbrev pub pool_slot_in : LedgerEntry → Option PoolSlot
-pool_slot_in entry = pool_slot_by entry entry.body
-
-abbrev pub pool_slot_of : Option LedgerEntry → Option PoolSlot
-pool_slot_of None = None
-pool_slot_of (Some entry) = pool_slot_in entry
+pool_slot_in entry = slot_in pool_kind pool_slot entry
 
 abbrev pub pool_slot_at : EntryMap → Hash → Option PoolSlot
-pool_slot_at m pool_id = pool_slot_of (get m (key.LiquidityPool pool_id))
+pool_slot_at m pool_id = slot_of pool_kind pool_slot (get m (key.LiquidityPool pool_id))
 
 abbrev pub pool_of_slot : Option PoolSlot → Option LiquidityPoolEntry
-pool_of_slot None = None
-pool_of_slot (Some slot) = Some slot.pool
+pool_of_slot slot = option_map (λ s. s.pool) slot
 
 abbrev pub entry_of_pool : PoolSlot → LedgerEntry
 entry_of_pool slot =
@@ -55,15 +52,6 @@ entry_of_pool slot =
 
 -- ---- changes
 
-abbrev pub with_pool_in : EntryMap → LedgerEntry → (LiquidityPoolEntry → LiquidityPoolEntry) → LedgerEntryBody
-    → EntryMap
-with_pool_in m entry change (body.LiquidityPool pool) = put m (record entry { body = body.LiquidityPool (change pool) })
-with_pool_in m entry change other = m
-
-abbrev pub with_pool_of : EntryMap → (LiquidityPoolEntry → LiquidityPoolEntry) → Option LedgerEntry → EntryMap
-with_pool_of m change None = m
-with_pool_of m change (Some entry) = with_pool_in m entry change entry.body
-
 -- the map, in which the pool with this id is changed; the rest of its entry stays
 unfoldable pub with_pool : EntryMap → Hash → (LiquidityPoolEntry → LiquidityPoolEntry) → EntryMap
-with_pool m pool_id change = with_pool_of m change (get m (key.LiquidityPool pool_id))
+with_pool m pool_id change = with_entry pool_kind m (key.LiquidityPool pool_id) change

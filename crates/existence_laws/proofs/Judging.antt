@@ -3,7 +3,8 @@ use Rattle.existence_laws.proofs.Prelude.{◌≡◌, inl, inr, ◌*◌, ◌^◌,
 use Rattle.existence_laws.proofs.Prelude.{refl, Hash, LedgerHeader, IsBytes, StartImage, EntryMap, Pair, list_hash}
 use Rattle.existence_laws.proofs.Prelude.{ImageFault, ImageRule, ClosingState, entry_rules, header_in, AreFieldsInRange}
 use Rattle.existence_laws.proofs.Prelude.{HasHeader, HasLevels, HasEntries, state_of, BreaksEntries, IsJudged}
-use Rattle.existence_laws.proofs.Prelude.{EachImage}
+use Rattle.existence_laws.proofs.Prelude.{EachImage, entries_of}
+use Rattle.close_laws.proofs.bucket_levels_proofs.Represented.{represented}
 use Rattle.close_laws.specs.ledger_types.contracts.ids.Hash as hash
 use Rattle.close_laws.specs.legal_rules.Headers.{header_flags}
 use Rattle.close_laws.specs.close_rules.declared.image_fault.ImageFault.TheVariants as fault
@@ -12,7 +13,6 @@ use Rattle.existence_laws.proofs.Decided.{Decided, decided_as, both, below, belo
 use Rattle.existence_laws.proofs.FilesOfLevels.{some_files}
 use Rattle.existence_laws.proofs.Marks.{well_marked, are_keyed}
 use Rattle.existence_laws.proofs.Rules.{IsOfEntries, FirstOf, first_of}
-use Rattle.existence_laws.proofs.Existing.{some_entries}
 
 -- ---- the first rules
 
@@ -65,8 +65,8 @@ module _ (network : Hash) (image : StartImage) (text : All IsBytes image.files) 
       elim (well_marked levels) [
         | inl marks ↦ elim (same_value hash.the_row.coded (list_hash levels) h.bucket_list_hash) [
           | inl same ↦
-              let m = some_entries levels in
-              by_entries levels m.0 (record { files = has; marks = marks; hash = same; existing = m.1 })
+              by_entries levels (entries_of levels)
+              (record { files = has; marks = marks; hash = same; existing = represented levels })
           | inr fails ↦ (Err (fault.BadImage rule.ListHash), (h, levels, has, marks, fails))
         ]
         | inr fails ↦ (Err (fault.BadImage rule.Marks), (h, levels, has, fails))

@@ -5,7 +5,6 @@ pub mod Steps
 pub mod Changes
 pub mod Refusing
 pub mod Closing
-pub mod Existing
 pub mod FilesOfLevels
 pub mod Marks
 pub mod Ranges

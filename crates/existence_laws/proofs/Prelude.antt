@@ -17,7 +17,7 @@ pub use Rattle.close_laws.proofs.xdr_header_proofs.ImageLaws.{start_image_laws}
 pub use Rattle.close_laws.specs.Closes.{NextIsClosing, TakenIsClosable}
 pub use Rattle.close_laws.specs.bucket_levels.Hash.{list_hash}
 pub use Rattle.close_laws.specs.bucket_levels.Meaning.{AreWellMarked, MayFollow, Represent, entry_after, entry_by}
-pub use Rattle.close_laws.specs.bucket_levels.Meaning.{files_of, prepended}
+pub use Rattle.close_laws.specs.bucket_levels.Meaning.{entries_of, files_of, prepended}
 unfoldable pub use Rattle.close_laws.specs.bucket_levels.Meaning.{AreMarkedWell, changes_of}
 pub use Rattle.close_laws.specs.bucket_levels.Pairs.{Pair, empty_pair, pair_at}
 unfoldable pub use Rattle.close_laws.specs.bucket_levels.Size.{file_total}

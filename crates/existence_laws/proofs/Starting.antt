@@ -1,15 +1,18 @@
 -- An input has an outcome.
 use Rattle.existence_laws.proofs.Prelude.{◌≡◌, ℕ, zero, suc, ◌-◌, List, [], ◌∷◌, length, All, Some, Result, Ok, Err}
+use Rattle.std.specs.Prelude.{map}
 use Rattle.existence_laws.proofs.Prelude.{refl, sym, subst, All-nil, All-cons, Hash, LedgerHeader, XdrFault, IsBytes}
 use Rattle.existence_laws.proofs.Prelude.{mark, Position, Reading, start_of, StartImage, start_image_laws}
 use Rattle.existence_laws.proofs.Prelude.{network_id_of, ImageFault, ClosingState, IsClosingState, IsEncoded, header_in}
 use Rattle.existence_laws.proofs.Prelude.{if_complete, read_complete, IsJudged, IsComplete, is_kept, Outcome, silent}
-use Rattle.existence_laws.proofs.Prelude.{IsStarted, IsOutcomeOf, EachRun, EachImage, EachOutcome, same_Some}
+use Rattle.existence_laws.proofs.Prelude.{files_of, IsStarted, IsOutcomeOf, EachRun, EachImage, EachOutcome, same_Some}
 use Rattle.close_laws.specs.xdr_header.Header.{ledger_header}
 use Rattle.close_laws.specs.value_hashes.Hashes.{ledger_hash_of}
 use Rattle.close_laws.specs.xdr_header.Image.{file, files, start_image}
 use Rattle.close_laws.proofs.xdr_header_proofs.HeaderLaws.{ledger_header_laws}
 use Rattle.close_laws.specs.close_rules.declared.image_fault.ImageFault.TheVariants as fault
+use Rattle.page_cache.specs.Caches.{no_pages}
+use Rattle.page_cache.proofs.Warmings.{none_taken_of}
 use Rattle.replay.specs.run_outcome.declared.status.Status.TheVariants as status
 
 -- ---- the state of an image
@@ -38,12 +41,14 @@ judged_state network image s text (h, levels, m, has, kept, is) =
     let entire : IsComplete image h levels m = record {
       header = (has.files.header, header_encoded image.header h text has.files.header.reads);
       files = record { are = has.files.files.files; fit = has.files.files.fit };
-      exists = record { marks = has.marks; existing = has.existing };
-      judged = (has.hash, kept);
+      kept = record {
+        exists = record { marks = has.marks; existing = has.existing };
+        judged = (has.hash, kept);
+      };
     } in
     subst IsClosingState (sym is)
     (is_kept network (ledger_hash_of h) image h m (record { pairs = levels; seq = h.ledger_seq; pending = [] })
-    entire refl refl).state
+    (map no_pages (files_of levels)) entire refl refl (none_taken_of (files_of levels))).state
 
 -- ---- an input
 

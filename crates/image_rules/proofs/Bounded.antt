@@ -1,21 +1,18 @@
 -- What entries have where they are in their ranges.
-use Rattle.image_rules.proofs.Prelude.{◌≡◌, ℕ, refl, ap, subst, ◌∙◌, ℤ, pos, Less, Asset, LedgerHeader, LedgerEntryBody}
-use Rattle.image_rules.proofs.Prelude.{LiquidityPoolEntry, asset_cmp, EntryMap, IsBodyInRange, of_asset, held_in}
-use Rattle.image_rules.proofs.Prelude.{AreInRange, AreTerms, HaveTerms, add_nothing, nonnegative_from_positive}
+use Rattle.image_rules.proofs.Prelude.{◌≡◌, ℕ, refl, ap, subst, ◌∙◌, ℤ, pos, Less, Asset, LedgerEntryBody}
+use Rattle.image_rules.proofs.Prelude.{LiquidityPoolEntry, asset_cmp, IsBodyInRange, of_asset, held_in}
+use Rattle.image_rules.proofs.Prelude.{AreTerms, add_nothing, nonnegative_from_positive}
 use Rattle.ledger_types.specs.declared.asset.Asset.TheVariants as asset
 use Rattle.ledger_types.specs.declared.entry.LedgerEntryBody.TheVariants as body
 
 -- ---- terms
 
-terms_in : (id_pool : ℕ) (b : LedgerEntryBody) → IsBodyInRange id_pool b → AreTerms b
+pub terms_in : (id_pool : ℕ) (b : LedgerEntryBody) → IsBodyInRange id_pool b → AreTerms b
 terms_in id_pool (body.Offer offer) range =
     record { amount = nonnegative_from_positive offer.amount range.amount; price = record { n = range.n; d = range.d } }
 terms_in id_pool (body.TrustLine line) range = range.range.balance
 terms_in id_pool (body.LiquidityPool pool) range = range.assets
 terms_in id_pool other range = tt
-
-pub terms_of : (h : LedgerHeader) (m : EntryMap) → AreInRange h m → HaveTerms m
-terms_of h m range k e there = terms_in h.id_pool e.body (range.entries k e there).body
 
 -- ---- lumens are never the second asset of a pool
 

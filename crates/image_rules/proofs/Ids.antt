@@ -1,5 +1,5 @@
 -- Ranges of entries in their two parts.
-use Rattle.image_rules.proofs.Prelude.{ℕ, LedgerEntryBody, EntryMap, EachEntry, IsBodyInRange, IsEntryInRange}
+use Rattle.image_rules.proofs.Prelude.{ℕ, LedgerEntry, LedgerEntryBody, IsBodyInRange, IsEntryInRange}
 use Rattle.image_rules.proofs.Prelude.{IsBodyInRangeButId, IsEntryInRangeButId, HasPoolId}
 use Rattle.ledger_types.specs.declared.entry.LedgerEntryBody.TheVariants as body
 
@@ -30,17 +30,12 @@ named_in : (id_pool : ℕ) (b : LedgerEntryBody) → IsBodyInRange id_pool b →
 named_in id_pool (body.LiquidityPool pool) range = range.id
 named_in id_pool other range = tt
 
-pub joined : (id_pool : ℕ) (m : EntryMap) → EachEntry (λ k e. IsEntryInRangeButId id_pool e) m
-    → EachEntry (λ k e. HasPoolId e.body) m → EachEntry (λ k e. IsEntryInRange id_pool e) m
-joined id_pool m ranges names k e there =
-    let range = ranges k e there in
-    record { body = joined_in id_pool e.body range.body (names k e there); paid = range.paid }
+pub joined : (id_pool : ℕ) (e : LedgerEntry) → IsEntryInRangeButId id_pool e → HasPoolId e.body
+    → IsEntryInRange id_pool e
+joined id_pool e range named = record { body = joined_in id_pool e.body range.body named; paid = range.paid }
 
-pub parted : (id_pool : ℕ) (m : EntryMap) → EachEntry (λ k e. IsEntryInRange id_pool e) m
-    → EachEntry (λ k e. IsEntryInRangeButId id_pool e) m
-parted id_pool m ranges k e there =
-    let range = ranges k e there in record { body = parted_in id_pool e.body range.body; paid = range.paid }
+pub parted : (id_pool : ℕ) (e : LedgerEntry) → IsEntryInRange id_pool e → IsEntryInRangeButId id_pool e
+parted id_pool e range = record { body = parted_in id_pool e.body range.body; paid = range.paid }
 
-pub named : (id_pool : ℕ) (m : EntryMap) → EachEntry (λ k e. IsEntryInRange id_pool e) m
-    → EachEntry (λ k e. HasPoolId e.body) m
-named id_pool m ranges k e there = named_in id_pool e.body (ranges k e there).body
+pub named : (id_pool : ℕ) (e : LedgerEntry) → IsEntryInRange id_pool e → HasPoolId e.body
+named id_pool e range = named_in id_pool e.body range.body

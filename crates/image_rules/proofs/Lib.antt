@@ -8,4 +8,7 @@ mod Rising
 mod Apart
 mod Judged
 pub mod Distinct
+pub mod Surveying
+mod Agreeing
+mod Tallying
 mod Prelude

@@ -37,13 +37,15 @@ pub use Rattle.entry_map.specs.EntryMap.{EntryMap, IsKeyed}
 pub use Rattle.image_rules.specs.Aggregates.{Agrees, AgreesIn, AreCounts, counted_else, counted_itself, itself, kind_of}
 pub use Rattle.image_rules.specs.Aggregates.{other_owner, own_count, owner_is_paid, payers_pay}
 pub use Rattle.image_rules.specs.Counts.{Adds, CountMap, IsCountOf, count_at, greatest_count}
-pub use Rattle.image_rules.specs.EntryTests.{Passes}
 pub use Rattle.image_rules.specs.OfferSets.{Brings, id_among}
 pub use Rattle.image_rules.specs.PoolRanges.{HasPoolId, IsBodyInRangeButId, IsEntryInRangeButId}
-pub use Rattle.image_rules.specs.RuleLists.{aggregate_rules, sum_rules}
+pub use Rattle.image_rules.specs.RuleLists.{counted_rules}
 pub use Rattle.image_rules.specs.Signers.{ArePayersOthers, IsBelow, IsSignerInRange}
-pub use Rattle.image_rules.specs.Terms.{AreTerms, HaveTerms}
+pub use Rattle.image_rules.specs.Tallies.{IsAgreement, StillAgrees, agrees_in, tally_in}
+pub use Rattle.image_rules.specs.Terms.{AreTerms}
 pub use Rattle.image_rules.specs.declared.aggregates.Aggregate.{Aggregate}
+pub use Rattle.image_rules.specs.declared.agreement.Agreement.{Agreement}
+pub use Rattle.image_rules.specs.declared.survey.Survey.{Survey}
 pub use Rattle.ledger_types.proofs.Arithmetic.{add_assoc, add_nonnegative, add_nothing, add_zero, if_zeros}
 pub use Rattle.ledger_types.proofs.Arithmetic.{indicator_at_most_one, int_cmp_equal, nonnegative_from_positive}
 pub use Rattle.ledger_types.proofs.Arithmetic.{zero_add, zeros_add_to_zero}

@@ -1,9 +1,11 @@
 pub mod PoolRanges
-pub mod EntryTests
 pub mod Signers
 pub mod Counts
 pub mod Aggregates
 pub mod RuleLists
 pub mod Terms
 pub mod OfferSets
+pub mod Tallies
+pub mod Holdings
+pub mod Surveys
 pub use Rattle.close_rules.specs.entry_sums

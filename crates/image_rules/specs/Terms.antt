@@ -6,8 +6,6 @@ use Rattle.ledger_types.specs.declared.entry.LedgerEntryBody.TheVariants as body
 use Rattle.ledger_types.specs.declared.offer.OfferEntry.{OfferEntry}
 use Rattle.ledger_types.specs.KeyOrder.{asset_cmp}
 use Rattle.ledger_types.specs.Prices.{IsPriced}
-use Rattle.entry_map.specs.EntryMap.{EntryMap}
-use Rattle.close_rules.specs.entry_sums.Sums.{EachEntry}
 
 -- an amount of at least 0, and a price whose parts are at least 1
 pub record HasTerms (o : OfferEntry) : Type 0 where
@@ -20,6 +18,3 @@ AreTerms (body.Offer offer) = HasTerms offer
 AreTerms (body.TrustLine line) = pos 0 ≤ℤ line.balance
 AreTerms (body.LiquidityPool pool) = asset_cmp pool.params.asset_a pool.params.asset_b ≡ Less
 AreTerms other = Unit {0}
-
-abbrev pub HaveTerms : EntryMap → Type 0
-HaveTerms m = EachEntry (λ k e. AreTerms e.body) m

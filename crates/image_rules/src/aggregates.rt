@@ -2,18 +2,17 @@
 //! account counts for itself, its signers and its own reserves, is looked at in the account. What an entry counts for
 //! others is in a tally.
 
-ghost use Rattle.std.specs.Prelude.{◌≡◌, ◌+◌, ◌+ℤ◌, ◌↔◌, ℤ, pos, count_by, IsTrue, IfOk, OnOk};
+ghost use Rattle.std.specs.Prelude.{◌≡◌, ◌+◌, ◌+ℤ◌, ◌↔◌, ℤ, pos, count_by, IsTrue, OnOk};
 ghost use Rattle.ledger_types.specs.declared.entry.LedgerEntryBody.TheVariants as body;
 ghost use Rattle.close_rules.specs.sponsor_laws.Sums.{is_there};
 ghost use Rattle.close_rules.specs.legal_rules.Reserves.{for_each, signer_sponsors_in, sponsored_in_entry};
 ghost use Rattle.close_rules.specs.legal_rules.Trades.{sells, buys};
 ghost use Rattle.close_rules.specs.legal_rules.Aggregates.{stated};
-ghost use Rattle.close_rules.specs.legal_rules.Legal.{IsAggregated, pools_in};
-ghost use Rattle.close_rules.specs.EntryRules.{AreOwned};
-ghost use Rattle.image_rules.specs.Terms.{AreTerms, HaveTerms};
+ghost use Rattle.close_rules.specs.legal_rules.Legal.{pools_in};
+ghost use Rattle.image_rules.specs.Terms.{AreTerms};
 ghost use Rattle.image_rules.specs.Counts.{Adds, IsCountOf};
 ghost use Rattle.image_rules.specs.Aggregates.{kind_of, own_count, payers_pay, owner_is_paid, counted_else};
-ghost use Rattle.image_rules.specs.Aggregates.{AreCounts, Agrees};
+ghost use Rattle.image_rules.specs.Aggregates.{Agrees};
 
 use crate::counts::{Tally, add_at, add_for, count_of};
 use crate::holders::holder;
@@ -23,13 +22,12 @@ use crate::shares::{add_share_line, add_shares, add_uses};
 use entry_slots::{
     account_liabilities, line_liabilities, num_sponsored, num_sponsoring, sponsor_in, use_count,
 };
-use entry_table::EntryRow;
 use ledger_types::{
     AccountEntry, AccountId, LedgerEntry, LedgerEntryBody, LedgerKey, LiquidityPoolEntry,
     TrustLineEntry,
 };
-use std::alloc::{AllocError, Global};
-use std::collections::BTreeMap;
+use level_entries::PlacedEntries;
+use std::alloc::AllocError;
 
 /// A number that accounts, lines or pools state, and that all entries together count.
 #[derive(Clone, Copy)]
@@ -76,7 +74,7 @@ fn add_signers(tally: &mut Tally, body: &LedgerEntryBody) -> Result<(), AllocErr
 }
 
 /// Counts what the sponsors in an entry pay.
-fn add_payers(tally: &mut Tally, entry: &LedgerEntry) -> Result<(), AllocError>
+pub fn add_payers(tally: &mut Tally, entry: &LedgerEntry) -> Result<(), AllocError>
     ensures { OnOk result (Adds tally.old tally.new (λ k. payers_pay k entry.now)) }
 {
     add_for(tally, sponsor_in(&entry.ext), multiplicity(&entry.body))?;
@@ -131,10 +129,10 @@ fn add_bought(tally: &mut Tally, body: &LedgerEntryBody) -> Result<(), AllocErro
 }
 
 /// Counts what an entry counts for others in an aggregate.
-fn add_entry(
+pub fn add_entry(
     tally: &mut Tally,
     aggregate: Aggregate,
-    entries: &EntryRow<'_>,
+    entries: &PlacedEntries<'_>,
     entry: &LedgerEntry,
 ) -> Result<(), AllocError>
     requires { AreTerms entry.now.body }
@@ -152,22 +150,6 @@ fn add_entry(
         Aggregate::ShareLines => add_share_line(tally, &entry.body),
         Aggregate::Uses => add_uses(tally, entries, &entry.body),
     }
-}
-
-/// What all entries count for others in an aggregate.
-fn tally_of(
-    alloc: Global,
-    aggregate: Aggregate,
-    entries: &EntryRow<'_>,
-) -> Result<Tally, AllocError>
-    requires { HaveTerms entries.now }
-    ensures { IfOk result (λ tally. AreCounts aggregate entries.now tally) }
-{
-    let mut tally = BTreeMap::new(alloc);
-    for index in 0..entries.len() {
-        add_entry(&mut tally, aggregate, entries, entries.entry(index))?;
-    }
-    Ok(tally)
 }
 
 /// What an account states in an aggregate.
@@ -235,7 +217,7 @@ fn is_count(count: u64, number: i64) -> bool
 }
 
 /// Whether an account, a line or a pool states what is counted for it. What is none of them states nothing.
-fn agrees(tally: &Tally, aggregate: Aggregate, entry: &LedgerEntry) -> bool
+pub fn agrees(tally: &Tally, aggregate: Aggregate, entry: &LedgerEntry) -> bool
     ensures { Agrees tally.now aggregate entry.now result }
 {
     match &entry.body {
@@ -261,32 +243,4 @@ fn agrees(tally: &Tally, aggregate: Aggregate, entry: &LedgerEntry) -> bool
         }
         _ => true,
     }
-}
-
-/// Whether each account, each line and each pool states what is counted for it.
-fn do_all_agree(tally: &Tally, aggregate: Aggregate, entries: &EntryRow<'_>) -> bool
-    requires owned { AreOwned entries.now }
-    requires counted { AreCounts aggregate entries.now tally.now }
-    ensures { IsTrue result ↔ IsAggregated (kind_of aggregate) entries.now }
-{
-    for index in 0..entries.len() {
-        if !agrees(tally, aggregate, entries.entry(index)) {
-            return false;
-        }
-    }
-    true
-}
-
-/// Whether each account, each line and each pool states in an aggregate what all entries count for it.
-pub fn is_aggregated(
-    alloc: Global,
-    aggregate: Aggregate,
-    entries: &EntryRow<'_>,
-) -> Result<bool, AllocError>
-    requires owned { AreOwned entries.now }
-    requires terms { HaveTerms entries.now }
-    ensures { IfOk result (λ kept. IsTrue kept ↔ IsAggregated (kind_of aggregate) entries.now) }
-{
-    let tally = tally_of(alloc, aggregate, entries)?;
-    Ok(do_all_agree(&tally, aggregate, entries))
 }

@@ -4,8 +4,8 @@ ghost use Rattle.std.specs.Prelude.{◌≡◌, IfOk};
 ghost use Rattle.close_rules.specs.legal_rules.Legal.{params_of, pools_in};
 
 use entry_map::Base;
-use entry_table::EntryRow;
 use ledger_types::{Hash, LedgerEntry, LedgerEntryBody, LedgerKey, PoolParams};
+use level_entries::PlacedEntries;
 use std::alloc::AllocError;
 
 /// What decides the id of a pool, if an entry is one.
@@ -22,7 +22,10 @@ fn params_in(entry: &Option<LedgerEntry>) -> Option<PoolParams>
 }
 
 /// What decides a pool's id, if the pool exists.
-pub fn pool_params(entries: &EntryRow<'_>, pool_id: Hash) -> Result<Option<PoolParams>, AllocError>
+pub fn pool_params(
+    entries: &PlacedEntries<'_>,
+    pool_id: Hash,
+) -> Result<Option<PoolParams>, AllocError>
     ensures { IfOk result (λ params. params ≡ pools_in entries.now pool_id) }
 {
     let found = entries.find(&LedgerKey::LiquidityPool { pool_id })?;

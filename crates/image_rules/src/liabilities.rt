@@ -1,20 +1,16 @@
 //! Rule 9: what offers bind is bound where their sellers hold it.
 
-ghost use Rattle.std.specs.Prelude.{◌↔◌, IsTrue, IfOk};
-ghost use Rattle.close_rules.specs.EntryRules.{AreOwned, AreLiable};
-ghost use Rattle.image_rules.specs.Terms.{HaveTerms};
+ghost use Rattle.std.specs.Prelude.{◌↔◌, IsTrue};
+ghost use Rattle.entry_map.specs.EntryMap.{EntryMap};
+ghost use Rattle.close_rules.specs.EntryRules.{AreLiable};
+ghost use Rattle.image_rules.specs.Tallies.{IsAgreement};
 
-use crate::aggregates::{Aggregate, is_aggregated};
-use entry_table::EntryRow;
-use std::alloc::{AllocError, Global};
+use crate::agreement::Agreement;
+use crate::flags::both;
 
 /// Whether liabilities are those of all offers.
-pub fn are_liable(alloc: Global, entries: &EntryRow<'_>) -> Result<bool, AllocError>
-    requires owned { AreOwned entries.now }
-    requires terms { HaveTerms entries.now }
-    ensures { IfOk result (λ kept. IsTrue kept ↔ AreLiable entries.now) }
+pub fn are_liable(agreement: &Agreement) -> bool
+    ensures { (m : EntryMap) → IsAgreement m agreement.now → (IsTrue result ↔ AreLiable m) }
 {
-    let selling = is_aggregated(alloc, Aggregate::Selling, entries)?;
-    let buying = is_aggregated(alloc, Aggregate::Buying, entries)?;
-    Ok(selling && buying)
+    both(agreement.selling, agreement.buying)
 }

@@ -2,14 +2,15 @@
 #![tactic(auto)]
 
 mod aggregates;
-mod authorized;
+mod agreement;
 mod claimables;
 mod counts;
 mod dated;
-mod entry_tests;
 mod existing_pools;
 mod fields;
+mod flags;
 mod holders;
+mod holdings;
 mod liabilities;
 mod lines;
 mod lumens;
@@ -25,6 +26,8 @@ mod shares;
 mod signers;
 mod sponsorship;
 mod subentries;
+mod survey;
+mod tallies;
 mod verdict;
 
 pub use fields::are_fields_in_range;

@@ -2,12 +2,9 @@
 
 ghost use Rattle.std.specs.Prelude.{◌≡◌, ◌↔◌, pos, negsuc, ◌+ℤ◌, ◌≤ℤ◌, IsTrue};
 ghost use Rattle.ledger_types.specs.declared.asset.Asset.TheVariants.{Native};
-ghost use Rattle.close_rules.specs.entry_sums.Sums.{total};
-ghost use Rattle.close_rules.specs.legal_rules.Supply.{held, held_in, of_asset};
-ghost use Rattle.close_rules.specs.EntryRules.{AreLumensCounted};
-ghost use Rattle.image_rules.specs.Terms.{AreTerms, HaveTerms};
+ghost use Rattle.close_rules.specs.legal_rules.Supply.{held_in, of_asset};
+ghost use Rattle.image_rules.specs.Terms.{AreTerms};
 
-use entry_table::EntryRow;
 use ledger_types::{Asset, LedgerEntryBody, LedgerHeader};
 
 /// The lumens in an amount of an asset, both in units of 10^-7.
@@ -22,7 +19,7 @@ fn lumens_among(asset: &Asset, amount: i64) -> i64
 
 /// The lumens that an account, a claimable balance or a pool holds. Lines, offers and data hold none. Lumens are below
 /// all other assets, so they are never the second asset of a pool.
-fn lumens_in(body: &LedgerEntryBody) -> i64
+pub fn lumens_in(body: &LedgerEntryBody) -> i64
     requires { AreTerms body.now }
     ensures value { held_in Native body.now ≡ result }
     ensures low { negsuc 9223372036854775807 ≤ℤ result }
@@ -38,30 +35,10 @@ fn lumens_in(body: &LedgerEntryBody) -> i64
     }
 }
 
-/// The lumens that all entries hold. The sum of all balances may pass 64 bits.
-fn lumens_of(entries: &EntryRow<'_>) -> i128
-    requires { HaveTerms entries.now }
-    ensures { result ≡ total (held Native) entries.now }
-{
-    let mut sum = 0i128;
-    for index in 0..entries.len() {
-        sum += i128::from(lumens_in(&entries.entry(index).body));
-    }
-    sum
-}
-
 /// Whether lumens and the fee pool are the total.
-fn is_total(lumens: i128, fee_pool: i64, total_coins: i64) -> bool
+pub fn is_total(lumens: i128, fee_pool: i64, total_coins: i64) -> bool
     ensures { IsTrue result ↔ ((lumens +ℤ fee_pool) ≡ total_coins) }
 {
     let rest = i128::from(total_coins) - i128::from(fee_pool);
     lumens <= rest && rest <= lumens
-}
-
-/// Whether the lumens that entries hold and the fee pool are the header's total.
-pub fn are_lumens_counted(header: &LedgerHeader, entries: &EntryRow<'_>) -> bool
-    requires { HaveTerms entries.now }
-    ensures { IsTrue result ↔ AreLumensCounted header.now entries.now }
-{
-    is_total(lumens_of(entries), header.fee_pool, header.total_coins)
 }

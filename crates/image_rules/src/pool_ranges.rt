@@ -4,10 +4,8 @@ ghost use Rattle.std.specs.Prelude.{◌≡◌, ◌↔◌, pos, ◌≤ℤ◌, IsT
 ghost use Rattle.std.specs.declared.cmp.Ordering.TheVariants.{Less};
 ghost use Rattle.ledger_types.specs.KeyOrder.{asset_cmp};
 ghost use Rattle.hash_ids.specs.Ids.{pool_id_of};
-ghost use Rattle.close_rules.specs.entry_sums.Sums.{EachEntry};
 ghost use Rattle.image_rules.specs.PoolRanges.{IsPoolInRangeButId, HasPoolId};
 
-use entry_table::EntryRow;
 use hash_ids::pool_id;
 use ledger_types::{Asset, LedgerEntryBody, LiquidityPoolEntry};
 use std::alloc::{AllocError, Global};
@@ -56,24 +54,11 @@ fn is_named_rightly(alloc: Global, pool: &LiquidityPoolEntry) -> Result<bool, Al
 }
 
 /// Whether an entry, if it is a pool, has the id of its assets.
-fn has_pool_id(alloc: Global, body: &LedgerEntryBody) -> Result<bool, AllocError>
+pub fn has_pool_id(alloc: Global, body: &LedgerEntryBody) -> Result<bool, AllocError>
     ensures { IfOk result (λ kept. IsTrue kept ↔ HasPoolId body.now) }
 {
     match body {
         LedgerEntryBody::LiquidityPool(pool) => is_named_rightly(alloc, pool),
         _ => Ok(true),
     }
-}
-
-/// Whether each pool has the id of its assets.
-pub fn have_pool_ids(alloc: Global, entries: &EntryRow<'_>) -> Result<bool, AllocError>
-    ensures { IfOk result (λ kept. IsTrue kept ↔ EachEntry (λ k e. HasPoolId e.body) entries.now) }
-{
-    for index in 0..entries.len() {
-        let named = has_pool_id(alloc, &entries.entry(index).body)?;
-        if !named {
-            return Ok(false);
-        }
-    }
-    Ok(true)
 }

@@ -1,15 +1,15 @@
 //! Rule 12: shares of pools, their lines and what these use are counted, and each pool is filled or empty (CAP-0038).
 
-ghost use Rattle.std.specs.Prelude.{◌≡◌, ◌↔◌, pos, ◌<ℤ◌, IsTrue, IfOk};
+ghost use Rattle.std.specs.Prelude.{◌≡◌, ◌↔◌, pos, ◌<ℤ◌, IsTrue};
+ghost use Rattle.entry_map.specs.EntryMap.{EntryMap};
+ghost use Rattle.close_rules.specs.entry_sums.Sums.{EachEntry};
 ghost use Rattle.close_rules.specs.legal_rules.Bounds.{IsFilledOrEmpty};
-ghost use Rattle.close_rules.specs.EntryRules.{AreOwned, ArePoolsCounted};
-ghost use Rattle.image_rules.specs.Terms.{HaveTerms};
+ghost use Rattle.close_rules.specs.EntryRules.{ArePoolsCounted};
+ghost use Rattle.image_rules.specs.Tallies.{IsAgreement};
 
-use crate::aggregates::{Aggregate, is_aggregated};
-use crate::entry_tests::{EntryTest, do_all_pass};
-use entry_table::EntryRow;
+use crate::agreement::Agreement;
+use crate::flags::both;
 use ledger_types::{LedgerEntryBody, LiquidityPoolEntry};
-use std::alloc::{AllocError, Global};
 
 /// Whether a pool has both reserves, and shares of them.
 fn is_filled(pool: &LiquidityPoolEntry) -> bool
@@ -42,15 +42,12 @@ pub fn is_filled_or_empty(body: &LedgerEntryBody) -> bool
 }
 
 /// Whether each pool states its shares and their lines, and each line how many lines of shares use it, and whether each
-/// pool is filled or empty.
-pub fn are_pools_counted(alloc: Global, entries: &EntryRow<'_>) -> Result<bool, AllocError>
-    requires owned { AreOwned entries.now }
-    requires terms { HaveTerms entries.now }
-    ensures { IfOk result (λ kept. IsTrue kept ↔ ArePoolsCounted entries.now) }
+/// pool is filled or empty, if each is.
+pub fn are_pools_counted(filled: bool, agreement: &Agreement) -> bool
+    ensures { (m : EntryMap) → (IsTrue filled ↔ EachEntry (λ k e. IsFilledOrEmpty e.body) m)
+        → IsAgreement m agreement.now → (IsTrue result ↔ ArePoolsCounted m) }
 {
-    let filled = do_all_pass(EntryTest::Filled, entries);
-    let shares = is_aggregated(alloc, Aggregate::Shares, entries)?;
-    let lines = is_aggregated(alloc, Aggregate::ShareLines, entries)?;
-    let uses = is_aggregated(alloc, Aggregate::Uses, entries)?;
-    Ok(filled && shares && lines && uses)
+    let shares = both(agreement.shares, agreement.share_lines);
+    let counted = both(shares, agreement.uses);
+    both(filled, counted)
 }

@@ -1,28 +1,19 @@
 //! Rule 7: each entry is in its ranges.
 
-ghost use Rattle.std.specs.Prelude.{◌≢◌, ◌↔◌, None, IsTrue, IfOk};
+ghost use Rattle.std.specs.Prelude.{◌≢◌, ◌↔◌, None, IsTrue};
 ghost use Rattle.sponsor_rules.specs.reserve_rules.Reserve.{IsInRange};
-ghost use Rattle.close_rules.specs.entry_sums.Sums.{EachEntry};
-ghost use Rattle.close_rules.specs.legal_rules.Dated.{AreDated};
 ghost use Rattle.close_rules.specs.legal_rules.Ranges as spec;
-ghost use Rattle.close_rules.specs.EntryRules.{AreInRange};
 ghost use Rattle.image_rules.specs.PoolRanges.{IsBodyInRangeButId, IsEntryInRangeButId};
 
-use crate::authorized::are_all_authorized;
 use crate::claimables::is_claimable_in_range;
-use crate::entry_tests::{EntryTest, do_all_pass};
 use crate::lines::is_line_in_range;
 use crate::offers::is_offer_in_range;
 use crate::parts::owner_of;
-use crate::pool_ranges::{have_pool_ids, is_pool_in_range};
+use crate::pool_ranges::is_pool_in_range;
 use crate::room::fits_within;
 use crate::signers::are_signers_in_range;
 use entry_slots::{account_liabilities, sponsor_in};
-use entry_table::EntryRow;
-use ledger_types::{
-    AccountEntry, AccountId, DataEntry, LedgerEntry, LedgerEntryBody, LedgerHeader,
-};
-use std::alloc::AllocError;
+use ledger_types::{AccountEntry, AccountId, DataEntry, LedgerEntry, LedgerEntryBody};
 use valid_values::is_valid_text;
 
 /// Whether an account's balance and liabilities are in their ranges.
@@ -101,39 +92,4 @@ pub fn is_entry_in_range(id_pool: u64, entry: &LedgerEntry) -> bool
     let body = is_body_in_range(id_pool, &entry.body);
     let paid = is_paid_rightly(&entry.body, sponsor_in(&entry.ext));
     body && paid
-}
-
-/// Whether each entry is in its ranges.
-fn are_all_in_range(header: &LedgerHeader, entries: &EntryRow<'_>) -> Result<bool, AllocError>
-    ensures { IfOk result (λ kept.
-        IsTrue kept ↔ EachEntry (λ k e. spec.IsEntryInRange header.now.id_pool e) entries.now) }
-{
-    let test = EntryTest::InRange {
-        id_pool: header.id_pool,
-    };
-    let within = do_all_pass(test, entries);
-    let named = have_pool_ids(header.scp_value.upgrades.allocator(), entries)?;
-    Ok(within && named)
-}
-
-/// Whether each account is dated by a header.
-fn are_dated(header: &LedgerHeader, entries: &EntryRow<'_>) -> bool
-    ensures { IsTrue result ↔ AreDated header.now entries.now }
-{
-    let test = EntryTest::Dated {
-        version: header.ledger_version,
-        seq: header.ledger_seq,
-        close_time: header.scp_value.close_time,
-    };
-    do_all_pass(test, entries)
-}
-
-/// Whether each entry is in its ranges, each account is dated, and the lines of offers are authorised.
-pub fn are_in_range(header: &LedgerHeader, entries: &EntryRow<'_>) -> Result<bool, AllocError>
-    ensures { IfOk result (λ kept. IsTrue kept ↔ AreInRange header.now entries.now) }
-{
-    let within = are_all_in_range(header, entries)?;
-    let dated = are_dated(header, entries);
-    let authorized = are_all_authorized(entries);
-    Ok(within && dated && authorized)
 }

@@ -9,10 +9,10 @@ ghost use Rattle.image_rules.specs.Counts.{Adds};
 use crate::counts::{Tally, add_at};
 use crate::existing_pools::pool_params;
 use crate::holders::needed_line;
-use entry_table::EntryRow;
 use ledger_types::{
     AccountId, LedgerEntryBody, LedgerKey, PoolParams, TrustLineAsset, TrustLineEntry,
 };
+use level_entries::PlacedEntries;
 use std::alloc::AllocError;
 
 /// The pool whose shares a line is in.
@@ -85,7 +85,7 @@ fn add_uses_in(
 /// Counts one for each of the lines that an account needs for its line, if that is one of pool shares.
 fn add_uses_by(
     tally: &mut Tally,
-    entries: &EntryRow<'_>,
+    entries: &PlacedEntries<'_>,
     id: &AccountId,
     asset: &TrustLineAsset,
 ) -> Result<(), AllocError>
@@ -103,7 +103,7 @@ fn add_uses_by(
 /// Counts one for each of the lines that the holder of pool shares needs.
 pub fn add_uses(
     tally: &mut Tally,
-    entries: &EntryRow<'_>,
+    entries: &PlacedEntries<'_>,
     body: &LedgerEntryBody,
 ) -> Result<(), AllocError>
     ensures { OnOk result (Adds tally.old tally.new (λ k. spec.uses (pools_in entries.now) k body.now)) }

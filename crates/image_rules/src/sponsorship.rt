@@ -1,16 +1,16 @@
 //! Rule 11: sponsored reserves are counted, for those who pay and those who are paid for.
 
-ghost use Rattle.std.specs.Prelude.{◌↔◌, IsTrue, IfOk};
+ghost use Rattle.std.specs.Prelude.{◌↔◌, IsTrue};
+ghost use Rattle.entry_map.specs.EntryMap.{EntryMap};
+ghost use Rattle.close_rules.specs.entry_sums.Sums.{EachEntry};
 ghost use Rattle.close_rules.specs.legal_rules.Bounds.{DoReservesFit};
-ghost use Rattle.close_rules.specs.EntryRules.{AreOwned, AreSponsorsCounted};
-ghost use Rattle.image_rules.specs.Terms.{HaveTerms};
+ghost use Rattle.close_rules.specs.EntryRules.{AreSponsorsCounted};
+ghost use Rattle.image_rules.specs.Tallies.{IsAgreement};
 
-use crate::aggregates::{Aggregate, is_aggregated};
-use crate::entry_tests::{EntryTest, do_all_pass};
+use crate::agreement::Agreement;
+use crate::flags::both;
 use entry_slots::num_sponsoring;
-use entry_table::EntryRow;
 use ledger_types::LedgerEntryBody;
-use std::alloc::{AllocError, Global};
 
 /// Whether an account's subentries and the reserves that it pays as a sponsor fit 32 bits together.
 pub fn do_reserves_fit(body: &LedgerEntryBody) -> bool
@@ -24,14 +24,11 @@ pub fn do_reserves_fit(body: &LedgerEntryBody) -> bool
     }
 }
 
-/// Whether each account states how many reserves it pays and how many of its own others pay.
-pub fn are_sponsors_counted(alloc: Global, entries: &EntryRow<'_>) -> Result<bool, AllocError>
-    requires owned { AreOwned entries.now }
-    requires terms { HaveTerms entries.now }
-    ensures { IfOk result (λ kept. IsTrue kept ↔ AreSponsorsCounted entries.now) }
+/// Whether each account states how many reserves it pays and how many of its own others pay, and these fit, if all fit.
+pub fn are_sponsors_counted(fitting: bool, agreement: &Agreement) -> bool
+    ensures { (m : EntryMap) → (IsTrue fitting ↔ EachEntry (λ k e. DoReservesFit e.body) m)
+        → IsAgreement m agreement.now → (IsTrue result ↔ AreSponsorsCounted m) }
 {
-    let fits = do_all_pass(EntryTest::Fitting, entries);
-    let sponsoring = is_aggregated(alloc, Aggregate::Sponsoring, entries)?;
-    let sponsored = is_aggregated(alloc, Aggregate::Sponsored, entries)?;
-    Ok(fits && sponsoring && sponsored)
+    let sponsors = both(agreement.sponsoring, agreement.sponsored);
+    both(fitting, sponsors)
 }

@@ -1,15 +1,15 @@
 //! Rule 10: subentries are counted, and few.
 
-ghost use Rattle.std.specs.Prelude.{◌↔◌, IsTrue, IfOk};
+ghost use Rattle.std.specs.Prelude.{◌↔◌, IsTrue};
+ghost use Rattle.entry_map.specs.EntryMap.{EntryMap};
+ghost use Rattle.close_rules.specs.entry_sums.Sums.{EachEntry};
 ghost use Rattle.close_rules.specs.legal_rules.Bounds.{AreSubentriesFew};
-ghost use Rattle.close_rules.specs.EntryRules.{AreOwned, AreSubentriesCounted};
-ghost use Rattle.image_rules.specs.Terms.{HaveTerms};
+ghost use Rattle.close_rules.specs.EntryRules.{AreSubentriesCounted};
+ghost use Rattle.image_rules.specs.Tallies.{IsAgreement};
 
-use crate::aggregates::{Aggregate, is_aggregated};
-use crate::entry_tests::{EntryTest, do_all_pass};
-use entry_table::EntryRow;
+use crate::agreement::Agreement;
+use crate::flags::both;
 use ledger_types::LedgerEntryBody;
-use std::alloc::{AllocError, Global};
 
 /// Whether an account has at most 1000 subentries.
 pub fn are_subentries_few(body: &LedgerEntryBody) -> bool
@@ -21,13 +21,10 @@ pub fn are_subentries_few(body: &LedgerEntryBody) -> bool
     }
 }
 
-/// Whether each account states how many subentries it has, and has few.
-pub fn are_subentries_counted(alloc: Global, entries: &EntryRow<'_>) -> Result<bool, AllocError>
-    requires owned { AreOwned entries.now }
-    requires terms { HaveTerms entries.now }
-    ensures { IfOk result (λ kept. IsTrue kept ↔ AreSubentriesCounted entries.now) }
+/// Whether each account states how many subentries it has, and has few, if each has few.
+pub fn are_subentries_counted(few: bool, agreement: &Agreement) -> bool
+    ensures { (m : EntryMap) → (IsTrue few ↔ EachEntry (λ k e. AreSubentriesFew e.body) m) → IsAgreement m agreement.now
+        → (IsTrue result ↔ AreSubentriesCounted m) }
 {
-    let few = do_all_pass(EntryTest::Few, entries);
-    let aggregated = is_aggregated(alloc, Aggregate::Subentries, entries)?;
-    Ok(few && aggregated)
+    both(few, agreement.subentries)
 }

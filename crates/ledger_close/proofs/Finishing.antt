@@ -71,8 +71,8 @@ headed s closing given next e1 e2 e3 e4 e5 e6 is =
 -- ---- the close
 
 pub closes : (s : ClosingState) (closing : CloseRecord) (worked : Worked) (step : LevelsAfter) → Leaves s closing worked
-    → IsLeveled s (all_upgraded s.header (map upgrade_in closing.scp_value.upgrades)).ledger_version (entries_after s worked)
-    step
+    → IsLeveled s (all_upgraded s.header (map upgrade_in closing.scp_value.upgrades)).ledger_version
+    (entries_after s worked) step
     → IsClosed s closing (record {
       results = worked.done.results.results;
       state = state_of s.network (finished (upgraded_header s closing) (list_hash step.pairs)) step.pairs

@@ -7,7 +7,7 @@ use prelude.{Position, start_of, StartImage, ledger_header, ledger_hash_of, Entr
 use prelude.{Contents, change_at, HasFile, items_of, item_of, Pair, LevelsAt, list_hash, file_total, ImageFault}
 use prelude.{ImageRule, IsClosingState, IsEncoded, max_file_total, IsFirstBroken, entry_rules, header_in, read_complete}
 use prelude.{if_complete, AreFilesOf, HasHeader, HasLevels, HasEntries, IsJudged, state_of, IsKept, JudgesImage}
-use prelude.{IsFileFault, IsHeaderJudged, DoFilesFit, Lists, AreJudged}
+use prelude.{IsFileFault, IsHeaderJudged, DoFilesFit, IsMarksFault, Lists, AreJudged, AreKept, AreRefused}
 use Rattle.xdr_core.specs.Leaves.{i32}
 use Rattle.bucket_core.specs.xdr_entries.Entries.{ledger_entry}
 use Rattle.entry_table.specs.entry_changes.Encodable.{IsEntryEncodable, AreEncodable}
@@ -23,6 +23,8 @@ use Rattle.close_rules.specs.declared.image_fault.ImageFault.TheVariants as faul
 use Rattle.close_rules.specs.declared.image_fault.ImageRule.TheVariants as rule
 use Rattle.close_laws.proofs.StateImages.{number_of_levels}
 use Rattle.ledger_close.proofs.Files.{HasBoth, OneFile, levels_are_one}
+use Rattle.page_cache.specs.Pages.{CacheAt}
+use Rattle.page_cache.specs.Caches.{contents_in}
 
 -- ---- the header
 
@@ -104,7 +106,7 @@ pub has_entries : (image : StartImage) (h : LedgerHeader) (levels : List Pair) (
 has_entries image h levels m has exists hash =
     record { files = has; marks = exists.marks; hash = hash; existing = exists.existing }
 
-pub by_entries : (network : Hash) (image : StartImage) (h : LedgerHeader) (levels : List Pair) (m : EntryMap)
+by_entries : (network : Hash) (image : StartImage) (h : LedgerHeader) (levels : List Pair) (m : EntryMap)
     (wrong : ImageFault) → HasLevels image h levels → Lists levels m → AreJudged h levels m (Err wrong)
     → JudgesImage network image (Err wrong)
 by_entries network image h levels m fault.NoMemory has exists f = tt
@@ -138,6 +140,29 @@ by_entries network image h levels m (fault.BadImage rule.Pools) has exists f =
     (h, levels, m, has_entries image h levels m has exists f.0, f.1)
 by_entries network image h levels m (fault.BadImage rule.Lumens) has exists f =
     (h, levels, m, has_entries image h levels m has exists f.0, f.1)
+
+-- levels that aren't marked well
+by_marks : (network : Hash) (image : StartImage) (h : LedgerHeader) (levels : List Pair) (wrong : ImageFault)
+    → HasLevels image h levels → IsMarksFault levels wrong → JudgesImage network image (Err wrong)
+by_marks network image h levels fault.NoMemory has f = tt
+by_marks network image h levels (fault.BadImage rule.Marks) has f = (h, levels, has, f)
+by_marks network image h levels (fault.BadImage rule.Header) has f = absurd f
+by_marks network image h levels (fault.BadImage rule.Version) has f = absurd f
+by_marks network image h levels (fault.BadImage rule.Fields) has f = absurd f
+by_marks network image h levels (fault.BadImage rule.Bucket) has f = absurd f
+by_marks network image h levels (fault.BadImage rule.ListHash) has f = absurd f
+by_marks network image h levels (fault.BadImage rule.Entry) has f = absurd f
+by_marks network image h levels (fault.BadImage rule.Owner) has f = absurd f
+by_marks network image h levels (fault.BadImage rule.Liabilities) has f = absurd f
+by_marks network image h levels (fault.BadImage rule.Subentries) has f = absurd f
+by_marks network image h levels (fault.BadImage rule.Sponsorship) has f = absurd f
+by_marks network image h levels (fault.BadImage rule.Pools) has f = absurd f
+by_marks network image h levels (fault.BadImage rule.Lumens) has f = absurd f
+
+pub by_levels : (network : Hash) (image : StartImage) (h : LedgerHeader) (levels : List Pair) (wrong : ImageFault)
+    → HasLevels image h levels → AreRefused h levels wrong → JudgesImage network image (Err wrong)
+by_levels network image h levels wrong has (inl marks) = by_marks network image h levels wrong has marks
+by_levels network image h levels wrong has (inr f) = by_entries network image h levels f.0 wrong has f.1 f.2
 
 -- ---- what is in files
 
@@ -287,24 +312,25 @@ is_closing network image h levels m has encoded kept = record {
 pub record IsComplete (image : StartImage) (h : LedgerHeader) (levels : List Pair) (m : EntryMap) : Type 0 where
   pub header : IsHeaderJudged image (Ok h)
   pub files : DoFilesFit image.files levels
-  pub exists : Lists levels m
-  pub judged : AreJudged h levels m (Ok tt)
+  pub kept : AreKept h levels m
 
 complete_has : (image : StartImage) (h : LedgerHeader) (levels : List Pair) (m : EntryMap) → IsComplete image h levels m
     → HasEntries image h levels m
 complete_has image h levels m w =
-    has_entries image h levels m (has_levels image h levels w.header.0 w.files) w.exists w.judged.0
+    has_entries image h levels m (has_levels image h levels w.header.0 w.files) w.kept.exists w.kept.judged.0
 
 pub is_kept : (network digest : Hash) (image : StartImage) (h : LedgerHeader) (m : EntryMap) (levels : LevelsAt)
-    → IsComplete image h levels.pairs m → digest ≡ ledger_hash_of h → levels.seq ≡ h.ledger_seq
-    → IsKept network digest h m levels.pairs levels.seq
-is_kept network digest image h m levels w hashed number = record {
-  state = is_closing network image h levels.pairs m (complete_has image h levels.pairs m w) w.header.1 w.judged.1;
+    (caches : List CacheAt) → IsComplete image h levels.pairs m → digest ≡ ledger_hash_of h
+    → levels.seq ≡ h.ledger_seq → contents_in caches ≡ files_of levels.pairs
+    → IsKept network digest h m levels.pairs levels.seq caches
+is_kept network digest image h m levels caches w hashed number files = record {
+  state = is_closing network image h levels.pairs m (complete_has image h levels.pairs m w) w.header.1 w.kept.judged.1;
   hashed = hashed;
   number = number;
+  files = files;
 }
 
 pub complete_judged : (network : Hash) (image : StartImage) (h : LedgerHeader) (levels : List Pair) (m : EntryMap)
     → IsComplete image h levels m → IsJudged network image (Ok (state_of network h levels m))
 complete_judged network image h levels m w =
-    (h, levels, m, complete_has image h levels m w, w.judged.1, refl)
+    (h, levels, m, complete_has image h levels m w, w.kept.judged.1, refl)

@@ -46,7 +46,8 @@ pub use Rattle.ledger_close.specs.Closing.{IsClosedBy, IsFinished, prepared_in}
 pub use Rattle.ledger_close.specs.Counted.{AreSteps, AreStepsTo, AreStepsWith}
 pub use Rattle.ledger_close.specs.Heading.{IsDone, filled}
 pub use Rattle.ledger_close.specs.ImageFiles.{IsFileFault, IsFileOf, IsNoFile, fault_of}
-pub use Rattle.ledger_close.specs.Judging.{AreJudged, DoFilesFit, IsHeaderJudged, Lists}
+pub use Rattle.ledger_close.specs.Judging.{AreJudged, AreKept, AreRefused, DoFilesFit, IsHeaderJudged, IsMarksFault}
+pub use Rattle.ledger_close.specs.Judging.{Lists}
 pub use Rattle.ledger_close.specs.Leveled.{IsLeveled}
 pub use Rattle.ledger_close.specs.States.{IsKept, LedgerAt}
 pub use Rattle.ledger_close.specs.Worked.{Leaves, entries_after}

@@ -8,6 +8,7 @@ use Rattle.close_rules.specs.declared.close_fault.CloseFault.TheVariants as faul
 use Rattle.close_rules.specs.State.{ClosingState, max_file_total}
 use Rattle.close_rules.specs.Refusals.{record_fault, record_in}
 use Rattle.close_rules.specs.Close.{PreparedClose, IsClosed}
+use Rattle.ledger_close.specs.States.{PreparedAt, close_of}
 use Rattle.ledger_close.specs.declared.prepared.DetailedClose.{DetailedClose}
 
 -- a record that isn't refused for what it is closes the ledger, or would with files that are too long
@@ -29,14 +30,18 @@ IsClosedBy s closing (Err wrong) = record_fault s closing ≡ Some wrong
 
 -- ---- details
 
+abbrev pub close_in : Result PreparedAt CloseFault → Result PreparedClose CloseFault
+close_in (Ok prepared) = Ok (close_of prepared)
+close_in (Err wrong) = Err wrong
+
 abbrev pub prepared_in : Result DetailedClose CloseFault → Result PreparedClose CloseFault
-prepared_in (Ok close) = Ok close.prepared
+prepared_in (Ok close) = Ok (close_of close.prepared)
 prepared_in (Err wrong) = Err wrong
 
 -- its set is that of a record, and its batch lists what differs between the entries before and after it
 pub record IsDetailOf (s : ClosingState) (closing : CloseRecord) (close : DetailedClose) : Type 0 where
   pub set : close.set ≡ closing.tx_set
-  pub batch : IsExactBatch s.entries close.prepared.state.entries close.batch
+  pub batch : IsExactBatch s.entries close.prepared.state.entries close.prepared.batch
 
 -- the same, of a record which are these bytes
 abbrev pub IsDetail : ClosingState → (bytes : List ℕ) → DetailedClose → Type 0

@@ -1,9 +1,11 @@
 -- How far an image was judged.
-use Rattle.std.specs.Prelude.{◌≡◌, ◌≢◌, ◌≤◌, ℕ, List, Some, None, Result, Ok, Err}
+use Rattle.std.specs.Prelude.{◌≡◌, ◌≢◌, ◌≤◌, ◌⊎◌, ℕ, List, Some, None, Result, Ok, Err}
 use Rattle.ledger_types.specs.declared.header.LedgerHeader.{LedgerHeader}
 use Rattle.xdr_header.specs.declared.image.StartImage.{StartImage}
 use Rattle.xdr_header.specs.Header.{ledger_header}
 use Rattle.entry_map.specs.EntryMap.{EntryMap}
+use Rattle.entry_map.specs.Indexes.{PositionMap}
+use Rattle.level_pages.specs.Represented.{AreCounted}
 use Rattle.bucket_levels.specs.Pairs.{Pair}
 use Rattle.bucket_levels.specs.Meaning.{AreWellMarked, Represent}
 use Rattle.bucket_levels.specs.Hash.{list_hash}
@@ -59,3 +61,22 @@ AreJudged h levels m (Err fault.NoMemory) = Unit {0}
 AreJudged h levels m (Err (fault.BadImage rule.ListHash)) = list_hash levels ≢ h.bucket_list_hash
 AreJudged h levels m (Err (fault.BadImage other)) =
     (list_hash levels ≡ h.bucket_list_hash) × IsFirstBroken h m entry_rules (Some other)
+
+-- the levels aren't marked well, or their hash or their entries break a rule
+abbrev pub AreRefused : LedgerHeader → List Pair → ImageFault → Type 0
+AreRefused h levels wrong =
+    IsMarksFault levels wrong ⊎ ((m : EntryMap) × Lists levels m × AreJudged h levels m (Err wrong))
+
+-- the levels and their entries keep all rules
+pub record AreKept (h : LedgerHeader) (levels : List Pair) (m : EntryMap) : Type 0 where
+  pub exists : Lists levels m
+  pub judged : AreJudged h levels m (Ok tt)
+
+-- the rules after that of files were judged: with the entries, or with the index of offers and the number of them
+abbrev pub AreLevelsJudged : LedgerHeader → List Pair → Result EntryMap ImageFault → Type 0
+AreLevelsJudged h levels (Ok m) = AreKept h levels m
+AreLevelsJudged h levels (Err wrong) = AreRefused h levels wrong
+
+abbrev pub AreLevelsCounted : LedgerHeader → List Pair → Result (PositionMap × ℕ) ImageFault → Type 0
+AreLevelsCounted h levels (Ok counted) = (m : EntryMap) × AreKept h levels m × AreCounted m counted.0 counted.1
+AreLevelsCounted h levels (Err wrong) = AreRefused h levels wrong

@@ -10,3 +10,4 @@ pub mod Judging
 pub use Rattle.bucket_levels.specs as bucket_levels
 pub use Rattle.close_laws.specs as close_laws
 pub use Rattle.image_rules.specs as image_rules
+pub use Rattle.page_cache.specs as page_cache

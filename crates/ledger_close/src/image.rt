@@ -5,7 +5,6 @@ ghost use Rattle.xdr_header.specs.Header.{ledger_header};
 ghost use Rattle.xdr_header.specs.Image.{start_image};
 ghost use Rattle.bucket_levels.specs.Spills.{level_count};
 ghost use Rattle.bucket_levels.specs.Levels.{pair_of};
-ghost use Rattle.bucket_levels.specs.Meaning.{Represent};
 ghost use Rattle.bucket_levels.specs.Pairs.{Pair};
 ghost use Rattle.bucket_levels.specs.Pending.{AreUndrawnAt};
 ghost use Rattle.close_rules.specs.Images.{IsJudged};
@@ -20,13 +19,13 @@ use bucket_core::laws::a_file_is_of_one_bucket;
 use bucket_levels::{LevelPair, Levels};
 use close_laws::images::images_represent_states;
 use close_rules::{ImageFault, ImageRule};
-use entry_map::Base;
-use entry_table::EntryTable;
+use entry_map::{Base, OfferIndex};
 use image_rules::{are_fields_in_range, first_broken};
 use item_list::ItemList;
 use ledger_types::{Hash, LedgerHeader};
-use level_entries::level_entries;
+use level_entries::{PlacedEntries, level_entries};
 use level_pages::{StoredEntries, share_pairs};
+use page_cache::LevelCaches;
 use std::alloc::{AllocError, Global};
 use value_hashes::ledger_hash;
 use xdr_core::{Builder, Cursor, ReadFault};
@@ -103,7 +102,7 @@ fn judge_files(alloc: Global, files: ItemList<ItemList<u8>>) -> Result<Vec<Level
 }
 
 /// The entries that levels represent, by the rule on marks.
-fn judge_marks(alloc: Global, pairs: &[LevelPair]) -> Result<EntryTable, ImageFault>
+fn judge_marks<'a>(alloc: Global, pairs: &'a [LevelPair]) -> Result<PlacedEntries<'a>, ImageFault>
     requires { length pairs.now ≡ level_count }
     ensures ok { IfOk result (λ entries. judging.Lists (map pair_of pairs.now) entries) }
     ensures bad { IfErr result (λ wrong. judging.IsMarksFault (map pair_of pairs.now) wrong) }
@@ -112,20 +111,6 @@ fn judge_marks(alloc: Global, pairs: &[LevelPair]) -> Result<EntryTable, ImageFa
         Some(entries) => Ok(entries),
         None => Err(broken(ImageRule::Marks)),
     }
-}
-
-/// The entries of a table, found in the files that represent them, beside the index of the offers among them.
-fn stored_entries(
-    alloc: Global,
-    pairs: &[LevelPair],
-    table: &EntryTable,
-) -> Result<StoredEntries, AllocError>
-    requires { Represent (map pair_of pairs.now) table.now }
-    ensures { IfOk result (λ entries. entries ≡ table.now) }
-{
-    let offers = table.offers()?;
-    let shared = share_pairs(alloc, pairs)?;
-    Ok(StoredEntries::new(shared, offers, table.len()))
 }
 
 /// Whether two hashes are one.
@@ -139,7 +124,7 @@ fn is_same_hash(a: &Hash, b: &Hash) -> bool
 fn judge_entries(
     header: &LedgerHeader,
     levels: &Levels,
-    entries: &EntryTable,
+    entries: &PlacedEntries<'_>,
 ) -> Result<(), ImageFault>
     ensures { judging.AreJudged header.now levels.now.pairs entries.now result }
 {
@@ -149,6 +134,47 @@ fn judge_entries(
     match first_broken(header, entries)? {
         None => Ok(()),
         Some(rule) => Err(broken(rule)),
+    }
+}
+
+/// The index of the offers in levels and the number of their entries, by the rules after that of files. Entries are
+/// decoded one at a time.
+fn judge_levels(
+    alloc: Global,
+    header: &LedgerHeader,
+    levels: &Levels,
+    pairs: &[LevelPair],
+) -> Result<(OfferIndex, usize), ImageFault>
+    requires count { length pairs.now ≡ level_count }
+    requires same { map pair_of pairs.now ≡ levels.now.pairs }
+    ensures { judging.AreLevelsCounted header.now levels.now.pairs result }
+{
+    let placed = match judge_marks(alloc, pairs) {
+        Ok(placed) => placed,
+        Err(fault) => return Err(fault),
+    };
+    match judge_entries(header, levels, &placed) {
+        Ok(()) => {}
+        Err(fault) => return Err(fault),
+    }
+    let offers = placed.offers()?;
+    Ok((offers, placed.len()))
+}
+
+/// The entries of levels, found in their files, by the rules after that of files.
+fn judged_entries(
+    alloc: Global,
+    header: &LedgerHeader,
+    levels: &Levels,
+    pairs: Vec<LevelPair>,
+) -> Result<StoredEntries, ImageFault>
+    requires count { length pairs.items ≡ level_count }
+    requires same { map pair_of pairs.items ≡ levels.now.pairs }
+    ensures { judging.AreLevelsJudged header.now levels.now.pairs result }
+{
+    match judge_levels(alloc, header, levels, pairs.as_slice()) {
+        Ok((offers, len)) => Ok(StoredEntries::new(pairs, offers, len)),
+        Err(fault) => Err(fault),
     }
 }
 
@@ -180,22 +206,20 @@ impl Ledger {
             Ok(pairs) => pairs,
             Err(fault) => return Err(fault),
         };
-        let table = match judge_marks(alloc, pairs.as_slice()) {
-            Ok(table) => table,
+        let shared = share_pairs(alloc, pairs.as_slice())?;
+        let caches = LevelCaches::new(alloc, pairs.as_slice())?;
+        let levels = Levels::restart(pairs, header.ledger_seq)?;
+        let entries = match judged_entries(alloc, &header, &levels, shared) {
+            Ok(entries) => entries,
             Err(fault) => return Err(fault),
         };
-        let entries = stored_entries(alloc, pairs.as_slice(), &table)?;
-        let levels = Levels::restart(pairs, header.ledger_seq)?;
-        match judge_entries(&header, &levels, &table) {
-            Ok(()) => {}
-            Err(fault) => return Err(fault),
-        }
         Ok(Ledger {
             network,
             header,
             digest,
             entries,
             levels,
+            caches,
         })
     }
 

@@ -5,6 +5,8 @@ ghost use Rattle.std.specs.FinMap.{entries, get};
 ghost use Rattle.value_hashes.specs.Hashes.{ledger_hash_of};
 ghost use Rattle.close_laws.specs.op_form.Sequences.{last_seq};
 ghost use Rattle.bucket_levels.specs.Pending.{AreRenewed};
+ghost use Rattle.page_cache.specs.Caches.{AreMoved};
+ghost use Rattle.ledger_close.specs.States.{close_of};
 ghost use Rattle.close_rules.specs.Close.{IsClose};
 ghost use Rattle.close_rules.specs.State.{IsClosingState};
 
@@ -14,12 +16,13 @@ use close_laws::closes::{next_is_closing, taken_is_closable};
 use entry_map::{Base, OfferIndex};
 use ledger_types::{Hash, LedgerEntry, LedgerHeader, LedgerKey};
 use level_pages::StoredEntries;
+use page_cache::LevelCaches;
 use std::alloc::AllocError;
 use std::marker::Model;
 
 /// A ledger after its last close: its header, the files of its levels, and its entries, which are looked up in the
-/// files. Contracts see these, with the network that its transactions are signed for, and what is there of the merge
-/// that is pending into each level.
+/// files. Contracts see these, with the network that its transactions are signed for, what is there of the merge that is
+/// pending into each level, and the caches of the files, from the newest to the oldest.
 #[derive(Drop)]
 pub struct Ledger {
     pub(crate) network: Hash,
@@ -28,6 +31,8 @@ pub struct Ledger {
     pub(crate) digest: Hash,
     pub(crate) entries: StoredEntries,
     pub(crate) levels: Levels,
+    // Pages of the files that were asked for last.
+    pub(crate) caches: LevelCaches,
 }
 
 impl Model for Ledger {
@@ -41,9 +46,10 @@ impl Model for Ledger {
     ghost view = { λ l. record {
       state = state_of l.network l.header l.levels.pairs l.entries;
       pending = l.levels.pending;
+      caches = l.caches;
     } };
 
-    ghost invariant = { λ l. IsKept l.network l.digest l.header l.entries l.levels.pairs l.levels.seq };
+    ghost invariant = { λ l. IsKept l.network l.digest l.header l.entries l.levels.pairs l.levels.seq l.caches };
 }
 
 impl Ledger {
@@ -86,9 +92,11 @@ impl Ledger {
 
     /// The ledger takes a close that was prepared from it, of a record of at most 16777216 bytes. It takes no memory.
     pub fn install(&mut self, prepared: Prepared)
-        requires { (bytes : List ℕ) × IsClose self.old.state bytes (Ok prepared) × (length bytes ≤ 16777216) }
+        requires { (bytes : List ℕ) × IsClose self.old.state bytes (Ok (close_of prepared))
+            × (length bytes ≤ 16777216) }
         ensures state { self.new.state ≡ prepared.state }
         ensures pending { AreRenewed prepared.state.header.ledger_seq self.old.pending self.new.pending }
+        ensures caches { AreMoved prepared.state.header.ledger_seq prepared.state.levels self.old.caches self.new.caches }
     {
         taken_is_closable();
         next_is_closing();
@@ -98,9 +106,12 @@ impl Ledger {
             header,
             digest,
             entries,
+            batch: _,
             step,
+            caches,
         } = prepared;
         self.levels.take_step(step);
+        self.caches.take(caches);
         self.network = network;
         self.header = header;
         self.digest = digest;

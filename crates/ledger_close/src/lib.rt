@@ -13,9 +13,11 @@ mod prepare;
 mod prepared;
 mod refusals;
 mod view;
+mod warming;
 
 pub use close_laws;
 pub use close_rules::{CloseFault, ImageFault, ImageRule};
+pub use entry_map::Batch;
 pub use ledger::Ledger;
 pub use prepared::{DetailedClose, Prepared};
 pub use view::View;

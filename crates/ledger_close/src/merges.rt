@@ -15,6 +15,7 @@ impl Ledger {
         ensures none { IfNone result (NoneWaits (levels_at self.old)) }
         ensures kept { IfNone result (self.new ≡ self.old) }
         ensures state { self.new.state ≡ self.old.state }
+        ensures caches { self.new.caches ≡ self.old.caches }
         ensures drawn { IfSome result (λ job. Draws (levels_at self.old) job (levels_at self.new)) }
     {
         self.levels.next_job()
@@ -26,6 +27,7 @@ impl Ledger {
     pub fn hand_in(&mut self, out: MergeOut) -> Result<(), HandInBack>
         ensures taken { OnOk result (TakesIn (levels_at self.old) out (levels_at self.new)) }
         ensures state { self.new.state ≡ self.old.state }
+        ensures caches { self.new.caches ≡ self.old.caches }
         ensures back { IfErr result (λ back. back.out ≡ out) }
         ensures kept { IfErr result (λ _. self.new ≡ self.old) }
         ensures refused { IfErr result (λ back. IsRefusedFor (levels_at self.old) out back.fault) }

@@ -9,6 +9,7 @@ ghost use Rattle.ledger_close.specs.Answers as answer;
 ghost use Rattle.ledger_close.specs.Closing as spec;
 ghost use Rattle.ledger_close.specs.Counted.{AreStepsWith, AreSteps};
 ghost use Rattle.ledger_close.specs.Worked.{Leaves};
+ghost use Rattle.entry_table.specs.entry_changes.Next.{IsExactBatch};
 
 use crate::apply::Worked;
 use crate::ledger::Ledger;
@@ -19,6 +20,7 @@ use close_laws::header::next_header_is_encoded;
 use close_laws::results::results_are_encoded;
 use close_rules::CloseFault;
 use ledger_types::LedgerHeader;
+use page_cache::new_caches;
 use std::alloc::Global;
 use std::sync::ledger::Ledger as Count;
 use steps::Steps;
@@ -71,18 +73,20 @@ impl Ledger {
         let entries = self.entries_after(&step, offers, &batch)?;
         let header = self.head(alloc, next, closing.scp_value, &done, &step)?;
         let digest = ledger_hash(alloc, &header)?;
+        let caches = new_caches(alloc, header.ledger_seq, step.pairs())?;
         let prepared = Prepared {
             network: self.network,
             results: done.results,
             header,
             digest,
             entries,
+            batch,
             step,
+            caches,
         };
         Ok(DetailedClose {
             prepared,
             set: closing.tx_set,
-            batch,
         })
     }
 
@@ -111,9 +115,9 @@ impl Ledger {
         self.finish_close(next, closing, worked, steps)
     }
 
-    /// Prepares the close of a record, which are these bytes, at most 16777216, with its set and with what of the
-    /// entries is another than it was; or the first fault of the record. The ledger stays as it is. Where levels are
-    /// merged, the steps rise by at most the items of the files that are; else they stay.
+    /// Prepares the close of a record, which are these bytes, at most 16777216, with its set; or the first fault of the
+    /// record. The ledger stays as it is. Where levels are merged, the steps rise by at most the items of the files that
+    /// are; else they stay.
     pub fn prepare_in_detail<L: Count>(
         &self,
         bytes: &[u8],
@@ -131,16 +135,18 @@ impl Ledger {
         self.close(closing, steps)
     }
 
-    /// Prepares the close of a record, which are these bytes, at most 16777216: its results, and the state after it;
-    /// or the first fault of the record. The ledger stays as it is. Where levels are merged, the steps rise by at
-    /// most the items of the files that are; else they stay.
+    /// Prepares the close of a record, which are these bytes, at most 16777216: its results, the state after it, and
+    /// what of the entries is another than it was; or the first fault of the record. The ledger stays as it is. Where
+    /// levels are merged, the steps rise by at most the items of the files that are; else they stay.
     pub fn prepare<L: Count>(
         &self,
         bytes: &[u8],
         steps: &mut Steps<L>,
     ) -> Result<Prepared, CloseFault>
         requires { length bytes.now ≤ 16777216 }
-        ensures answers { answer.Answers self.now.state bytes.now result }
+        ensures answers { answer.Answers self.now.state bytes.now (spec.close_in result) }
+        ensures batch { IfOk result (λ prepared.
+            IsExactBatch self.now.state.entries prepared.state.entries prepared.batch) }
         ensures steps { AreSteps self.now bytes.now steps.old steps.new }
     {
         match self.prepare_in_detail(bytes, steps) {

@@ -8,9 +8,11 @@ use entry_map::Batch;
 use ledger_types::{Hash, LedgerHeader};
 use level_pages::StoredEntries;
 use op_types::{TransactionResultSet, TransactionSet};
+use page_cache::PageCache;
 use std::marker::Model;
 
-/// A close that is made and not yet taken: its results, and the state after it. Contracts see these.
+/// A close that is made and not yet taken: its results, the state after it, and what of the entries it makes another
+/// than it was. Contracts see these.
 #[derive(Drop)]
 pub struct Prepared {
     pub(crate) network: Hash,
@@ -19,24 +21,27 @@ pub struct Prepared {
     // The hash of the header.
     pub(crate) digest: Hash,
     pub(crate) entries: StoredEntries,
+    pub(crate) batch: Batch,
     pub(crate) step: LevelStep,
+    // Of the files that are new, with no page in them.
+    pub(crate) caches: Vec<PageCache>,
 }
 
 impl Model for Prepared {
-    ghost use Rattle.close_rules.specs.Close.{PreparedClose};
     ghost use Rattle.close_rules.specs.Images.{state_of};
-    ghost use Rattle.ledger_close.specs.States.{closed_code, IsReady};
+    ghost use Rattle.ledger_close.specs.States.{PreparedAt, prepared_code, IsReady};
 
-    ghost Value = { PreparedClose };
+    ghost Value = { PreparedAt };
 
-    ghost coded = { closed_code };
+    ghost coded = { prepared_code };
 
     ghost view = { λ p. record {
       results = p.results.results;
       state = state_of p.network p.header p.step.pairs p.entries;
+      batch = p.batch;
     } };
 
-    ghost invariant = { λ p. IsReady p.digest p.header p.step };
+    ghost invariant = { λ p. IsReady p.digest p.header p.step p.caches.items };
 }
 
 impl Prepared {
@@ -60,12 +65,18 @@ impl Prepared {
     {
         &self.results
     }
+
+    /// What of the ledger's entries the close makes another than it was.
+    pub fn batch(&self) -> &Batch
+        ensures { result.now ≡ self.now.batch }
+    {
+        &self.batch
+    }
 }
 
-/// A prepared close with the set of its record, and what of the ledger's entries it makes another than it was.
+/// A prepared close with the set of its record.
 #[derive(Drop)]
 pub struct DetailedClose {
     pub prepared: Prepared,
     pub set: TransactionSet,
-    pub batch: Batch,
 }

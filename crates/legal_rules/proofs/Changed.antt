@@ -2,20 +2,18 @@
 use Rattle.legal_rules.proofs.Prelude as prelude
 use prelude.{◌≡◌, ◌≢◌, refl, sym, ap, subst, ◌∙◌, ℕ, ◌+◌, ◌≤◌, Bool, true, false, Option, Some, None, arith, ints, ℤ}
 use prelude.{pos, ◌+ℤ◌, ◌-ℤ◌, ◌≤ℤ◌, if◌then◌else◌, int_eq, count_by, get, Hash, Liabilities, AccountEntry}
-use prelude.{TrustLineEntry, TrustLineEntryExtensionV1, LiquidityPoolEntry, LedgerEntry, LedgerEntryBody, LedgerKey}
-use prelude.{key_of_body, EntryMap, put, sponsor_of, line_liabilities, line_liabilities_in, line_second_in}
-use prelude.{use_count_in, use_count, with_use_count, with_use_count_in, with_use_count_of, no_liabilities, pool_in}
-use prelude.{pool_of, pool_at, with_pool, with_pool_in, with_pool_of, is_there, is_key, for_key, for_account, is_for}
-use prelude.{pool_named, uses_by, Kind, Subentries, Sponsoring, Sponsored, Selling, Buying, Shares, ShareLines, Uses}
-use prelude.{View, counted, of_line, is_eq, asset_cmp, PoolParams, of_asset, held_in, IsPoolInRange, IsFilledOrEmpty}
-use prelude.{weight, Owed, nothing_owed, in_aggregate, plus, IsEntryLegal, IsLegalOwing, add_sub_self, add_zero}
-use prelude.{int_eq_true}
+use prelude.{TrustLineEntry, TrustLineEntryExtensionV1, LiquidityPoolEntry, LedgerEntry, LedgerKey, key_of_body}
+use prelude.{EntryMap, put, sponsor_of, line_liabilities, line_liabilities_in, line_second_in, use_count_in, use_count}
+use prelude.{with_use_count, with_use_count_in, with_use_count_of, no_liabilities, pool_at, with_pool, is_there, is_key}
+use prelude.{for_key, for_account, is_for, pool_named, uses_by, Kind, Subentries, Sponsoring, Sponsored, Selling}
+use prelude.{Buying, Shares, ShareLines, Uses, View, counted, of_line, is_eq, asset_cmp, PoolParams, of_asset, held_in}
+use prelude.{IsPoolInRange, IsFilledOrEmpty, weight, Owed, nothing_owed, in_aggregate, plus, IsEntryLegal, IsLegalOwing}
+use prelude.{add_sub_self, add_zero, int_eq_true, pool_kind, IsEntryOf, pools_exact, entry_found, with_found}
 use Rattle.hash_ids.specs.ledger_types.declared.trust_line.TrustLineEntryExtensionV2.{TrustLineEntryExtensionV2}
 use Rattle.hash_ids.specs.ledger_types.declared.entry.LedgerEntryBody.TheVariants as body
 use Rattle.hash_ids.specs.ledger_types.declared.key.LedgerKey.TheVariants as key
 use Rattle.legal_rules.specs.ChangeLaws.{KeepsAggregates, AccountChanged, KeepsLineAggregates, in_shares, LineChanged}
-use Rattle.legal_rules.specs.ChangeLaws.{UsesCounted}
-use Rattle.legal_rules.specs.ChangeLaws.{KeepsParams, PoolChanged}
+use Rattle.legal_rules.specs.ChangeLaws.{UsesCounted, KeepsParams, PoolChanged}
 use Rattle.legal_rules.proofs.Liable.{IsLineMove, with_line_body, with_line_legal, line_entry}
 use Rattle.legal_rules.proofs.Steps.{with_body, with_account_legal, replace_legal, legal_as}
 
@@ -227,24 +225,13 @@ uses_counted v id_pool owed sum m id asset n t legal exists low =
 
 -- ---- pools
 
-pub record IsPoolEntry (m : EntryMap) (id : Hash) (p : LiquidityPoolEntry) (e : LedgerEntry) : Type 0 where
-  pub there : get m (key.LiquidityPool id) ≡ Some e
-  pub is : e.body ≡ body.LiquidityPool p
-
-pool_body : (b : LedgerEntryBody) (p : LiquidityPoolEntry) → pool_in b ≡ Some p → b ≡ body.LiquidityPool p
-pool_body (body.LiquidityPool x) p h = let same : x ≡ p = cc in ap body.LiquidityPool same
-pool_body other p h = absurd (cc)
-
-pool_entry_of : (o : Option LedgerEntry) (p : LiquidityPoolEntry) → pool_of o ≡ Some p
-    → (e : LedgerEntry) × (o ≡ Some e) × (e.body ≡ body.LiquidityPool p)
-pool_entry_of None p h = absurd (cc)
-pool_entry_of (Some e) p h = (e, refl, pool_body e.body p h)
+abbrev pub IsPoolEntry : EntryMap → Hash → LiquidityPoolEntry → LedgerEntry → Type 0
+IsPoolEntry m id p e = IsEntryOf pool_kind m (key.LiquidityPool id) p e
 
 pub pool_entry : (m : EntryMap) (id : Hash) (p : LiquidityPoolEntry) → pool_at m id ≡ Some p
     → (e : LedgerEntry) × IsPoolEntry m id p e
 unfolding pool_at
-pool_entry m id p h = let found = pool_entry_of (get m (key.LiquidityPool id)) p h in
-    (found.0, record { there = found.1; is = found.2 })
+pool_entry m id p h = entry_found pools_exact m (key.LiquidityPool id) p h
 
 abbrev pub with_pool_body : LedgerEntry → LiquidityPoolEntry → LedgerEntry
 with_pool_body e p = record e { body = body.LiquidityPool p }
@@ -252,7 +239,7 @@ with_pool_body e p = record e { body = body.LiquidityPool p }
 pub with_pool_is : (m : EntryMap) (id : Hash) (f : LiquidityPoolEntry → LiquidityPoolEntry) (p : LiquidityPoolEntry)
     (e : LedgerEntry) → IsPoolEntry m id p e → with_pool m id f ≡ put m (with_pool_body e (f p))
 unfolding with_pool
-with_pool_is m id f p e here = ap (with_pool_of m f) here.there ∙ ap (with_pool_in m e f) here.is
+with_pool_is m id f p e here = with_found pools_exact m (key.LiquidityPool id) f p e here
 
 states_less : (t : Bool) (old new : ℤ) → (pos 0 -ℤ (if t then new else pos 0))
     ≡ ((pos 0 -ℤ (if t then old else pos 0)) +ℤ ((if t then (old -ℤ new) else pos 0) +ℤ pos 0))

@@ -2,7 +2,7 @@
 use Rattle.legal_rules.proofs.Prelude.{◌≡◌, ◌≢◌, sym, ap, ◌∙◌, Some, None, arith, ints, ℤ, pos, ◌+ℤ◌, get, AccountId}
 use Rattle.legal_rules.proofs.Prelude.{AccountEntry, LedgerEntry, LedgerKey, key_of, EntryMap, put, account_of}
 use Rattle.legal_rules.proofs.Prelude.{account_at, with_account, EachEntry, total, part, total_put, offer_with}
-use Rattle.legal_rules.proofs.Prelude.{put_elsewhere, put_there}
+use Rattle.legal_rules.proofs.Prelude.{put_there, option_map, accounts_exact, of_any, with_beside, with_there}
 use Rattle.hash_ids.specs.ledger_types.declared.key.LedgerKey.TheVariants as key
 use Rattle.legal_rules.proofs.Steps.{IsAccountEntry, account_entry, with_body, with_account_is, same_id_at, body_there}
 
@@ -12,11 +12,13 @@ module _ (m : EntryMap) (id : AccountId) (f : AccountEntry → AccountEntry) (a 
   its_key : key.Account (f a).account_id ≡ key.Account id
   its_key = ap key.Account (same ∙ same_id_at m id a keyed exists)
 
+  stays : (x : AccountEntry) → account_at m id ≡ Some x → key.Account (f x).account_id ≡ key.Account id
+  stays = of_any (λ x. key.Account (f x).account_id ≡ key.Account id) (account_at m id) a exists its_key
+
   pub kept_elsewhere : (k : LedgerKey) → k ≢ key.Account id → get (with_account m id f) k ≡ get m k
+  unfolding account_at with_account
   kept_elsewhere k apart =
-      let found = account_entry m id a exists in
-      ap (λ n. get n k) (with_account_is m id f a found.0 found.1)
-      ∙ put_elsewhere m (with_body found.0 (f a)) k (λ here. apart (here ∙ its_key))
+      with_beside accounts_exact m (key.Account id) f k (λ x there here. apart (here ∙ stays x there))
 
   pub entry_after : (e : LedgerEntry) → IsAccountEntry m id a e
       → get (with_account m id f) (key.Account id) ≡ Some (with_body e (f a))
@@ -26,10 +28,8 @@ module _ (m : EntryMap) (id : AccountId) (f : AccountEntry → AccountEntry) (a 
       ∙ put_there m (with_body e (f a))
 
   pub account_after : account_at (with_account m id f) id ≡ Some (f a)
-  unfolding account_at
-  account_after =
-      let found = account_entry m id a exists in
-      ap account_of (entry_after found.0 found.1)
+  unfolding account_at with_account
+  account_after = with_there accounts_exact m (key.Account id) f stays ∙ ap (option_map f) exists
 
   pub account_elsewhere : (other : AccountId) → other ≢ id
       → account_at (with_account m id f) other ≡ account_at m other

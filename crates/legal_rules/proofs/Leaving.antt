@@ -1,17 +1,15 @@
 -- What a change leaves of a map: what each entry holds, which accounts exist, and what is available of each.
 use Rattle.legal_rules.proofs.Prelude.{◌≡◌, ◌⊎◌, inl, inr, refl, sym, ap, subst, ◌∙◌, ℕ, true, false, Option, Some}
 use Rattle.legal_rules.proofs.Prelude.{None, arith, ints, ℤ, pos, ◌+ℤ◌, ◌≤ℤ◌, get, AccountId, Asset, AccountEntry}
-use Rattle.legal_rules.proofs.Prelude.{LedgerEntry, LedgerEntryBody, LedgerKey, key_of, EntryMap, put, same_itself}
-use Rattle.legal_rules.proofs.Prelude.{account_in, account_of, account_at, with_account, with_account_in}
-use Rattle.legal_rules.proofs.Prelude.{with_account_of, HasAccount, put_each, available, is_same_account, same_account}
-use Rattle.legal_rules.proofs.Prelude.{apart_accounts, is_key, IsKeyed, Increase, none_more, both_more, for_one}
-use Rattle.legal_rules.proofs.Prelude.{HoldsMore, IsCoveredBy, IsAfter, put_elsewhere, put_there, zero_add, same_keys}
-use Rattle.hash_ids.specs.ledger_types.declared.entry.LedgerEntryBody.TheVariants as body
+use Rattle.legal_rules.proofs.Prelude.{LedgerEntry, LedgerKey, key_of, EntryMap, put, same_itself, account_in}
+use Rattle.legal_rules.proofs.Prelude.{account_of, account_at, with_account, HasAccount, put_each, available}
+use Rattle.legal_rules.proofs.Prelude.{is_same_account, same_account, apart_accounts, is_key, IsKeyed, Increase}
+use Rattle.legal_rules.proofs.Prelude.{none_more, both_more, for_one, HoldsMore, IsCoveredBy, IsAfter, put_elsewhere}
+use Rattle.legal_rules.proofs.Prelude.{put_there, zero_add, same_keys, accounts_exact, with_missing, EntryKind, IsExact}
+use Rattle.legal_rules.proofs.Prelude.{either_way, with_entry}
 use Rattle.hash_ids.specs.ledger_types.declared.key.LedgerKey.TheVariants as key
 use Rattle.legal_rules.proofs.Indices.{account_after, account_elsewhere}
-use Rattle.legal_rules.proofs.Steps.{account_entry, with_account_is, with_body}
-use Rattle.legal_rules.proofs.Holdings.{holds_itself, holds_both, holds_as, no_lumens_more}
-use Rattle.legal_rules.proofs.Holdings.{account_holds}
+use Rattle.legal_rules.proofs.Holdings.{holds_itself, holds_both, holds_as, no_lumens_more, account_holds}
 
 -- ---- one account
 
@@ -91,6 +89,16 @@ accounts_kept base more old new keyed same holds = record {
   keyed = keyed;
 }
 
+-- ---- a change of one entry
+
+pub keyed_put : (m : EntryMap) (e : LedgerEntry) → IsKeyed m → IsKeyed (put m e)
+keyed_put m e keyed = put_each (λ k x. key_of x ≡ k) m e keyed refl
+
+pub keyed_after : {V : Type 0} {kind : EntryKind V} (exact : IsExact kind) (m : EntryMap) (k : LedgerKey) (f : V → V)
+    → IsKeyed m → IsKeyed (with_entry kind m k f)
+keyed_after {V} {kind} exact m k f keyed = either_way exact m k f IsKeyed (λ none. keyed)
+    (λ e v here. keyed_put m (record e { body = kind.body_of (f v) }) keyed)
+
 -- ---- a change of one account
 
 -- an account in another's place, with so much more
@@ -119,10 +127,8 @@ module _ (base : ℕ) (more : ℤ) (m : EntryMap) (keyed : IsKeyed m) (id : Acco
   here = account_after m id f a keyed exists next.id
 
   still_keyed : IsKeyed new
-  still_keyed =
-      let found = account_entry m id a exists in
-      subst IsKeyed (sym (with_account_is m id f a found.0 found.1))
-      (put_each (λ k e. key_of e ≡ k) m (with_body found.0 (f a)) keyed refl)
+  unfolding with_account
+  still_keyed = keyed_after accounts_exact m (key.Account id) f keyed
 
   at : (other : AccountId) → IsAfter base (account_at m other) (account_at new other)
   at other = elim (is_same_account id other) as (λ b. is_same_account id other ≡ b
@@ -156,21 +162,11 @@ module _ (base : ℕ) (more : ℤ) (m : EntryMap) (keyed : IsKeyed m) (id : Acco
     keyed = still_keyed;
   }
 
-no_account_in : (m : EntryMap) (e : LedgerEntry) (f : AccountEntry → AccountEntry) (b : LedgerEntryBody)
-    → account_in b ≡ None → with_account_in m e f b ≡ m
-no_account_in m e f (body.Account a) none = absurd (cc)
-no_account_in m e f other none = refl
-
-pub no_account_of : (m : EntryMap) (f : AccountEntry → AccountEntry) (o : Option LedgerEntry) → account_of o ≡ None
-    → with_account_of m f o ≡ m
-no_account_of m f None none = refl
-no_account_of m f (Some e) none = no_account_in m e f e.body none
-
 -- an account that doesn't exist isn't changed
 pub no_account_changed : (m : EntryMap) (id : AccountId) (f : AccountEntry → AccountEntry) → account_at m id ≡ None
     → with_account m id f ≡ m
 unfolding account_at with_account
-no_account_changed m id f none = no_account_of m f (get m (key.Account id)) none
+no_account_changed m id f none = with_missing accounts_exact m (key.Account id) f none
 
 -- an account is changed, if it exists
 pub account_kept : (base : ℕ) (m : EntryMap) → IsKeyed m → (id : AccountId) (f : AccountEntry → AccountEntry)
@@ -201,6 +197,3 @@ put_accounts m e same id = elim (is_key (key.Account id) (key_of e)) as (λ b. i
           let tied : is_key (key.Account id) (key_of e) ≡ true = ap (is_key (key.Account id)) (sym is)
           ∙ same_itself (key.Account id) in absurd (cc)))
     ] refl
-
-pub keyed_put : (m : EntryMap) (e : LedgerEntry) → IsKeyed m → IsKeyed (put m e)
-keyed_put m e keyed = put_each (λ k x. key_of x ≡ k) m e keyed refl

@@ -2,14 +2,14 @@
 use Rattle.legal_rules.proofs.Prelude as prelude
 use prelude.{◌≡◌, ◌≢◌, refl, sym, ap, subst, ◌∙◌, ℕ, ◌+◌, ◌≤◌, Bool, true, false, Option, Some, None, arith, ints, ℤ}
 use prelude.{pos, neg_ℤ, ◌+ℤ◌, ◌-ℤ◌, ◌≤ℤ◌, if◌then◌else◌, int_eq, count_by, get, AccountId, TrustLineAsset, Liabilities}
-use prelude.{AccountEntry, TrustLineEntry, TrustLineEntryExtensionV1, LedgerEntry, LedgerEntryBody, LedgerKey, EntryMap}
-use prelude.{put, no_liabilities, is_nothing, liabilities_in, with_liabilities_in, account_liabilities, second_in}
+use prelude.{AccountEntry, TrustLineEntry, TrustLineEntryExtensionV1, LedgerEntry, LedgerKey, EntryMap, put}
+use prelude.{no_liabilities, is_nothing, liabilities_in, with_liabilities_in, account_liabilities, second_in}
 use prelude.{sponsored_in, sponsoring_in, sponsorship_in, sponsor_of, line_liabilities, line_liabilities_in}
-use prelude.{with_line_liabilities_in, line_second_in, use_count_in, use_count, line_in, line_of, line_at, with_line}
-use prelude.{with_line_in, with_line_of, IsInRange, IsLineInRange, is_there, signer_sponsors, is_key, for_account}
-use prelude.{is_for, Kind, Sponsoring, Sponsored, Selling, Buying, Uses, View, counted, of_line, risen, bound_account}
-use prelude.{bound_line, AreSignersInRange, weight, Owed, in_aggregate, plus, IsEntryLegal, IsLegalOwing, add_sub_self}
-use prelude.{add_zero, int_eq_true, and_parts}
+use prelude.{with_line_liabilities_in, line_second_in, use_count_in, use_count, line_at, with_line, IsInRange}
+use prelude.{IsLineInRange, is_there, signer_sponsors, is_key, for_account, is_for, Kind, Sponsoring, Sponsored}
+use prelude.{Selling, Buying, Uses, View, counted, of_line, risen, bound_account, bound_line, AreSignersInRange, weight}
+use prelude.{Owed, in_aggregate, plus, IsEntryLegal, IsLegalOwing, add_sub_self, add_zero, int_eq_true, and_parts}
+use prelude.{line_kind, IsEntryOf, lines_exact, entry_found, with_found}
 use Rattle.std.proofs.Common.{◌%◌}
 use Rattle.hash_ids.specs.ledger_types.declared.account.AccountEntryExtensionV1.{AccountEntryExtensionV1}
 use Rattle.hash_ids.specs.ledger_types.declared.entry.LedgerEntryBody.TheVariants as body
@@ -139,25 +139,13 @@ module _ (selling buying : ℤ) (a : AccountEntry) where
 
 -- ---- lines
 
-pub record IsLineEntry (m : EntryMap) (id : AccountId) (asset : TrustLineAsset) (t : TrustLineEntry) (e : LedgerEntry)
-    : Type 0 where
-  pub there : get m (key.TrustLine id asset) ≡ Some e
-  pub is : e.body ≡ body.TrustLine t
-
-line_body : (b : LedgerEntryBody) (t : TrustLineEntry) → line_in b ≡ Some t → b ≡ body.TrustLine t
-line_body (body.TrustLine x) t h = let same : x ≡ t = cc in ap body.TrustLine same
-line_body other t h = absurd (cc)
-
-entry_of : (o : Option LedgerEntry) (t : TrustLineEntry) → line_of o ≡ Some t
-    → (e : LedgerEntry) × (o ≡ Some e) × (e.body ≡ body.TrustLine t)
-entry_of None t h = absurd (cc)
-entry_of (Some e) t h = (e, refl, line_body e.body t h)
+abbrev pub IsLineEntry : EntryMap → AccountId → TrustLineAsset → TrustLineEntry → LedgerEntry → Type 0
+IsLineEntry m id asset t e = IsEntryOf line_kind m (key.TrustLine id asset) t e
 
 pub line_entry : (m : EntryMap) (id : AccountId) (asset : TrustLineAsset) (t : TrustLineEntry)
     → line_at m id asset ≡ Some t → (e : LedgerEntry) × IsLineEntry m id asset t e
 unfolding line_at
-line_entry m id asset t h = let found = entry_of (get m (key.TrustLine id asset)) t h in
-    (found.0, record { there = found.1; is = found.2 })
+line_entry m id asset t h = entry_found lines_exact m (key.TrustLine id asset) t h
 
 abbrev pub with_line_body : LedgerEntry → TrustLineEntry → LedgerEntry
 with_line_body e t = record e { body = body.TrustLine t }
@@ -166,7 +154,7 @@ pub with_line_is : (m : EntryMap) (id : AccountId) (asset : TrustLineAsset) (f :
     (t : TrustLineEntry) (e : LedgerEntry) → IsLineEntry m id asset t e
     → with_line m id asset f ≡ put m (with_line_body e (f t))
 unfolding with_line
-with_line_is m id asset f t e here = ap (with_line_of m f) here.there ∙ ap (with_line_in m e f) here.is
+with_line_is m id asset f t e here = with_found lines_exact m (key.TrustLine id asset) f t e here
 
 -- a line that is in another's place
 pub record IsLineMove (more : Owed) (t u : TrustLineEntry) : Type 0 where

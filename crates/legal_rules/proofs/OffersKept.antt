@@ -2,14 +2,14 @@
 use Rattle.legal_rules.proofs.Prelude as prelude
 use prelude.{◌≡◌, ◌≢◌, refl, sym, ap, subst, ◌∙◌, ℕ, ◌+◌, Bool, true, false, Option, Some, None, arith, ints, ℤ, pos}
 use prelude.{neg_ℤ, ◌+ℤ◌, ◌-ℤ◌, ◌≤ℤ◌, if◌then◌else◌, is_eq, int_cmp, get, AccountId, OfferEntry, LedgerHeader}
-use prelude.{LedgerEntry, LedgerEntryBody, LedgerKey, key_of_body, EntryMap, sponsor_of, offer_in, offer_of, offer_at}
-use prelude.{with_offer, with_offer_in, with_offer_of, total, EachEntry, total_none, bound_of, is_key, for_key}
-use prelude.{for_account, sponsored_in_entry, holder, sells, buys, Kind, Subentries, Sponsoring, Sponsored, Selling}
-use prelude.{Buying, View, counted, offer_with, offer_with_in, IsBodyInRange, IsHeaderInRange, binding, acquiring}
-use prelude.{bound_account, CanBind, CanBindBoth, trade_aggregates, LiabilitiesAcquired, OfferChanged, new_offer}
-use prelude.{with_next_id, NewOffersKeep, IsIdLeft, view, pools_in, weight, weighed, Owed, nothing_owed, plus, less}
-use prelude.{beside_reserves, IsEntryLegal, IsLegalOwing, add_assoc_to, add_to_zero_at_most_one, add_zero}
-use prelude.{int_cmp_equal, sub_if_zeros}
+use prelude.{LedgerEntry, LedgerEntryBody, LedgerKey, key_of_body, EntryMap, sponsor_of, offer_at, with_offer, total}
+use prelude.{EachEntry, total_none, bound_of, is_key, for_key, for_account, sponsored_in_entry, holder, sells, buys}
+use prelude.{Kind, Subentries, Sponsoring, Sponsored, Selling, Buying, View, counted, offer_with, offer_with_in}
+use prelude.{IsBodyInRange, IsHeaderInRange, binding, acquiring, bound_account, CanBind, CanBindBoth, trade_aggregates}
+use prelude.{LiabilitiesAcquired, OfferChanged, new_offer, with_next_id, NewOffersKeep, IsIdLeft, view, pools_in}
+use prelude.{weight, weighed, Owed, nothing_owed, plus, less, beside_reserves, IsEntryLegal, IsLegalOwing, add_assoc_to}
+use prelude.{add_to_zero_at_most_one, add_zero, int_cmp_equal, sub_if_zeros, offer_kind, put, IsEntryOf, offers_exact}
+use prelude.{offer_found, entry_found, with_found}
 use Rattle.hash_ids.specs.ledger_types.declared.entry.LedgerEntryBody.TheVariants as body
 use Rattle.hash_ids.specs.ledger_types.declared.key.LedgerKey.TheVariants as key
 use Rattle.legal_rules.proofs.Kept.{subentry_added_so}
@@ -199,24 +199,14 @@ new_offers_keep h ctx seq offer old m legal last range left free owner ready is 
 
 -- ---- an offer that is changed
 
-pub record IsOfferEntry (m : EntryMap) (seller : AccountId) (id : ℤ) (o : OfferEntry) (e : LedgerEntry) : Type 0 where
-  pub there : get m (key.Offer seller id) ≡ Some e
-  pub is : e.body ≡ body.Offer o
-
-offer_body : (b : LedgerEntryBody) (o : OfferEntry) → offer_in b ≡ Some o → b ≡ body.Offer o
-offer_body (body.Offer x) o h = let same : x ≡ o = cc in ap body.Offer same
-offer_body other o h = absurd (cc)
-
-entry_of : (x : Option LedgerEntry) (o : OfferEntry) → offer_of x ≡ Some o
-    → (e : LedgerEntry) × (x ≡ Some e) × (e.body ≡ body.Offer o)
-entry_of None o h = absurd (cc)
-entry_of (Some e) o h = (e, refl, offer_body e.body o h)
+abbrev pub IsOfferEntry : EntryMap → AccountId → ℤ → OfferEntry → LedgerEntry → Type 0
+IsOfferEntry m seller id o e = IsEntryOf offer_kind m (key.Offer seller id) o e
 
 pub offer_entry : (m : EntryMap) (seller : AccountId) (id : ℤ) (o : OfferEntry) → offer_at m seller id ≡ Some o
     → (e : LedgerEntry) × IsOfferEntry m seller id o e
 unfolding offer_at
-offer_entry m seller id o h = let found = entry_of (get m (key.Offer seller id)) o h in
-    (found.0, record { there = found.1; is = found.2 })
+offer_entry m seller id o h =
+    entry_found offers_exact m (key.Offer seller id) o (sym (offer_found (get m (key.Offer seller id))) ∙ h)
 
 moved_so : (t u : Bool) (x y c d : ℤ) → x ≡ (y +ℤ (neg_ℤ c +ℤ d))
     → (x -ℤ (if t then pos 0 else pos 0)) ≡ ((y -ℤ (if u then pos 0 else pos 0)) +ℤ (neg_ℤ c +ℤ d))
@@ -261,10 +251,9 @@ module _ (v : View) (e : LedgerEntry) (old new : OfferEntry) (same : new.seller_
 
 pub with_offer_is : (m : EntryMap) (seller : AccountId) (id : ℤ) (f : OfferEntry → OfferEntry) (o : OfferEntry)
     (e : LedgerEntry) → IsOfferEntry m seller id o e
-    → with_offer m seller id f ≡ with_offer_in m (with_offer_body e o) f (body.Offer o)
+    → with_offer m seller id f ≡ put m (with_offer_body e (f o))
 unfolding with_offer
-with_offer_is m seller id f o e here = ap (with_offer_of m f) here.there
-    ∙ ap (λ b. with_offer_in m (record e { body = b }) f b) here.is
+with_offer_is m seller id f o e here = with_found offers_exact m (key.Offer seller id) f o e here
 
 pub offer_changed : OfferChanged
 offer_changed v id_pool owed sum old new m legal exists seller id range =

@@ -1,7 +1,7 @@
 -- Names that several proofs of this crate use.
 pub use Rattle.std.proofs.Common.{All, Bool, List, None, Ok, Option, Some, [], ap, arith, cond, false, get_or, inl, inr}
-pub use Rattle.std.proofs.Common.{length, map, nat_eq, refl, slice_set, subst, suc, sym, true, zero, ℕ, ◌&&◌, ◌*◌, ◌++◌}
-pub use Rattle.std.proofs.Common.{◌+◌, ◌-◌, ◌<◌, ◌||◌, ◌∙◌, ◌∷◌, ◌≡◌, ◌≢◌, ◌≤◌, ◌⊎◌}
+pub use Rattle.std.proofs.Common.{length, map, nat_eq, option_map, refl, slice_set, subst, suc, sym, true, zero, ℕ}
+pub use Rattle.std.proofs.Common.{◌&&◌, ◌*◌, ◌++◌, ◌+◌, ◌-◌, ◌<◌, ◌||◌, ◌∙◌, ◌∷◌, ◌≡◌, ◌≢◌, ◌≤◌, ◌⊎◌}
 pub use Rattle.std.proofs.lemmas.Bool.{and_parts, cases_eq, cases_lt}
 pub use Rattle.std.proofs.lemmas.Int.{ints}
 pub use Rattle.std.proofs.lemmas.List.{length-set, nil_from_length}
@@ -111,6 +111,11 @@ pub use Rattle.sponsor_laws.proofs.Bounds.{HavePassed, done_by, have_passed, pay
 pub use Rattle.sponsor_laws.proofs.Moving.{other_is}
 pub use Rattle.sponsor_laws.proofs.Parts.{counts_once}
 pub use Rattle.sponsor_laws.proofs.SignerLists.{sponsor_at_index, sponsors_inserted, sponsors_removed, sponsors_set}
+pub use Rattle.sponsor_laws.proofs.entry_slots_proofs.ChangedEntries.{IsEntryOf, IsExact, account_under, accounts_exact}
+pub use Rattle.sponsor_laws.proofs.entry_slots_proofs.ChangedEntries.{either_way, entry_exists, entry_found, line_under}
+pub use Rattle.sponsor_laws.proofs.entry_slots_proofs.ChangedEntries.{lines_exact, of_any, offer_found, offers_exact}
+pub use Rattle.sponsor_laws.proofs.entry_slots_proofs.ChangedEntries.{own_key, pools_exact, with_beside, with_found}
+pub use Rattle.sponsor_laws.proofs.entry_slots_proofs.ChangedEntries.{with_missing, with_there}
 pub use Rattle.sponsor_laws.proofs.sponsor_rules_proofs.Ids.{apart_accounts, same_account}
 pub use Rattle.sponsor_laws.proofs.sponsor_rules_proofs.Keeping.{at_most, core_kept, core_kept_twice, counts_edited}
 pub use Rattle.sponsor_laws.proofs.sponsor_rules_proofs.Keeping.{same_sponsored, same_sponsoring, with_count_core}
@@ -122,18 +127,18 @@ pub use Rattle.sponsor_laws.specs.entry_slots.AccountExtensions.{account_liabili
 pub use Rattle.sponsor_laws.specs.entry_slots.AccountExtensions.{no_liabilities, num_sponsored, num_sponsoring}
 pub use Rattle.sponsor_laws.specs.entry_slots.AccountExtensions.{second_in, signer_sponsor, sponsored_in, sponsoring_in}
 pub use Rattle.sponsor_laws.specs.entry_slots.AccountExtensions.{sponsorship_in, with_liabilities_in}
-pub use Rattle.sponsor_laws.specs.entry_slots.Accounts.{HasAccount, account_in, account_of, with_account_in}
-pub use Rattle.sponsor_laws.specs.entry_slots.Accounts.{with_account_of}
+pub use Rattle.sponsor_laws.specs.entry_slots.Accounts.{HasAccount, account_in, account_kind, account_of}
 unfoldable pub use Rattle.sponsor_laws.specs.entry_slots.Accounts.{account_at, with_account}
+pub use Rattle.sponsor_laws.specs.entry_slots.EntryKinds.{EntryKind, with_entry}
 pub use Rattle.sponsor_laws.specs.entry_slots.EntrySponsor.{sponsor_of, with_sponsor}
 pub use Rattle.sponsor_laws.specs.entry_slots.LineExtensions.{line_liabilities, line_liabilities_in, line_second_in}
 pub use Rattle.sponsor_laws.specs.entry_slots.LineExtensions.{use_count, use_count_in, with_line_liabilities_in}
 pub use Rattle.sponsor_laws.specs.entry_slots.LineExtensions.{with_use_count, with_use_count_in, with_use_count_of}
-pub use Rattle.sponsor_laws.specs.entry_slots.Lines.{line_in, line_of, with_line_in, with_line_of}
+pub use Rattle.sponsor_laws.specs.entry_slots.Lines.{line_in, line_kind, line_of}
 unfoldable pub use Rattle.sponsor_laws.specs.entry_slots.Lines.{line_at, with_line}
-pub use Rattle.sponsor_laws.specs.entry_slots.Offers.{offer_in, offer_of, with_offer_in, with_offer_of}
+pub use Rattle.sponsor_laws.specs.entry_slots.Offers.{offer_kind, offer_of}
 unfoldable pub use Rattle.sponsor_laws.specs.entry_slots.Offers.{offer_at, with_offer}
-pub use Rattle.sponsor_laws.specs.entry_slots.Pools.{pool_in, pool_of, with_pool_in, with_pool_of}
+pub use Rattle.sponsor_laws.specs.entry_slots.Pools.{pool_in, pool_kind, pool_of}
 unfoldable pub use Rattle.sponsor_laws.specs.entry_slots.Pools.{pool_at, with_pool}
 pub use Rattle.sponsor_laws.specs.entry_slots.Tests.{Tests, first_fault, unless_first}
 pub use Rattle.sponsor_laws.specs.reserve_rules.Reserve.{IsInRange, IsLineInRange, available, greatest_i64, min_balance}

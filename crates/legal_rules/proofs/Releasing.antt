@@ -2,23 +2,22 @@
 use Rattle.legal_rules.proofs.Prelude as prelude
 use prelude.{◌≡◌, ◌⊎◌, inl, inr, refl, sym, ap, subst, ◌∙◌, ℕ, Bool, true, false, Option, Some, None, arith, ints, ℤ}
 use prelude.{pos, neg_ℤ, ◌+ℤ◌, ◌-ℤ◌, ◌≤ℤ◌, if◌then◌else◌, get, AccountId, Asset, TrustLineAsset, Liabilities}
-use prelude.{AccountEntry, TrustLineEntry, OfferEntry, LedgerEntry, LedgerEntryBody, LedgerKey, key_of, key_of_body}
-use prelude.{EntryMap, same_itself, account_of, account_at, account_liabilities, line_liabilities, line_of, line_at}
-use prelude.{offer_of, offer_at, with_offer, greatest_i64, IsInRange, IsLineInRange, is_same_account, EachEntry}
-use prelude.{bound_of, is_key, for_key, holder, Kind, Selling, Buying, View, stated, stated_at, IsOfferInRange, risen}
-use prelude.{binding, releasing, bound_account, bound_line, CanBind, CanBindBoth, trade_aggregates, AreTradesSettled}
-use prelude.{LiabilitiesReleased, ChangedOffersKeep, view, pools_in, Owed, nothing_owed, plus, IsEntryLegal}
-use prelude.{IsLegalOwing, put_elsewhere, add_natural_nonnegative, add_zero_at_most, fits_after_zero, natural_positive}
-use prelude.{nonnegative_from_positive, sub_nonnegative}
+use prelude.{AccountEntry, TrustLineEntry, OfferEntry, LedgerEntry, LedgerKey, key_of, EntryMap, same_itself}
+use prelude.{account_of, account_at, account_liabilities, line_liabilities, line_of, line_at, offer_of, offer_at}
+use prelude.{with_offer, greatest_i64, IsInRange, IsLineInRange, is_same_account, EachEntry, bound_of, is_key, for_key}
+use prelude.{holder, Kind, Selling, Buying, View, stated, stated_at, IsOfferInRange, risen, binding, releasing}
+use prelude.{bound_account, bound_line, CanBind, CanBindBoth, trade_aggregates, AreTradesSettled, LiabilitiesReleased}
+use prelude.{ChangedOffersKeep, view, pools_in, Owed, nothing_owed, plus, IsEntryLegal, IsLegalOwing}
+use prelude.{add_natural_nonnegative, add_zero_at_most, fits_after_zero, natural_positive, nonnegative_from_positive}
+use prelude.{sub_nonnegative, account_under, line_under, with_beside, lines_exact, with_line}
 use Rattle.hash_ids.specs.ledger_types.declared.asset.Asset.TheVariants as asset
 use Rattle.hash_ids.specs.ledger_types.declared.asset.TrustLineAsset.TheVariants as line
 use Rattle.hash_ids.specs.ledger_types.declared.entry.LedgerEntryBody.TheVariants as body
 use Rattle.hash_ids.specs.ledger_types.declared.key.LedgerKey.TheVariants as key
 use Rattle.legal_rules.proofs.Legality.{owing_nothing, legal_of}
-use Rattle.legal_rules.proofs.Liable.{stored, line_stored, line_entry, with_line_is, with_line_body}
+use Rattle.legal_rules.proofs.Liable.{stored, line_stored}
 use Rattle.legal_rules.proofs.OffersKept.{trading_legal, binding_legal, unbound_if, nothing_bought, offer_entry}
-use Rattle.legal_rules.proofs.OffersKept.{with_offer_body}
-use Rattle.legal_rules.proofs.OffersKept.{IsOfferEntry, traded, offer_changed, acquiring_legal}
+use Rattle.legal_rules.proofs.OffersKept.{with_offer_body, IsOfferEntry, traded, offer_changed, acquiring_legal}
 use Rattle.legal_rules.proofs.Indices.{kept_elsewhere}
 use Rattle.legal_rules.proofs.Existing.{counted_stated}
 use Rattle.legal_rules.proofs.Steps.{legal_as}
@@ -91,23 +90,13 @@ holder_is id (asset.Alphanum12 code issuer) k is =
 
 module _ (v : View) (id_pool : ℕ) (owed : Owed) (sum : ℤ) (m : EntryMap)
     (legal : IsLegalOwing v id_pool owed sum m) (n : ℤ) (some : pos 1 ≤ℤ n) where
-  account_by : (id : AccountId) (e : LedgerEntry) (b : LedgerEntryBody) → get m (key.Account id) ≡ Some e → e.body ≡ b
-      → key_of_body b ≡ key.Account id → (a : AccountEntry) × (b ≡ body.Account a)
-  account_by id e (body.Account a) there is own = (a, refl)
-  account_by id e other there is own = absurd (cc)
-
-  line_by : (id : AccountId) (x : TrustLineAsset) (b : LedgerEntryBody) → key_of_body b ≡ key.TrustLine id x
-      → (t : TrustLineEntry) × (b ≡ body.TrustLine t)
-  line_by id x (body.TrustLine t) own = (t, refl)
-  line_by id x other own = absurd (cc)
-
   -- an account that states n can let go of it
   sells_account : (id : AccountId) (o : Option LedgerEntry) → get m (key.Account id) ≡ o → n ≤ℤ stated_at Selling o
       → CanBind m (Some (key.Account id)) (neg_ℤ n) (pos 0)
   unfolding account_at
   sells_account id None there le = absurd (too_few n _ some le refl)
   sells_account id (Some e) there le =
-      let found = account_by id e e.body there refl (legal.keyed (key.Account id) e there) in
+      let found = account_under id e.body (legal.keyed (key.Account id) e there) in
       let e0 : LedgerEntry = record e { body = body.Account found.0 } in
       let was : e ≡ e0 = λ i. record e { body = found.1 i } in
       let r = (subst (IsEntryLegal id_pool) was (legal.entries (key.Account id) e there)).range.body.range in
@@ -123,7 +112,7 @@ module _ (v : View) (id_pool : ℕ) (owed : Owed) (sum : ℤ) (m : EntryMap)
   unfolding account_at
   buys_account id None there le = absurd (too_few n _ some le refl)
   buys_account id (Some e) there le =
-      let found = account_by id e e.body there refl (legal.keyed (key.Account id) e there) in
+      let found = account_under id e.body (legal.keyed (key.Account id) e there) in
       let e0 : LedgerEntry = record e { body = body.Account found.0 } in
       let was : e ≡ e0 = λ i. record e { body = found.1 i } in
       let r = (subst (IsEntryLegal id_pool) was (legal.entries (key.Account id) e there)).range.body.range in
@@ -139,7 +128,7 @@ module _ (v : View) (id_pool : ℕ) (owed : Owed) (sum : ℤ) (m : EntryMap)
   unfolding line_at
   sells_line id x None there le = absurd (too_few n _ some le refl)
   sells_line id x (Some e) there le =
-      let found = line_by id x e.body (legal.keyed (key.TrustLine id x) e there) in
+      let found = line_under id x e.body (legal.keyed (key.TrustLine id x) e there) in
       let e0 : LedgerEntry = record e { body = body.TrustLine found.0 } in
       let was : e ≡ e0 = λ i. record e { body = found.1 i } in
       let entire = subst (IsEntryLegal id_pool) was (legal.entries (key.TrustLine id x) e there) in
@@ -158,7 +147,7 @@ module _ (v : View) (id_pool : ℕ) (owed : Owed) (sum : ℤ) (m : EntryMap)
   unfolding line_at
   buys_line id x None there le = absurd (too_few n _ some le refl)
   buys_line id x (Some e) there le =
-      let found = line_by id x e.body (legal.keyed (key.TrustLine id x) e there) in
+      let found = line_under id x e.body (legal.keyed (key.TrustLine id x) e there) in
       let e0 : LedgerEntry = record e { body = body.TrustLine found.0 } in
       let was : e ≡ e0 = λ i. record e { body = found.1 i } in
       let entire = subst (IsEntryLegal id_pool) was (legal.entries (key.TrustLine id x) e there) in
@@ -192,14 +181,13 @@ module _ (v : View) (id_pool : ℕ) (owed : Owed) (sum : ℤ) (m : EntryMap)
 bound_elsewhere : (m : EntryMap) (o : Option LedgerKey) (selling buying : ℤ) (seller : AccountId) (id : ℤ)
     → EachEntry (λ k e. key_of e ≡ k) m → CanBind m o selling buying
     → get (binding o selling buying m) (key.Offer seller id) ≡ get m (key.Offer seller id)
+unfolding with_line
 bound_elsewhere m None selling buying seller id keyed can = refl
 bound_elsewhere m (Some (key.Account x)) selling buying seller id keyed can =
     kept_elsewhere m x (bound_account selling buying) can.0 keyed can.1 refl (key.Offer seller id) (λ same. absurd (cc))
 bound_elsewhere m (Some (key.TrustLine x asset)) selling buying seller id keyed can =
-    let found = line_entry m x asset can.0 can.1 in
-    ap (λ n. get n (key.Offer seller id)) (with_line_is m x asset (bound_line selling buying) can.0 found.0 found.1)
-    ∙ put_elsewhere m (with_line_body found.0 (bound_line selling buying can.0)) (key.Offer seller id)
-    (λ same. absurd (cc))
+    with_beside lines_exact m (key.TrustLine x asset) (bound_line selling buying) (key.Offer seller id)
+    (λ t there same. absurd (cc))
 bound_elsewhere m (Some other) selling buying seller id keyed can = absurd can
 
 -- ---- releasing

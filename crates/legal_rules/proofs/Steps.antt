@@ -1,36 +1,28 @@
 -- A state within a transaction after one entry is changed in its place.
 use Rattle.legal_rules.proofs.Prelude as prelude
-use prelude.{◌≡◌, refl, sym, ap, subst, ◌∙◌, true, false, cond, Option, Some, None, arith, ints, ℤ, ◌+ℤ◌, ◌-ℤ◌, get}
-use prelude.{AccountId, Hash, AccountEntry, LedgerEntry, LedgerKey, key_of, key_of_body, EntryMap, put, account_of}
-use prelude.{account_at, with_account, with_account_in, with_account_of, Weight, part, EachEntry, put_each, total_put}
-use prelude.{is_key, Kind, View, held, lumens_of, offer_with, params_in, params_of, pools_in, weight, Owed}
-use prelude.{nothing_owed, plus, IsLegalWith, put_get, add_zero, changes_add, same_keys}
+use prelude.{◌≡◌, refl, sym, ap, subst, ◌∙◌, true, false, cond, Some, arith, ints, ℤ, ◌+ℤ◌, ◌-ℤ◌, get, AccountId, Hash}
+use prelude.{AccountEntry, LedgerEntry, LedgerKey, key_of, EntryMap, put, account_at, with_account, Weight, part}
+use prelude.{EachEntry, put_each, total_put, is_key, Kind, View, held, lumens_of, offer_with, params_in, params_of}
+use prelude.{pools_in, weight, Owed, nothing_owed, plus, IsLegalWith, put_get, add_zero, changes_add, same_keys}
+use prelude.{account_kind, IsEntryOf, accounts_exact, entry_exists, entry_found, with_found, own_key}
 use Rattle.hash_ids.specs.ledger_types.declared.entry.LedgerEntryBody.TheVariants as body
 use Rattle.hash_ids.specs.ledger_types.declared.key.LedgerKey.TheVariants as key
 use Rattle.legal_rules.proofs.Numbers.{moved_by, no_more_than, difference}
-use Rattle.sponsor_laws.proofs.Even.{account_body}
 
 -- ---- the entry of an account
 
-pub record IsAccountEntry (m : EntryMap) (id : AccountId) (a : AccountEntry) (e : LedgerEntry) : Type 0 where
-  pub there : get m (key.Account id) ≡ Some e
-  pub is : e.body ≡ body.Account a
-
-entry_of : (o : Option LedgerEntry) (a : AccountEntry) → account_of o ≡ Some a
-    → (e : LedgerEntry) × (o ≡ Some e) × (e.body ≡ body.Account a)
-entry_of None a h = absurd (cc)
-entry_of (Some e) a h = (e, refl, account_body e.body a h)
+abbrev pub IsAccountEntry : EntryMap → AccountId → AccountEntry → LedgerEntry → Type 0
+IsAccountEntry m id a e = IsEntryOf account_kind m (key.Account id) a e
 
 pub account_entry : (m : EntryMap) (id : AccountId) (a : AccountEntry) → account_at m id ≡ Some a
     → (e : LedgerEntry) × IsAccountEntry m id a e
 unfolding account_at
-account_entry m id a h = let found = entry_of (get m (key.Account id)) a h in
-    (found.0, record { there = found.1; is = found.2 })
+account_entry m id a h = entry_found accounts_exact m (key.Account id) a h
 
 pub account_exists : (m : EntryMap) (id : AccountId) (a : AccountEntry) (e : LedgerEntry) → IsAccountEntry m id a e
     → account_at m id ≡ Some a
 unfolding account_at
-account_exists m id a e here = ap account_of here.there ∙ ap (λ b. account_of (Some (record e { body = b }))) here.is
+account_exists m id a e here = entry_exists accounts_exact m (key.Account id) a e here
 
 abbrev pub with_body : LedgerEntry → AccountEntry → LedgerEntry
 with_body e b = record e { body = body.Account b }
@@ -38,7 +30,7 @@ with_body e b = record e { body = body.Account b }
 pub with_account_is : (m : EntryMap) (id : AccountId) (f : AccountEntry → AccountEntry) (a : AccountEntry)
     (e : LedgerEntry) → IsAccountEntry m id a e → with_account m id f ≡ put m (with_body e (f a))
 unfolding with_account
-with_account_is m id f a e here = ap (with_account_of m f) here.there ∙ ap (with_account_in m e f) here.is
+with_account_is m id f a e here = with_found accounts_exact m (key.Account id) f a e here
 
 -- ---- an entry in place of another one
 
@@ -112,10 +104,10 @@ KeepsRange P a b = (e : LedgerEntry) → P (with_body e a) → P (with_body e b)
 
 pub same_id_at : (m : EntryMap) (id : AccountId) (a : AccountEntry) → EachEntry (λ k e. key_of e ≡ k) m
     → account_at m id ≡ Some a → a.account_id ≡ id
+unfolding account_at
 same_id_at m id a keyed exists =
-    let found = account_entry m id a exists in
-    let same : key.Account a.account_id ≡ key.Account id = sym (ap key_of_body found.1.is)
-    ∙ keyed (key.Account id) found.0 found.1.there in
+    let same : key.Account a.account_id ≡ key.Account id =
+    own_key accounts_exact m (key.Account id) a (keyed (key.Account id)) exists in
     cc
 
 pub body_there : (m : EntryMap) (id : AccountId) (a : AccountEntry) (e : LedgerEntry) → IsAccountEntry m id a e

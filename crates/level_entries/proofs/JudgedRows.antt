@@ -4,8 +4,8 @@ use prelude.{◌≡◌, ◌↔◌, List, [], ◌∷◌, Option, Some, Bool, true
 use prelude.{append-nil, ℕ, ◌+◌, ◌<◌, ◌≤◌, drop, get_or, refl, sym, ap, subst, ◌∙◌, arith, Ordering, Less, Equal}
 use prelude.{Greater, tied_itself, is_lt, is_eq, eq_by_cmp, below_all, LedgerKey, BucketEntry, key_cmp, keys_total}
 use prelude.{keys_exact, drop_more, length-drop, value_at, putting, IsOverlaid, nothing_left, overlaid, pass_ended}
-use prelude.{all_changed, both, first, second, is_less, none_found, Sorted, Above, item_type, IsKeyText, OrdersKeys}
-use prelude.{Init, Live, Dead, MayFollow, stated, alone, MayAllFollow, IsLeftToJudge, MayFollowBy}
+use prelude.{all_changed, both, first, second, is_less, none_found, Sorted, Above, item_type}
+use prelude.{MayFollow, stated, alone, MayAllFollow, IsLeftToJudge, MayFollowBy}
 use Rattle.ledger_types.specs.declared.bucket.BucketEntry.TheVariants as bucket
 use Rattle.entry_table.proofs.shared_tree_proofs.Parts.{turned}
 use Rattle.entry_table.proofs.shared_tree_proofs.Changed.{below_less}
@@ -173,11 +173,6 @@ pub from_index : (row : Row) (index : ℕ) (x : LedgerKey × BucketEntry) → in
     → drop index row ≡ x ∷ drop (index + 1) row
 from_index row index x h is =
     drop_more row index x h ∙ ap (λ (v : LedgerKey × BucketEntry). v ∷ drop (index + 1) row) (sym is)
-
--- how two items compare by the texts of their keys
-pub ordered : (a b : List ℕ) (k m : LedgerKey) (r o : Ordering) → IsKeyText a k → IsKeyText b m → OrdersKeys a b r
-    → r ≡ o → key_cmp k m ≡ o
-ordered a b k m r o ka kb h is = sym (h k m ka kb) ∙ is
 
 pub drop_past_end : (row : Row) (index : ℕ) → length row ≤ index → drop index row ≡ []
 drop_past_end row index h = nothing_left (drop index row) (omega (arith, length-drop index row))

@@ -1,15 +1,14 @@
 -- The entries that the items of a row leave.
 use Rattle.level_entries.proofs.Prelude as prelude
-use prelude.{◌≡◌, ℕ, ◌+◌, ◌<◌, Bool, true, false, cond, List, [], ◌∷◌, ◌++◌, Option, Some, None, map, option_map, refl}
-use prelude.{sym, ap, subst, ◌∙◌, All, length, take, get_or, option_and_then, Ordering, Less, AllByRecursion, is_eq}
-use prelude.{eq_by_cmp, tied_itself, get, from_entries, get-from_entries, find, take_more, map-append, All-nil}
+use prelude.{◌≡◌, Bool, true, false, cond, List, [], ◌∷◌, Option, Some, None, map, option_map, refl}
+use prelude.{sym, ap, subst, ◌∙◌, All, option_and_then, Ordering, Less, AllByRecursion, is_eq}
+use prelude.{eq_by_cmp, tied_itself, from_entries, get-from_entries, find, All-nil}
 use prelude.{All-cons, LedgerKey, BucketEntry, key_cmp, keys_total, value_at, with_key, first, second, less, none_found}
-use prelude.{Sorted, Above, Change, Contents, IsUnderKey, Pair, pair_at, changes_of, files_of, entry_after, entry_by}
-use prelude.{Represent, AreWellMarked, stated, entry_in, prepended_to, entries_in, newest, IsNewestRow}
+use prelude.{Sorted, Above, Change, Contents, IsUnderKey, Pair, changes_of, files_of, entry_after, entry_by}
+use prelude.{Represent, stated, entry_in, prepended_to, entries_in, newest, IsNewestRow}
 use Rattle.ledger_types.specs.Keys.{key_of}
 use Rattle.ledger_types.specs.declared.entry.LedgerEntry.{LedgerEntry}
 use Rattle.ledger_types.specs.declared.bucket.BucketEntry.TheVariants as bucket
-use Rattle.bucket_levels.specs.entry_map.EntryMap.{EntryMap}
 use Rattle.bucket_levels.specs.entry_map.KeyMaps.{AreRising}
 
 -- ---- each under its own key
@@ -20,7 +19,7 @@ later : (x : LedgerKey × BucketEntry) (k : LedgerKey) (v : BucketEntry) (xs : L
 later x k v xs h f true tied = absurd (cc (f, none_found k x.0 xs tied h))
 later x k v xs h f false tied = f
 
-each_own : (row : List (LedgerKey × BucketEntry)) → Sorted row
+pub each_own : (row : List (LedgerKey × BucketEntry)) → Sorted row
     → ((k : LedgerKey) (v : BucketEntry) → find key_cmp k row ≡ Some v → IsUnderKey k (stated v))
     → AllByRecursion (λ x. IsUnderKey x.0 (stated x.1)) row
 each_own [] s h = tt
@@ -30,8 +29,8 @@ each_own (x ∷ xs) s h = (
       (λ k v f. h k v (later x k v xs (first _ _ s) f (eq_by_cmp key_cmp k x.0) refl)),
 )
 
-own_entry : (k : LedgerKey) (item : BucketEntry) (e : LedgerEntry) → IsUnderKey k (stated item) → entry_in item ≡ Some e
-    → key_of e ≡ k
+pub own_entry : (k : LedgerKey) (item : BucketEntry) (e : LedgerEntry) → IsUnderKey k (stated item)
+    → entry_in item ≡ Some e → key_of e ≡ k
 own_entry k (bucket.Meta version) e h is = absurd (cc)
 own_entry k (bucket.Live f) e h is = let same : f ≡ e = cc in ap key_of (sym same) ∙ h
 own_entry k (bucket.Dead g) e h is = absurd (cc)
@@ -110,33 +109,9 @@ by_newest (c ∷ xs) None is = absurd (cc)
 by_newest (c ∷ xs) (Some item) is =
     let same : stated item ≡ c = cc in sym (after_stated item) ∙ ap entry_after same
 
-pub represents : (levels : List Pair) (row : List (LedgerKey × BucketEntry)) (kept : List (LedgerKey × LedgerEntry))
-    (table : EntryMap)
-    → IsNewestRow (files_of levels) row → kept ≡ map with_key (entries_in row) → table ≡ from_entries kept
-    → (pair_at levels 10).snap ≡ None → AreWellMarked levels × Represent levels table
-represents levels row kept table n is made deepest = (
-  record { marks = n.marks; deepest = deepest },
-  λ k. ap (λ m. get m k) (made ∙ ap (λ (l : List (LedgerKey × LedgerEntry)). from_entries l) is)
-      ∙ get-from_entries keys_total (map with_key (entries_in row)) k
-      ∙ find-entries k row n.rises (each_own row n.rises n.own)
-      ∙ by_newest (changes_of (files_of levels) k) (value_at k row) (n.says k),
-)
-
--- ---- one more item
-
-entries_more : (xs : List (LedgerKey × BucketEntry)) (x : LedgerKey × BucketEntry)
-    → entries_in (xs ++ x ∷ []) ≡ entries_in xs ++ prepended_to (entry_in x.1) []
-entries_more [] x = refl
-entries_more (y ∷ ys) x =
-    ap (prepended_to (entry_in y.1)) (entries_more ys x)
-    ∙ elim (entry_in y.1) as (λ o. prepended_to o (entries_in ys ++ prepended_to (entry_in x.1) [])
-    ≡ prepended_to o (entries_in ys) ++ prepended_to (entry_in x.1) []) [ None ↦ refl | Some e ↦ refl ]
-
-pub next_entry : (row : List (LedgerKey × BucketEntry)) (i : ℕ) (x : LedgerKey × BucketEntry) → i < length row
-    → x ≡ get_or row i x
-    → map with_key (entries_in (take (i + 1) row))
-    ≡ map with_key (entries_in (take i row)) ++ map with_key (prepended_to (entry_in x.1) [])
-next_entry row i x h is =
-    ap (map with_key)
-    (ap entries_in (take_more row i x h ∙ ap (λ y. take i row ++ y ∷ []) (sym is)) ∙ entries_more (take i row) x)
-    ∙ map-append with_key (entries_in (take i row)) (prepended_to (entry_in x.1) [])
+pub represents : (levels : List Pair) (row : List (LedgerKey × BucketEntry)) → IsNewestRow (files_of levels) row
+    → Represent levels (from_entries (map with_key (entries_in row)))
+represents levels row n = λ k.
+    get-from_entries keys_total (map with_key (entries_in row)) k
+    ∙ find-entries k row n.rises (each_own row n.rises n.own)
+    ∙ by_newest (changes_of (files_of levels) k) (value_at k row) (n.says k)

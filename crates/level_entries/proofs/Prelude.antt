@@ -1,31 +1,29 @@
 -- Names that several proofs of this crate use.
-pub use Rattle.std.proofs.Common.{All, Bool, List, None, Ok, Option, Some, [], ap, append-nil, append_assoc, arith}
+pub use Rattle.std.proofs.Common.{All, Bool, List, None, Option, Some, [], ap, append-nil, arith}
 pub use Rattle.std.proofs.Common.{cond, drop, false, get_or, inl, inr, is_some, length, map, option_map, refl, subst}
-pub use Rattle.std.proofs.Common.{sym, take, true, unwrap_or, zero-add, ℕ, ◌++◌, ◌+◌, ◌-◌, ◌<◌, ◌↔◌, ◌∙◌, ◌∷◌, ◌≡◌, ◌≤◌}
+pub use Rattle.std.proofs.Common.{suc, sym, take, true, zero, ℕ, ◌++◌, ◌+◌, ◌-◌, ◌<◌, ◌↔◌, ◌∙◌, ◌∷◌, ◌≡◌, ◌≤◌}
 pub use Rattle.std.proofs.Common.{◌⊎◌}
-pub use Rattle.std.proofs.lemmas.List.{drop_at, drop_more, get_or-map, length-append, length-drop, map-append}
+pub use Rattle.std.proofs.lemmas.List.{drop_more, get_or-map, length-drop, map-append}
 pub use Rattle.std.proofs.lemmas.List.{take_more}
-pub use Rattle.std.proofs.lemmas.List.Elements.{All-cons, All-nil, recursion_from_All}
+pub use Rattle.std.proofs.lemmas.List.Elements.{All-cons, All-nil}
 pub use Rattle.std.proofs.lemmas.Result.{IfOk-weaker}
 pub use Rattle.std.specs.Cmp.{tied_itself}
-pub use Rattle.std.specs.FinMap.{entries, entries_sorted, from_entries, get, get-entries, get-from_entries}
-pub use Rattle.std.specs.FinMap.Entries.{below_all, find, is_sorted}
-pub use Rattle.std.specs.List.{AllByRecursion, flat_map}
+pub use Rattle.std.specs.FinMap.{from_entries, get, get-from_entries}
+pub use Rattle.std.specs.FinMap.Entries.{below_all, find}
+pub use Rattle.std.specs.List.{AllByRecursion}
 pub use Rattle.std.specs.Ordering.{eq_by_cmp, is_eq, is_lt}
-pub use Rattle.std.specs.Prelude.{IsSomeAnd, option_and_then}
+pub use Rattle.std.specs.Prelude.{option_and_then}
 pub use Rattle.std.specs.declared.cmp.Ordering.{Ordering}
 pub use Rattle.std.specs.declared.cmp.Ordering.TheVariants.{Equal, Greater, Less}
-pub use Rattle.bucket_core.specs.Bucket.{Change, Contents, Dead, Filled, Init, IsUnderKey, Live, change_at, version_of}
-pub use Rattle.bucket_core.specs.Faults.{key_in}
-pub use Rattle.bucket_items.specs.Item.{Shows, item_type}
+pub use Rattle.bucket_core.specs.Bucket.{Change, Contents, Dead, Init, IsUnderKey, Live, change_at, version_of}
+pub use Rattle.bucket_items.specs.Item.{item_type}
 pub use Rattle.bucket_items.specs.KeyText.{IsKeyText, OrdersKeys}
-pub use Rattle.bucket_items.specs.MarkedItem.{IsEncodable, TakesItem, item_at, record_of}
-pub use Rattle.bucket_items.specs.declared.item.BucketItem.{BucketItem}
 pub use Rattle.bucket_levels.specs.Levels.{pair_of}
 pub use Rattle.bucket_levels.specs.Meaning.{AreWellMarked, MayFollow, Represent, entry_after, entry_by, files_of}
 pub use Rattle.bucket_levels.specs.Meaning.{prepended}
 unfoldable pub use Rattle.bucket_levels.specs.Meaning.{AreMarkedWell, changes_of}
 pub use Rattle.bucket_levels.specs.Pairs.{Pair, empty_pair, pair_at}
+pub use Rattle.bucket_levels.specs.entry_map.EntryMap.{EntryMap}
 pub use Rattle.bucket_levels.specs.declared.pair.LevelPair.{LevelPair}
 pub use Rattle.entry_table.proofs.Passes.{both_passed, newer_passed, older_passed, pass_ended}
 pub use Rattle.entry_table.proofs.Turns.{nothing_left, overlaid}
@@ -34,10 +32,11 @@ pub use Rattle.entry_table.specs.Rows.{IsOverlaid, IsRising, IsTableRow, putting
 pub use Rattle.entry_table.specs.shared_tree.Rows.{all_changed}
 pub use Rattle.ledger_types.proofs.KeyOrdering.{keys_exact, keys_total}
 pub use Rattle.ledger_types.specs.KeyOrder.{key_cmp}
+pub use Rattle.ledger_types.specs.Keys.{key_of}
 pub use Rattle.ledger_types.specs.declared.bucket.BucketEntry.{BucketEntry}
+pub use Rattle.ledger_types.specs.declared.entry.LedgerEntry.{LedgerEntry}
 pub use Rattle.ledger_types.specs.declared.key.LedgerKey.{LedgerKey}
-pub use Rattle.level_entries.specs.Rows.{IsFileRow, IsLeftToJudge, IsNewestRow, IsPutOver, IsRowOf, MayAllFollow, alone}
-pub use Rattle.level_entries.specs.Rows.{entries_in, entry_in, newest, prepended_to, rows_of, stated, under_if}
-pub use Rattle.level_entries.specs.Stored.{IsStored, MayFollowBy, item_or_meta, under_key}
-unfoldable pub use Rattle.level_entries.specs.Stored.{stored_in}
-pub use Rattle.xdr_core.specs.Position.{Position, Reading, start_of}
+pub use Rattle.level_entries.specs.Rows.{IsFileRow, IsLeftToJudge, IsNewestRow, IsPutOver, IsRowOf, MayAllFollow}
+pub use Rattle.level_entries.specs.Placed.{ArePlaced, Leaves, left_in, prepended_if}
+pub use Rattle.level_entries.specs.Rows.{MayFollowBy, alone}
+pub use Rattle.level_entries.specs.Rows.{entries_in, entry_in, newest, prepended_to, stated}

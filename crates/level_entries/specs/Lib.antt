@@ -1,3 +1,3 @@
 pub mod Judged
+pub mod Placed
 pub mod Rows
-pub mod Stored

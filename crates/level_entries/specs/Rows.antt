@@ -4,9 +4,10 @@ use Rattle.ledger_types.specs.declared.bucket.BucketEntry.{BucketEntry}
 use Rattle.ledger_types.specs.declared.bucket.BucketEntry.TheVariants as bucket
 use Rattle.ledger_types.specs.declared.entry.LedgerEntry.{LedgerEntry}
 use Rattle.ledger_types.specs.declared.key.LedgerKey.{LedgerKey}
+use Rattle.bucket_items.specs.declared.item.BucketEntryType.{BucketEntryType}
+use Rattle.bucket_items.specs.declared.item.BucketEntryType.TheVariants as mark
 use Rattle.entry_table.specs.Rows.{IsRising, value_at, IsOverlaid, IsPassed}
 use Rattle.bucket_core.specs.Bucket.{Change, Init, Live, Dead, Contents, change_at, IsUnderKey}
-use Rattle.bucket_core.specs.Faults.{key_in}
 use Rattle.bucket_levels.specs.Meaning.{changes_of, AreMarkedWell, MayFollow}
 
 -- what an item says of its key; META has none
@@ -22,15 +23,6 @@ entry_in (bucket.Meta version) = None
 entry_in (bucket.Live entry) = Some entry
 entry_in (bucket.Dead k) = None
 entry_in (bucket.Init entry) = Some entry
-
-abbrev pub under_if : Option LedgerKey → BucketEntry → List (LedgerKey × BucketEntry) → List (LedgerKey × BucketEntry)
-under_if None item others = others
-under_if (Some k) item others = (k, item) ∷ others
-
--- the items under their keys, without META
-abbrev pub rows_of : List BucketEntry → List (LedgerKey × BucketEntry)
-rows_of [] = []
-rows_of (item ∷ items) = under_if (key_in item) item (rows_of items)
 
 -- the entries that the items of a row leave
 abbrev pub prepended_to : Option LedgerEntry → List LedgerEntry → List LedgerEntry
@@ -67,6 +59,15 @@ pub record IsNewestRow (files : List Contents) (row : List (LedgerKey × BucketE
 abbrev pub IsRowOf : List Contents → Option (List (LedgerKey × BucketEntry)) → Type 0
 IsRowOf files None = ((k : LedgerKey) → AreMarkedWell (changes_of files k)) → ⊥
 IsRowOf files (Some row) = IsNewestRow files row
+
+-- whether an item of a type may follow an older one of another
+abbrev pub MayFollowBy : BucketEntryType → BucketEntryType → Type 0
+MayFollowBy mark.Init mark.Live = ⊥
+MayFollowBy mark.Init mark.Init = ⊥
+MayFollowBy mark.Init older = Unit {0}
+MayFollowBy newer mark.Live = Unit {0}
+MayFollowBy newer mark.Init = Unit {0}
+MayFollowBy newer older = ⊥
 
 -- each item of a newer row may follow what an older one has under its key
 abbrev pub MayAllFollow : (older newer : List (LedgerKey × BucketEntry)) → Type 0

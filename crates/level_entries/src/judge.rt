@@ -2,11 +2,10 @@
 
 ghost use Rattle.std.specs.Prelude.{◌<◌, ◌↔◌, drop, length, IsTrue};
 ghost use Rattle.entry_table.specs.Rows.{IsRising};
-ghost use Rattle.level_entries.specs.Rows.{MayAllFollow, IsJudgedFirst};
-ghost use Rattle.level_entries.specs.Stored.{MayFollowBy};
+ghost use Rattle.level_entries.specs.Rows.{MayAllFollow, MayFollowBy, IsJudgedFirst};
 
-use crate::stored::StoredItem;
-use bucket_items::{BucketEntryType, order};
+use bucket_core::StoredItem;
+use bucket_items::BucketEntryType;
 use std::cmp::Ordering;
 
 /// Whether an item may follow the newest older one under its key: INIT follows DEAD, LIVE and DEAD follow no DEAD.
@@ -43,7 +42,7 @@ fn judge_first(
 {
     let item = &newer[turn];
     let under = &older[index];
-    match order(under.key(), item.key()) {
+    match under.order(item.key()) {
         Ordering::Less => Some((index + 1, turn)),
         Ordering::Equal => {
             if may_follow(item.mark(), under.mark()) {

@@ -3,8 +3,11 @@
 
 mod file_row;
 mod judge;
+mod left;
 mod levels;
+mod offers;
 mod overlay;
-mod stored;
+mod placed;
 
 pub use levels::level_entries;
+pub use placed::PlacedEntries;

@@ -5,8 +5,7 @@ ghost use Rattle.entry_table.specs.Rows.{IsRising, IsOverlaid};
 ghost use Rattle.level_entries.specs.Rows.{IsPutOver, IsPushedFirst};
 
 use crate::judge::may_all_follow;
-use crate::stored::StoredItem;
-use bucket_items::order;
+use bucket_core::StoredItem;
 use std::alloc::{AllocError, Global};
 use std::cmp::Ordering;
 
@@ -45,7 +44,7 @@ fn push_first<'a>(
 {
     let item = &newer[turn];
     let under = &older[index];
-    match order(under.key(), item.key()) {
+    match under.order(item.key()) {
         Ordering::Less => {
             push(under, row)?;
             Ok((index + 1, turn))
@@ -71,7 +70,7 @@ fn overlay<'a>(
     requires newer { IsRising newer.now }
     ensures { IfOk result (λ all. IsOverlaid older.now newer.now all.items) }
 {
-    let mut all = Vec::with_capacity(alloc, older.len())?;
+    let mut all = Vec::with_capacity(alloc, older.len().saturating_add(newer.len()))?;
     let mut index = 0;
     let mut turn = 0;
     while index < older.len() && turn < newer.len() {

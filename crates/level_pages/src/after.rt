@@ -9,7 +9,7 @@ ghost use Rattle.bucket_levels.specs.Meaning.{Represent};
 
 use crate::newest::{entry_in, keys_are_encoded};
 use crate::next::least_above;
-use bucket_core::encoded_bound;
+use bucket_core::{encoded_bound, fingerprint};
 use bucket_levels::LevelPair;
 use ledger_types::{LedgerEntry, LedgerKey};
 use std::alloc::{AllocError, Global};
@@ -26,7 +26,7 @@ pub(crate) fn entry_after(
 {
     let mut at = text;
     loop {
-        let Some(item) = least_above(pairs, at) else {
+        let Some(item) = least_above(pairs, at, fingerprint(at)) else {
             return Ok(None);
         };
         if let Some(entry) = entry_in(item.read(alloc)?) {

@@ -33,23 +33,31 @@ fn lesser<'a>(
     }
 }
 
-/// The first item of a bucket above a key, by the key's text.
-fn above_in<'a>(bucket: &'a Bucket, text: &[u8]) -> Option<StoredItem<'a>>
+/// The first item of a bucket above a key, by the key's text, with the key's fingerprint.
+fn above_in<'a>(bucket: &'a Bucket, text: &[u8], fingerprint: u64) -> Option<StoredItem<'a>>
     ensures { (k : AKey) → IsKeyText text.now k → spec.IsLeast (change_at bucket.now) k result }
 {
-    bucket.above(text)
+    bucket.above(text, fingerprint)
 }
 
-/// The newest item of the least key above one in the files of levels, by the key's text.
-pub fn least_above<'a>(pairs: &'a [LevelPair], text: &[u8]) -> Option<StoredItem<'a>>
+/// The newest item of the least key above one in the files of levels, by the key's text. With the key's fingerprint it is
+/// found at once in a file that has an item under the key itself.
+pub fn least_above<'a>(
+    pairs: &'a [LevelPair],
+    text: &[u8],
+    fingerprint: u64,
+) -> Option<StoredItem<'a>>
     ensures { (k : AKey) → IsKeyText text.now k
         → spec.IsLeast (λ q. first_of (changes_of (files_of (map pair_of pairs.now)) q)) k result }
 {
     match pairs {
         [] => None,
         [pair, deeper @ ..] => lesser(
-            above_in(&pair.curr, text),
-            lesser(above_in(&pair.snap, text), least_above(deeper, text)),
+            above_in(&pair.curr, text, fingerprint),
+            lesser(
+                above_in(&pair.snap, text, fingerprint),
+                least_above(deeper, text, fingerprint),
+            ),
         ),
     }
 }

@@ -2,15 +2,15 @@
 use Rattle.op_flags.proofs.Prelude as prelude
 use prelude.{◌≡◌, ◌≢◌, refl, sym, ap, subst, ◌∙◌, ℕ, ◌*◌, Bool, true, false, is_some, Option, Some, None, Ok, arith}
 use prelude.{◌≤◌, ℤ, pos, ◌+ℤ◌, ◌≤ℤ◌, get, AccountId, AccountEntry, ClaimableBalanceEntry, LedgerEntry, key_of}
-use prelude.{key_of_body, EntryMap, put, account_at, HasAccount, balance_at, balance_in, balance_of, with_sponsor, part}
-use prelude.{Ctx, map_after_adding_balance, payer_by, payer_tests_at, balance_flags, held, flagged_ext, IsKeyed}
-use prelude.{under_key, Leaves, keeps_then, accounts_kept, keyed_put, LedgerEntryBody, zero_add, unless_first_ok}
+use prelude.{EntryMap, put, account_at, HasAccount, balance_at, balance_of, with_sponsor, part, Ctx}
+use prelude.{map_after_adding_balance, payer_by, payer_tests_at, balance_flags, held, flagged_ext, IsKeyed, under_key}
+use prelude.{Leaves, keeps_then, accounts_kept, keyed_put, zero_add, unless_first_ok, balance_under, balances_exact}
+use prelude.{nothing_under}
 use Rattle.sponsor_rules.specs.reserve_rules.Reserve.{available}
 use Rattle.sponsor_rules.specs.Paying.{map_after_charging}
 use Rattle.ledger_types.specs.declared.ids.ClaimableBalanceId.{ClaimableBalanceId}
 use Rattle.trade_cross.proofs.legal_rules_proofs.ChargesLeft.{charging_kept, payer_had, put_beside}
 use Rattle.trade_cross.proofs.legal_rules_proofs.Holdings.{still_holds, put_holds}
-use Rattle.ledger_types.specs.declared.entry.LedgerEntryBody.TheVariants as body
 use Rattle.ledger_types.specs.declared.key.LedgerKey.TheVariants as key
 
 -- ---- a balance that is added
@@ -48,16 +48,6 @@ new_flags false = omega arith
 
 -- ---- keys
 
-no_balance_body : (b : LedgerEntryBody) (id : ClaimableBalanceId) → key_of_body b ≡ key.ClaimableBalance id
-    → balance_in b ≡ None → ⊥
-no_balance_body (body.ClaimableBalance balance) id own none = absurd (cc)
-no_balance_body other id own none = absurd (cc)
-
-no_balance_of : (o : Option LedgerEntry) (id : ClaimableBalanceId)
-    → ((e : LedgerEntry) → o ≡ Some e → key_of e ≡ key.ClaimableBalance id) → balance_of o ≡ None → o ≡ None
-no_balance_of None id own none = refl
-no_balance_of (Some e) id own none = absurd (no_balance_body e.body id (own e refl) none)
-
 none_of : (o : Option ClaimableBalanceEntry) → is_some o ≡ false → o ≡ None
 none_of None h = refl
 none_of (Some balance) h = absurd (cc)
@@ -67,5 +57,5 @@ pub no_balance : (m : EntryMap) (id : ClaimableBalanceId) → IsKeyed m → is_s
     → get m (key.ClaimableBalance id) ≡ None
 unfolding balance_at
 no_balance m id keyed none =
-    no_balance_of (get m (key.ClaimableBalance id)) id (keyed (key.ClaimableBalance id))
+    nothing_under balances_exact m (key.ClaimableBalance id) (balance_under id) (keyed (key.ClaimableBalance id))
     (none_of (balance_of (get m (key.ClaimableBalance id))) none)

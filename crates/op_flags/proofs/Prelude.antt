@@ -13,13 +13,14 @@ pub use Rattle.std.specs.Ordering.{is_eq}
 pub use Rattle.std.specs.Prelude.{IfOk, if◌then◌else◌, map, neg_ℤ, pos, ℤ, ◌+ℤ◌, ◌-ℤ◌, ◌≤ℤ◌}
 pub use Rattle.entry_map.specs.EntryMap.{EntryMap, put}
 pub use Rattle.entry_map.specs.Undo.{Undo, with_current}
+pub use Rattle.entry_slots.proofs.ChangedEntries.{balance_under, balances_exact, lines_exact, nothing_under, slot_entry}
 pub use Rattle.entry_slots.specs.Accounts.{HasAccount}
 unfoldable pub use Rattle.entry_slots.specs.Accounts.{account_at}
-pub use Rattle.entry_slots.specs.Balances.{balance_in, balance_of}
+pub use Rattle.entry_slots.specs.Balances.{balance_of}
 unfoldable pub use Rattle.entry_slots.specs.Balances.{balance_at}
 pub use Rattle.entry_slots.specs.EntrySponsor.{sponsor_in, sponsor_of, with_sponsor}
 pub use Rattle.entry_slots.specs.LineExtensions.{line_liabilities}
-pub use Rattle.entry_slots.specs.Lines.{line_of_slot, line_slot_at, line_slot_by, line_slot_of}
+pub use Rattle.entry_slots.specs.Lines.{line_of_slot, line_slot, line_slot_at}
 unfoldable pub use Rattle.entry_slots.specs.Lines.{line_at, with_line}
 pub use Rattle.entry_slots.specs.Offers.{offer_of}
 unfoldable pub use Rattle.entry_slots.specs.Offers.{offer_at}

@@ -1,13 +1,12 @@
 -- That an account's shares of a pool can be given back, and their line removed.
-use Rattle.op_flags.proofs.Prelude.{◌≡◌, ℕ, Option, Some, None, arith, ints, get, ℤ, pos, neg_ℤ, ◌+ℤ◌, ◌≤ℤ◌, AccountId}
-use Rattle.op_flags.proofs.Prelude.{Hash, TrustLineAsset, TrustLineEntry, LiquidityPoolEntry, LedgerEntry}
-use Rattle.op_flags.proofs.Prelude.{LedgerEntryBody, EntryMap, sponsor_in, sponsor_of, line_at, line_slot_by}
-use Rattle.op_flags.proofs.Prelude.{line_slot_of, line_slot_at, pool_at, view, nothing_owed, AreEntriesLegal}
-use Rattle.op_flags.proofs.Prelude.{IsPoolInRange, IsLegalLine, line_legal, DoesFit, DoesPoolFit, DoShareLinesFit}
-use Rattle.op_flags.proofs.Prelude.{part_of, map_after_withdrawing, shared_fits, CanShare, IsLegalPool, pool_legal}
-use Rattle.op_flags.proofs.Prelude.{entries_sound, sponsor_at, at_most_refl, natural_nonnegative}
+use Rattle.op_flags.proofs.Prelude.{◌≡◌, ℕ, Some, arith, ints, get, ℤ, pos, neg_ℤ, ◌+ℤ◌, ◌≤ℤ◌, AccountId, Hash}
+use Rattle.op_flags.proofs.Prelude.{TrustLineAsset, TrustLineEntry, LiquidityPoolEntry, EntryMap, sponsor_in, line_at}
+use Rattle.op_flags.proofs.Prelude.{line_slot_at, pool_at, view, nothing_owed, AreEntriesLegal, IsPoolInRange}
+use Rattle.op_flags.proofs.Prelude.{IsLegalLine, line_legal, DoesFit, DoesPoolFit, DoShareLinesFit, part_of}
+use Rattle.op_flags.proofs.Prelude.{map_after_withdrawing, shared_fits, CanShare, IsLegalPool, pool_legal}
+use Rattle.op_flags.proofs.Prelude.{entries_sound, sponsor_at, at_most_refl, natural_nonnegative, line_slot, ap, sym}
+use Rattle.op_flags.proofs.Prelude.{◌∙◌, lines_exact, slot_entry}
 use Rattle.ledger_types.specs.declared.asset.TrustLineAsset.TheVariants as line
-use Rattle.ledger_types.specs.declared.entry.LedgerEntryBody.TheVariants as body
 use Rattle.ledger_types.specs.declared.key.LedgerKey.TheVariants as key
 use Rattle.entry_slots.specs.declared.lines.LineSlot.{LineSlot}
 use Rattle.pool_shares.specs.Premises.{ArePoolsSound}
@@ -15,19 +14,11 @@ use Rattle.pool_shares.proofs.Parts.{can_withdraw}
 
 -- ---- what was loaded
 
-payer_by : (e : LedgerEntry) (b : LedgerEntryBody) (slot : LineSlot) → Some slot ≡ line_slot_by e b
-    → sponsor_of e ≡ sponsor_in slot.ext
-payer_by e (body.TrustLine t) slot is = cc
-payer_by e other slot is = absurd (cc)
-
-payer_found : (o : Option LedgerEntry) (slot : LineSlot) → Some slot ≡ line_slot_of o
-    → sponsor_at o ≡ sponsor_in slot.ext
-payer_found None slot is = absurd (cc)
-payer_found (Some e) slot is = payer_by e e.body slot is
-
 pub payer_loaded : (m : EntryMap) (id : AccountId) (held : TrustLineAsset) (slot : LineSlot)
     → Some slot ≡ line_slot_at m id held → sponsor_at (get m (key.TrustLine id held)) ≡ sponsor_in slot.ext
-payer_loaded m id held slot is = payer_found (get m (key.TrustLine id held)) slot is
+payer_loaded m id held slot is =
+    let found = slot_entry lines_exact line_slot slot m (key.TrustLine id held) is in
+    ap sponsor_at found.2.there ∙ ap (λ (s : LineSlot). sponsor_in s.ext) (sym found.3)
 
 -- ---- what fits
 

@@ -2,10 +2,10 @@
 use Rattle.op_form.proofs.Prelude.{◌≡◌, ◌⊎◌, inl, inr, refl, sym, ap, subst, ◌∙◌, Bool, true, false, cond, Option, Some}
 use Rattle.op_form.proofs.Prelude.{None, arith, ints, ℤ, pos, ◌+ℤ◌, ◌-ℤ◌, ◌≤ℤ◌, if◌then◌else◌, get, get-insert}
 use Rattle.op_form.proofs.Prelude.{get-remove, AccountId, AccountEntry, LedgerEntry, key_of, keys_total, EntryMap, put}
-use Rattle.op_form.proofs.Prelude.{erase, account_in, account_of, account_at, with_account, with_account_of}
-use Rattle.op_form.proofs.Prelude.{with_account_in, account_liabilities, line_in, line_of, line_at, IsInRange}
-use Rattle.op_form.proofs.Prelude.{IsLineInRange, greatest_i64, room, line_room, with_more_lumens}
-use Rattle.op_form.proofs.Prelude.{map_after_lumens_credit, map_after_lumens_credit_of, BalancesAreInRange}
+use Rattle.op_form.proofs.Prelude.{erase, account_in, account_of, account_at, with_account, account_liabilities}
+use Rattle.op_form.proofs.Prelude.{line_in, line_of, line_at, IsInRange, IsLineInRange, greatest_i64, room, line_room}
+use Rattle.op_form.proofs.Prelude.{with_more_lumens, map_after_lumens_credit, map_after_lumens_credit_of}
+use Rattle.op_form.proofs.Prelude.{BalancesAreInRange, accounts_exact, either_way, entry_exists}
 use Rattle.std.specs.Ordering.{is_lt, int_cmp}
 use Rattle.ledger_types.specs.declared.asset.TrustLineAsset.{TrustLineAsset}
 use Rattle.ledger_types.specs.declared.trust_line.TrustLineEntry.{TrustLineEntry}
@@ -85,25 +85,15 @@ account_only a range = record {
   line = λ line is. absurd (cc);
 }
 
-changed_in : (m : EntryMap) (f : AccountEntry → AccountEntry) (e : LedgerEntry) (b : LedgerEntryBody)
-    → ((a : AccountEntry) → account_in b ≡ Some a → IsInRange (f a)) → BalancesAreInRange m
-    → BalancesAreInRange (with_account_in m e f b)
-changed_in m f e (body.Account a) range all =
-    balances_put m (record e { body = body.Account (f a) }) (account_only (f a) (range a refl)) all
-changed_in m f e other range all = all
-
-changed_of : (m : EntryMap) (f : AccountEntry → AccountEntry) (o : Option LedgerEntry)
-    → ((a : AccountEntry) → account_of o ≡ Some a → IsInRange (f a)) → BalancesAreInRange m
-    → BalancesAreInRange (with_account_of m f o)
-changed_of m f None range all = all
-changed_of m f (Some e) range all = changed_in m f e e.body range all
-
 -- an account that stays in its ranges
 pub account_changed : (m : EntryMap) (id : AccountId) (f : AccountEntry → AccountEntry)
     → ((a : AccountEntry) → account_at m id ≡ Some a → IsInRange (f a)) → BalancesAreInRange m
     → BalancesAreInRange (with_account m id f)
 unfolding account_at with_account
-account_changed m id f range all = changed_of m f (get m (key.Account id)) range all
+account_changed m id f range all =
+    either_way accounts_exact m (key.Account id) f BalancesAreInRange (λ none. all)
+    (λ e a here. balances_put m (record e { body = body.Account (f a) })
+    (account_only (f a) (range a (entry_exists accounts_exact m (key.Account id) a e here))) all)
 
 -- ---- lumens that are taken
 

@@ -6,8 +6,9 @@ pub use Rattle.std.proofs.lemmas.Result.{on_ok_weaker}
 pub use Rattle.std.specs.FinMap.{get, get-insert, get-remove}
 pub use Rattle.std.specs.Prelude.{if◌then◌else◌, pos, ℤ, ◌+ℤ◌, ◌-ℤ◌, ◌≤ℤ◌}
 pub use Rattle.entry_map.specs.EntryMap.{EntryMap, erase, put}
+pub use Rattle.entry_slots.proofs.ChangedEntries.{accounts_exact, either_way, entry_exists}
 pub use Rattle.entry_slots.specs.AccountExtensions.{account_liabilities}
-pub use Rattle.entry_slots.specs.Accounts.{account_in, account_of, account_of_slot, with_account_in, with_account_of}
+pub use Rattle.entry_slots.specs.Accounts.{account_in, account_of, account_of_slot}
 unfoldable pub use Rattle.entry_slots.specs.Accounts.{account_at, with_account}
 pub use Rattle.entry_slots.specs.Lines.{entry_of_line, line_in, line_of, line_of_slot}
 unfoldable pub use Rattle.entry_slots.specs.Lines.{line_at}

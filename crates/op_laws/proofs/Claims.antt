@@ -1,20 +1,18 @@
 -- CREATE_CLAIMABLE_BALANCE, CLAIM_CLAIMABLE_BALANCE and CLAWBACK_CLAIMABLE_BALANCE are lawful.
 use Rattle.op_laws.proofs.Prelude as prelude
-use prelude.{◌≡◌, ◌≢◌, refl, sym, ap, subst, ◌∙◌, ℕ, Bool, true, false, not, ◌||◌, ◌∷◌, [], length, map}
-use prelude.{Option, Some, None, Ok, arith, ints, ℤ, pos, neg_ℤ, int_le, ◌+ℤ◌, ◌≤ℤ◌, if◌then◌else◌, get, is_eq}
-use prelude.{AccountId, ClaimableBalanceId, AccountEntry, Asset, TrustLineEntry, ClaimableBalanceEntry, LedgerEntry}
-use prelude.{LedgerKey, asset_cmp, key_of, is_valid_asset, EntryMap, erase, account_at}
-use prelude.{with_account, HasAccount, sponsor_of, line_at, with_line, part, Ctx, map_after_adding}
-use prelude.{open_sponsor, payer_of, map_after_releasing, map_after_removing, map_after_removing_entry, nothing_owed}
-use prelude.{AreEntriesLegal, IsBodyInRange, IsBalanceInRange, of_asset, held, sponsors_ready, balance_added_so}
-use prelude.{balance_removed_so, line_entry, with_line_body, with_line_is, nothing_settled, account_entry}
-use prelude.{with_account_is, with_body, map_after_debit, map_after_line_debit_of, line_debit_tests}
-use prelude.{is_issued_by, line_asset_of, OfAccount, OfBalance, map_after_lumens_debit, with_less_lumens}
-use prelude.{flagged_ext, fixed_claimant, IsLawful, AreLawful, AreLawfulWhere, AreClaimantsFew, issued, is_issuer}
-use prelude.{IsUnderway, IsMoved, unless_issuer, shifts_as, shifts_both, ok_of, releasing_kept, erased_left, none_more}
-use prelude.{both_more, under_key, still_holds, cancelled, Leaves, leaves_both, leaves_as, keeps_then}
-use prelude.{put_elsewhere, add_zero_at_most}
-use prelude.{nonnegative_from_positive, positive_from_int_le, not-false, or_parts, unless_first_ok, debit_is_given}
+use prelude.{◌≡◌, refl, sym, ap, subst, ◌∙◌, ℕ, Bool, true, false, not, ◌||◌, ◌∷◌, [], length, map, Option, Some, None}
+use prelude.{Ok, arith, ints, ℤ, pos, neg_ℤ, int_le, ◌+ℤ◌, ◌≤ℤ◌, if◌then◌else◌, get, is_eq, AccountId}
+use prelude.{ClaimableBalanceId, AccountEntry, Asset, TrustLineEntry, ClaimableBalanceEntry, LedgerEntry, LedgerKey}
+use prelude.{asset_cmp, key_of, is_valid_asset, EntryMap, erase, with_account, HasAccount, sponsor_of, line_at}
+use prelude.{with_line, part, Ctx, map_after_adding, open_sponsor, payer_of, map_after_releasing, map_after_removing}
+use prelude.{map_after_removing_entry, nothing_owed, AreEntriesLegal, IsBodyInRange, IsBalanceInRange, of_asset, held}
+use prelude.{sponsors_ready, balance_added_so, balance_removed_so, nothing_settled, map_after_debit}
+use prelude.{map_after_line_debit_of, line_debit_tests, is_issued_by, line_asset_of, OfAccount, OfBalance}
+use prelude.{map_after_lumens_debit, with_less_lumens, flagged_ext, fixed_claimant, IsLawful, AreLawful, AreLawfulWhere}
+use prelude.{AreClaimantsFew, issued, is_issuer, IsUnderway, IsMoved, unless_issuer, shifts_as, shifts_both, ok_of}
+use prelude.{releasing_kept, erased_left, none_more, both_more, under_key, still_holds, cancelled, Leaves, leaves_both}
+use prelude.{leaves_as, keeps_then, add_zero_at_most, nonnegative_from_positive, positive_from_int_le, not-false}
+use prelude.{or_parts, unless_first_ok, debit_is_given, with_beside, accounts_exact, lines_exact}
 use Rattle.op_flags.specs.ledger_types.declared.asset.Asset.TheVariants as asset
 use Rattle.op_flags.specs.ledger_types.declared.entry.LedgerEntryBody.TheVariants as body
 use Rattle.op_flags.specs.ledger_types.declared.key.LedgerKey.TheVariants as key
@@ -27,19 +25,18 @@ use Rattle.op_flags.specs.op_form.Amounts.{with_less}
 use Rattle.op_claim.specs.ClaimClaimableBalance as claiming
 use Rattle.op_claim.specs.ClawbackClaimableBalance as clawing
 use Rattle.op_claim.specs.CreateClaimableBalance as creating
-use Rattle.op_laws.proofs.Amounts.{amount_taken}
-use Rattle.op_laws.proofs.Amounts.{amount_given}
+use Rattle.op_laws.proofs.Amounts.{amount_taken, amount_given}
 use Rattle.op_laws.proofs.AsideMoves.{balance_issues_none, less_of, put_aside_issued, taken_back, taken_back_issued}
 use Rattle.op_laws.proofs.IssuedMoves.{same_issuer, issued_so, issued_by_move}
 use Rattle.op_laws.proofs.Lawful.{lawful_with, shifted_after}
 use Rattle.op_flags.proofs.BalanceLeft.{balance_left, no_balance, new_flags, payer_exists}
 use Rattle.op_laws.proofs.NewBalances.{IsBalanceEntry, balance_entry, claimants_in_range}
 use Rattle.op_laws.proofs.Described.{more_for, account_location, balance_location, moved, move_describes, more_turned}
-use Rattle.op_laws.proofs.Described.{redeemed_more}
-use Rattle.op_laws.proofs.Described.{balance_more}
+use Rattle.op_laws.proofs.Described.{redeemed_more, balance_more}
 use Rattle.op_form.proofs.Steps.{done_so, anything}
 use Rattle.op_form.proofs.Walks.{succeeded}
 use Rattle.op_claim.proofs.ClaimSteps.{create_balance_steps, claim_steps, clawback_balance_steps}
+use Rattle.op_flags.specs.ledger_types.declared.asset.TrustLineAsset.{TrustLineAsset}
 
 -- ---- what moves issue and give
 
@@ -154,21 +151,18 @@ clawback_claimable_balance_is_lawful ctx op m done under exists is =
 
 -- ---- what a debit leaves under other keys
 
-account_beside : (m : EntryMap) (id : AccountId) (f : AccountEntry → AccountEntry) (a : AccountEntry)
-    → account_at m id ≡ Some a → (k : LedgerKey) → ((x : AccountId) → k ≢ key.Account x)
-    → get (with_account m id f) k ≡ get m k
-account_beside m id f a exists k apart =
-    let found = account_entry m id a exists in
-    ap (λ q. get q k) (with_account_is m id f a found.0 found.1)
-    ∙ put_elsewhere m (with_body found.0 (f a)) k (apart (f a).account_id)
+account_beside : (m : EntryMap) (id : AccountId) (f : AccountEntry → AccountEntry) (balance : ClaimableBalanceId)
+    → get (with_account m id f) (key.ClaimableBalance balance) ≡ get m (key.ClaimableBalance balance)
+unfolding with_account
+account_beside m id f balance =
+    with_beside accounts_exact m (key.Account id) f (key.ClaimableBalance balance) (λ a exists same. absurd (cc))
 
-line_beside : (m : EntryMap) (id : AccountId) (held : Asset) (f : TrustLineEntry → TrustLineEntry) (t : TrustLineEntry)
-    → line_at m id (line_asset_of held) ≡ Some t → (balance : ClaimableBalanceId)
-    → get (with_line m id (line_asset_of held) f) (key.ClaimableBalance balance) ≡ get m (key.ClaimableBalance balance)
-line_beside m id held f t exists balance =
-    let found = line_entry m id (line_asset_of held) t exists in
-    ap (λ q. get q (key.ClaimableBalance balance)) (with_line_is m id (line_asset_of held) f t found.0 found.1)
-    ∙ put_elsewhere m (with_line_body found.0 (f t)) (key.ClaimableBalance balance) (λ same. absurd (cc))
+line_beside : (m : EntryMap) (id : AccountId) (held : TrustLineAsset) (f : TrustLineEntry → TrustLineEntry)
+    (balance : ClaimableBalanceId)
+    → get (with_line m id held f) (key.ClaimableBalance balance) ≡ get m (key.ClaimableBalance balance)
+unfolding with_line
+line_beside m id held f balance =
+    with_beside lines_exact m (key.TrustLine id held) f (key.ClaimableBalance balance) (λ t exists same. absurd (cc))
 
 module _ (ctx : Ctx) (id : AccountId) (n : ℤ) (m new : EntryMap) (balance : ClaimableBalanceId) where
   abbrev IsAsItWas : Type 0
@@ -180,7 +174,7 @@ module _ (ctx : Ctx) (id : AccountId) (n : ℤ) (m new : EntryMap) (balance : Cl
   by_line held (Some t) exists is =
       let tests = unless_first_ok (line_debit_tests n t) (with_line m id (line_asset_of held) (with_less n)) new is in
       ap (λ q. get q (key.ClaimableBalance balance)) (sym tests.1)
-      ∙ line_beside m id held (with_less n) t exists balance
+      ∙ line_beside m id (line_asset_of held) (with_less n) balance
 
   by_issuer : (held : Asset) (b : Bool) → is_issued_by held id ≡ b
       → (if b then Ok m else map_after_line_debit_of id (line_asset_of held) n m (line_at m id (line_asset_of held)))
@@ -192,8 +186,7 @@ module _ (ctx : Ctx) (id : AccountId) (n : ℤ) (m new : EntryMap) (balance : Cl
   balance_beside asset.Native is =
       let h = debit_is_given ctx id n m new (ok_of (map_after_lumens_debit ctx id n m) debit.Short new is) in
       ap (λ q. get q (key.ClaimableBalance balance)) (sym h.is)
-      ∙ account_beside m id (with_less_lumens n) h.account h.exists (key.ClaimableBalance balance)
-      (λ x same. absurd (cc))
+      ∙ account_beside m id (with_less_lumens n) balance
   balance_beside (asset.Alphanum4 code issuer) is =
       by_issuer (asset.Alphanum4 code issuer) (is_issued_by (asset.Alphanum4 code issuer) id) refl is
   balance_beside (asset.Alphanum12 code issuer) is =

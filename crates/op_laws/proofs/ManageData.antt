@@ -1,20 +1,20 @@
 -- MANAGE_DATA is lawful.
 use Rattle.op_laws.proofs.Prelude as prelude
-use prelude.{List, Option, [], ap, is_some, length, nat_eq, not, refl, subst, sym, true, ℕ, ◌∙◌, ◌≡◌, ◌≤◌}
-use prelude.{Some, None, Ok, arith, ℤ, pos, get, AccountId, Asset, AccountEntry, LedgerEntry, LedgerEntryBody}
-use prelude.{LedgerKey, key_of, key_of_body, is_valid_text, EntryMap, put, erase, account_at, HasAccount, sponsor_of}
-use prelude.{part, Ctx, map_after_adding, without_subentry, map_after_discounting, map_after_removing}
-use prelude.{map_after_removing_entry, Kind, Subentries, View, view, weight, nothing_owed, IsEntryLegal, IsLegalOwing}
-use prelude.{IsDataInRange, held, held_in, sponsors_ready, subentry_added_so, nothing_settled, subentry_removed, owns}
-use prelude.{legal_as, replace_legal, subentry_of, name_tests, new_data, with_value}
-use prelude.{manage_data, IsLawful, AreLawful, IsUnderway, subentry_kept, discharged_kept, erased_kept}
-use prelude.{put_beside, IsKeyed, none_more, put_same, Leaves, keeps_both, accounts_kept, keyed_put}
-use prelude.{add_neg_zero, add_sub_self, add_zero, add_zero_at_most}
+use prelude.{List, Option, [], ap, is_some, length, nat_eq, not, refl, subst, sym, true, ℕ, ◌∙◌, ◌≡◌, ◌≤◌, Some, None}
+use prelude.{Ok, arith, ℤ, pos, get, AccountId, Asset, AccountEntry, LedgerEntry, LedgerEntryBody, LedgerKey, key_of}
+use prelude.{key_of_body, is_valid_text, EntryMap, put, erase, account_at, HasAccount, sponsor_of, part, Ctx}
+use prelude.{map_after_adding, without_subentry, map_after_discounting, map_after_removing, map_after_removing_entry}
+use prelude.{Kind, Subentries, View, view, weight, nothing_owed, IsEntryLegal, IsLegalOwing, IsDataInRange, held}
+use prelude.{held_in, sponsors_ready, subentry_added_so, nothing_settled, subentry_removed, owns, legal_as}
+use prelude.{replace_legal, subentry_of, name_tests, new_data, with_value, manage_data, IsLawful, AreLawful, IsUnderway}
+use prelude.{subentry_kept, discharged_kept, erased_kept, put_beside, IsKeyed, none_more, put_same, Leaves, keeps_both}
+use prelude.{accounts_kept, keyed_put, add_neg_zero, add_sub_self, add_zero, add_zero_at_most}
 use prelude.{natural_positive_from_unequal, zero_sub_zero, zeros_add_to_zero, data_settled, not-false, or_parts}
+use prelude.{IsEntryOf, data_exact, data_under, entry_found, nothing_under, with_found}
 use Rattle.op_flags.specs.ledger_types.declared.data_entry.DataEntry.{DataEntry}
 use Rattle.op_flags.specs.ledger_types.declared.entry.LedgerEntryBody.TheVariants as body
 use Rattle.op_flags.specs.ledger_types.declared.key.LedgerKey.TheVariants as key
-use Rattle.op_flags.specs.entry_slots.DataEntries.{data_in, data_of, data_at, with_data, with_data_in, with_data_of}
+use Rattle.op_flags.specs.entry_slots.DataEntries.{data_at, with_data, data_kind}
 use Rattle.op_flags.specs.op_types.declared.account_results.ManageDataResult.TheVariants as manage
 use Rattle.op_options.specs.ManageData.{answer}
 use Rattle.op_laws.proofs.Lawful.{KeepsLegal, lawful_still}
@@ -24,40 +24,20 @@ use Rattle.op_options.proofs.OptionSteps.{data_steps}
 
 -- ---- the entry of data
 
-pub record IsDataEntry (m : EntryMap) (id : AccountId) (name : List ℕ) (d : DataEntry) (e : LedgerEntry) : Type 0 where
-  pub there : get m (key.Data id name) ≡ Some e
-  pub is : e.body ≡ body.Data d
-
-data_body : (b : LedgerEntryBody) (d : DataEntry) → data_in b ≡ Some d → b ≡ body.Data d
-data_body (body.Data x) d h = let same : x ≡ d = cc in ap body.Data same
-data_body other d h = absurd (cc)
-
-data_entry_of : (o : Option LedgerEntry) (d : DataEntry) → data_of o ≡ Some d
-    → (e : LedgerEntry) × (o ≡ Some e) × (e.body ≡ body.Data d)
-data_entry_of None d h = absurd (cc)
-data_entry_of (Some e) d h = (e, refl, data_body e.body d h)
+abbrev IsDataEntry : EntryMap → AccountId → List ℕ → DataEntry → LedgerEntry → Type 0
+IsDataEntry m id name d e = IsEntryOf data_kind m (key.Data id name) d e
 
 data_entry : (m : EntryMap) (id : AccountId) (name : List ℕ) (d : DataEntry) → data_at m id name ≡ Some d
     → (e : LedgerEntry) × IsDataEntry m id name d e
 unfolding data_at
-data_entry m id name d h = let found = data_entry_of (get m (key.Data id name)) d h in
-    (found.0, record { there = found.1; is = found.2 })
+data_entry m id name d h = entry_found data_exact m (key.Data id name) d h
 
 -- where no data is under its key, nothing is
-no_data_body : (b : LedgerEntryBody) (id : AccountId) (name : List ℕ) → key_of_body b ≡ key.Data id name
-    → data_in b ≡ None → ⊥
-no_data_body (body.Data d) id name own none = absurd (cc)
-no_data_body other id name own none = absurd (cc)
-
-no_data_of : (o : Option LedgerEntry) (id : AccountId) (name : List ℕ)
-    → ((e : LedgerEntry) → o ≡ Some e → key_of e ≡ key.Data id name) → data_of o ≡ None → o ≡ None
-no_data_of None id name own none = refl
-no_data_of (Some e) id name own none = absurd (no_data_body e.body id name (own e refl) none)
-
 no_data : (m : EntryMap) (id : AccountId) (name : List ℕ) → IsKeyed m → data_at m id name ≡ None
     → get m (key.Data id name) ≡ None
 unfolding data_at
-no_data m id name keyed none = no_data_of (get m (key.Data id name)) id name (keyed (key.Data id name)) none
+no_data m id name keyed none =
+    nothing_under data_exact m (key.Data id name) (data_under id name) (keyed (key.Data id name)) none
 
 -- data holds nothing
 nothing_held_in : (x : Asset) (b : LedgerEntryBody) (id : AccountId) (name : List ℕ) → key_of_body b ≡ key.Data id name
@@ -124,8 +104,7 @@ module _ (ctx : Ctx) (m : EntryMap) (under : IsUnderway ctx m) (exists : HasAcco
   with_data_is : (value : List ℕ) (d : DataEntry) (e : LedgerEntry) → IsDataEntry m src name d e
       → with_data m src name (with_value value) ≡ put m (valued_entry e (with_value value d))
   unfolding with_data
-  with_data_is value d e here = ap (with_data_of m (with_value value)) here.there
-      ∙ ap (with_data_in m e (with_value value)) here.is
+  with_data_is value d e here = with_found data_exact m (key.Data src name) (with_value value) d e here
 
   valued_legal : (value : List ℕ) (d : DataEntry) (e : LedgerEntry) → IsDataEntry m src name d e
       → KeepsLegal ctx.id_pool m (put m (valued_entry e (with_value value d)))

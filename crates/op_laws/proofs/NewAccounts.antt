@@ -1,20 +1,19 @@
 -- CREATE_ACCOUNT is lawful.
 use Rattle.op_laws.proofs.Prelude as prelude
-use prelude.{◌≡◌, ◌≢◌, refl, sym, ap, subst, ◌∙◌, ℕ, ◌+◌, ◌*◌, ◌^◌, ◌<◌, true, false, is_some, [], ◌∷◌, Option}
-use prelude.{Some, None, Ok, inl, arith, ints, ℤ, pos, neg_ℤ, int_lt, ◌+ℤ◌, ◌-ℤ◌, ◌*ℤ◌, ◌≤ℤ◌, get, is_eq, is_lt}
-use prelude.{int_cmp, AccountId, Asset, AccountEntry, is_valid_text, total, part, has_flag, LedgerEntry}
-use prelude.{LedgerEntryBody, key_of, key_of_body, asset_cmp, EntryMap, put, account_in, account_at, HasAccount}
-use prelude.{account_liabilities, available, greatest_i64, Ctx, own_tests, sponsored_account_entry}
-use prelude.{map_after_adding_account, map_after_adding, with_more, map_after_charging, is_same_account, open_sponsor}
-use prelude.{payer_tests_at, same_account, apart_accounts, view, nothing_owed, IsEntryLegal, IsSponsorReady, held}
-use prelude.{held_in, lumens_of, account_legal, not_above_balance, sponsors_ready, account_added_so, absent_after}
-use prelude.{legal_as, new_account, new_entry, create_account}
+use prelude.{◌≡◌, ◌≢◌, refl, sym, ap, subst, ◌∙◌, ℕ, ◌+◌, ◌*◌, ◌^◌, ◌<◌, true, false, is_some, [], ◌∷◌, Option, Some}
+use prelude.{None, Ok, inl, arith, ints, ℤ, pos, neg_ℤ, int_lt, ◌+ℤ◌, ◌-ℤ◌, ◌*ℤ◌, ◌≤ℤ◌, get, is_eq, is_lt, int_cmp}
+use prelude.{AccountId, Asset, AccountEntry, is_valid_text, total, part, has_flag, LedgerEntry, key_of, key_of_body}
+use prelude.{asset_cmp, EntryMap, put, account_in, account_at, HasAccount, account_liabilities, available, greatest_i64}
+use prelude.{Ctx, own_tests, sponsored_account_entry, map_after_adding_account, map_after_adding, with_more}
+use prelude.{map_after_charging, is_same_account, open_sponsor, payer_tests_at, same_account, apart_accounts, view}
+use prelude.{nothing_owed, IsEntryLegal, IsSponsorReady, held, held_in, lumens_of, account_legal, not_above_balance}
+use prelude.{sponsors_ready, account_added_so, absent_after, legal_as, new_account, new_entry, create_account}
 use prelude.{map_after_lumens_debit, IsLawful, AreLawful, IsUnderway, payers_had, charging_kept, IsChargedFrom}
 use prelude.{charged_at, IsGiven, given_legal, given_left, given_back, reserves_of, pays_more, paid_more, IsKeyed}
 use prelude.{none_more, both_more, under_key, for_one, HoldsMore, put_holds, IsAfter, Leaves, is_itself_after}
-use prelude.{leaves_both, leaves_as, keyed_put, first_passed}
-use prelude.{put_elsewhere, put_there, add_zero_at_most, int_cmp_not_less, int_lt_false, natural_nonnegative, zero_add}
-use prelude.{or_parts, unless_first_ok, debit_is_given}
+use prelude.{leaves_both, leaves_as, keyed_put, first_passed, put_elsewhere, put_there, add_zero_at_most}
+use prelude.{int_cmp_not_less, int_lt_false, natural_nonnegative, zero_add, or_parts, unless_first_ok, debit_is_given}
+use prelude.{account_under, accounts_exact, nothing_under}
 use Rattle.op_flags.specs.ledger_types.declared.asset.Asset.TheVariants as asset
 use Rattle.op_flags.specs.ledger_types.declared.price.Liabilities.{Liabilities}
 use Rattle.op_flags.specs.ledger_types.declared.entry.LedgerEntryBody.TheVariants as body
@@ -34,19 +33,11 @@ use Rattle.op_account.proofs.AccountSteps.{create_steps}
 
 -- ---- where no account exists
 
-no_account_body : (b : LedgerEntryBody) (id : AccountId) → key_of_body b ≡ key.Account id → account_in b ≡ None → ⊥
-no_account_body (body.Account a) id own none = absurd (cc)
-no_account_body other id own none = absurd (cc)
-
-absent_of : (o : Option LedgerEntry) (id : AccountId)
-    → ((e : LedgerEntry) → o ≡ Some e → key_of e ≡ key.Account id) → account_of o ≡ None → o ≡ None
-absent_of None id own none = refl
-absent_of (Some e) id own none = absurd (no_account_body e.body id (own e refl) none)
-
 -- nothing is under its key
 pub absent_at : (m : EntryMap) (id : AccountId) → IsKeyed m → account_at m id ≡ None → get m (key.Account id) ≡ None
 unfolding account_at
-absent_at m id keyed none = absent_of (get m (key.Account id)) id (keyed (key.Account id)) none
+absent_at m id keyed none =
+    nothing_under accounts_exact m (key.Account id) (account_under id) (keyed (key.Account id)) none
 
 nobody_at : (m : EntryMap) (id : AccountId) → get m (key.Account id) ≡ None → account_at m id ≡ None
 unfolding account_at

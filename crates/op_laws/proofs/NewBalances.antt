@@ -2,9 +2,10 @@
 use Rattle.op_laws.proofs.Prelude as prelude
 use prelude.{◌≡◌, ◌≢◌, refl, sym, ap, subst, ◌∙◌, ℕ, zero, suc, ◌≤◌, Bool, true, false, not, ◌&&◌, ◌||◌, List, [], ◌∷◌}
 use prelude.{map, length, Option, Some, None, arith, ints, length-map, All-nil, All-cons, ℤ, pos, int_lt, int_le, ◌+ℤ◌}
-use prelude.{◌≤ℤ◌, if◌then◌else◌, get, AllPairs, ClaimableBalanceId, ClaimableBalanceEntry, LedgerEntry, EntryMap}
-use prelude.{balance_of, balance_at, greatest_i64, is_same_account, is_itself, AreClaimantsInRange, fixed_level}
-use prelude.{fixed_below, fixed_claimant, time_after, natural_add_nonnegative, not-false, or_parts}
+use prelude.{◌≤ℤ◌, if◌then◌else◌, AllPairs, ClaimableBalanceId, ClaimableBalanceEntry, LedgerEntry, EntryMap}
+use prelude.{balance_at, greatest_i64, is_same_account, is_itself, AreClaimantsInRange, fixed_level, fixed_below}
+use prelude.{fixed_claimant, time_after, natural_add_nonnegative, not-false, or_parts, IsEntryOf, balances_exact}
+use prelude.{entry_found}
 use Rattle.std.proofs.lemmas.List.Kept.{AllPairs-cons}
 use Rattle.std.specs.Prelude.{All}
 use Rattle.op_flags.specs.ledger_types.declared.claimable_balance.Claimant.{Claimant}
@@ -12,12 +13,11 @@ use Rattle.op_flags.specs.ledger_types.declared.predicate.ClaimPredicate.{ClaimP
 use Rattle.op_flags.specs.ledger_types.declared.predicate.ClaimPredicate.TheViews.{out-ClaimPredicate}
 use Rattle.op_flags.specs.ledger_types.declared.predicate.ClaimPredicate.TheViews.{out-roll-ClaimPredicate}
 use Rattle.op_flags.specs.ledger_types.declared.predicate.ClaimPredicate.TheOpen.{ClaimPredicate-F}
-use Rattle.op_flags.specs.ledger_types.declared.entry.LedgerEntryBody.TheVariants as body
 use Rattle.op_flags.specs.ledger_types.declared.key.LedgerKey.TheVariants as key
 use Rattle.op_flags.specs.valid_values.Predicates.{is_valid_below, is_valid_level, is_valid_predicate}
 use Rattle.op_flags.specs.valid_values.Predicates.{is_valid_stored_predicate}
 use Rattle.op_claim.specs.CreateClaimableBalance as spec
-use Rattle.op_laws.proofs.Settled.{balance_body}
+use Rattle.op_flags.specs.entry_slots.Balances.{balance_kind}
 
 -- ---- predicates
 
@@ -143,18 +143,10 @@ claimants_in_range t cs h few =
 
 -- ---- a balance that exists
 
-pub record IsBalanceEntry (m : EntryMap) (id : ClaimableBalanceId) (b : ClaimableBalanceEntry) (e : LedgerEntry)
-    : Type 0 where
-  pub there : get m (key.ClaimableBalance id) ≡ Some e
-  pub is : e.body ≡ body.ClaimableBalance b
-
-balance_entry_of : (o : Option LedgerEntry) (x : ClaimableBalanceEntry) → balance_of o ≡ Some x
-    → (e : LedgerEntry) × (o ≡ Some e) × (e.body ≡ body.ClaimableBalance x)
-balance_entry_of None x h = absurd (cc)
-balance_entry_of (Some e) x h = (e, refl, balance_body e.body x h)
+abbrev pub IsBalanceEntry : EntryMap → ClaimableBalanceId → ClaimableBalanceEntry → LedgerEntry → Type 0
+IsBalanceEntry m id b e = IsEntryOf balance_kind m (key.ClaimableBalance id) b e
 
 pub balance_entry : (m : EntryMap) (id : ClaimableBalanceId) (x : ClaimableBalanceEntry) → balance_at m id ≡ Some x
     → (e : LedgerEntry) × IsBalanceEntry m id x e
 unfolding balance_at
-balance_entry m id x h = let found = balance_entry_of (get m (key.ClaimableBalance id)) x h in
-    (found.0, record { there = found.1; is = found.2 })
+balance_entry m id x h = entry_found balances_exact m (key.ClaimableBalance id) x h

@@ -69,7 +69,7 @@ pub use Rattle.op_flags.proofs.legal_rules_proofs.Leaving.{leaves_itself, no_acc
 pub use Rattle.op_flags.proofs.legal_rules_proofs.LegalConsequences.{sponsors_ready}
 pub use Rattle.op_flags.proofs.legal_rules_proofs.Legality.{entries_legal, legal_of, owing_nothing_of, owing_of}
 pub use Rattle.op_flags.proofs.legal_rules_proofs.Legality.{view_of}
-pub use Rattle.op_flags.proofs.legal_rules_proofs.Liable.{line_entry, with_line_body, with_line_is}
+pub use Rattle.op_flags.proofs.legal_rules_proofs.Liable.{line_entry, with_line_body}
 pub use Rattle.op_flags.proofs.legal_rules_proofs.LinesLeft.{IsLegalLine, line_kept, line_legal, of_line_zero}
 pub use Rattle.op_flags.proofs.legal_rules_proofs.OffersKept.{IsOfferEntry, offer_entry, with_offer_body, with_offer_is}
 pub use Rattle.op_flags.proofs.legal_rules_proofs.PaidFor.{nothing_settled}
@@ -81,7 +81,6 @@ pub use Rattle.op_flags.proofs.legal_rules_proofs.SignersKept.{counts_sponsoring
 pub use Rattle.op_flags.proofs.legal_rules_proofs.SignersKept.{signer_added, signer_moved as signer_moved_so}
 pub use Rattle.op_flags.proofs.legal_rules_proofs.SignersKept.{signer_removed}
 pub use Rattle.op_flags.proofs.legal_rules_proofs.Steps.{account_entry, legal_as, replace_legal, same_id_at}
-pub use Rattle.op_flags.proofs.legal_rules_proofs.Steps.{with_account_is, with_body}
 pub use Rattle.op_flags.proofs.legal_rules_proofs.Subentries.{subentry_of}
 pub use Rattle.op_flags.proofs.pool_shares_proofs.Counted.{counts_left, no_line_changed}
 pub use Rattle.op_flags.proofs.pool_shares_proofs.Gone.{IsLegalNow, gone_legal, when_nothing_owed}
@@ -112,11 +111,11 @@ pub use Rattle.op_flags.specs.entry_slots.Balances.{balance_in, balance_of}
 unfoldable pub use Rattle.op_flags.specs.entry_slots.Balances.{balance_at}
 pub use Rattle.op_flags.specs.entry_slots.EntrySponsor.{sponsor_of}
 pub use Rattle.op_flags.specs.entry_slots.LineExtensions.{line_liabilities, use_count}
-pub use Rattle.op_flags.specs.entry_slots.Lines.{line_in, line_of}
+pub use Rattle.op_flags.specs.entry_slots.Lines.{line_of}
 unfoldable pub use Rattle.op_flags.specs.entry_slots.Lines.{line_at, with_line}
 pub use Rattle.op_flags.specs.entry_slots.Offers.{offer_of}
 unfoldable pub use Rattle.op_flags.specs.entry_slots.Offers.{offer_at, with_offer}
-pub use Rattle.op_flags.specs.entry_slots.Pools.{pool_in, pool_of}
+pub use Rattle.op_flags.specs.entry_slots.Pools.{pool_of}
 unfoldable pub use Rattle.op_flags.specs.entry_slots.Pools.{pool_at}
 pub use Rattle.op_flags.specs.entry_slots.Tests.{first_fault}
 pub use Rattle.op_flags.specs.entry_sums.Sums.{part}
@@ -265,3 +264,8 @@ pub use Rattle.op_trust.proofs.Counts.{same_params}
 pub use Rattle.op_trust.specs.ChangeTrust.{answer, is_exceeded}
 pub use Rattle.op_trust.specs.Operations.{change_trust, trust_in}
 unfoldable pub use Rattle.op_trust.specs.Operations.{trust_operation}
+pub use Rattle.sponsor_rules.proofs.entry_slots_proofs.ChangedEntries.{IsEntryOf, account_under, accounts_exact}
+pub use Rattle.sponsor_rules.proofs.entry_slots_proofs.ChangedEntries.{balances_exact, data_exact, data_under}
+pub use Rattle.sponsor_rules.proofs.entry_slots_proofs.ChangedEntries.{entry_found, line_under, lines_exact}
+pub use Rattle.sponsor_rules.proofs.entry_slots_proofs.ChangedEntries.{nothing_under, pool_under, pools_exact}
+pub use Rattle.sponsor_rules.proofs.entry_slots_proofs.ChangedEntries.{with_beside, with_found}

@@ -1,13 +1,13 @@
 -- Settled entries, by the forms in which changes are stated, and what they give.
 use Rattle.op_laws.proofs.Prelude as prelude
-use prelude.{◌≡◌, refl, ap, subst, ℕ, ◌≤◌, Bool, true, false, Option, Some, None, arith, ints, ℤ, pos, ◌+ℤ◌, ◌≤ℤ◌}
+use prelude.{◌≡◌, refl, subst, ℕ, ◌≤◌, Bool, true, false, Option, Some, None, arith, ints, ℤ, pos, ◌+ℤ◌, ◌≤ℤ◌}
 use prelude.{if◌then◌else◌, get, is_eq, AccountId, Asset, TrustLineAsset, TrustLineEntry, ClaimableBalanceEntry}
 use prelude.{LedgerEntry, LedgerEntryBody, asset_cmp, EntryMap, num_sponsored, balance_in, balance_of, balance_at}
 use prelude.{line_at, IsLineInRange, total, Subentries, Sponsored, IsBodyInRange, of_asset, of_line, held_in, held}
 use prelude.{view, pools_in, nothing_owed, IsEntryLegal, IsLegalOwing, AreEntriesLegal, account_legal}
 use prelude.{sponsored_at_most, account_states, sponsors_ready, owing_nothing_of, legal_of, line_entry, entries_sound}
 use prelude.{LegalSettles, SettledLegal, SettledAccounts, SettledReady, SettledInRange, SettledHeld, SettledSound}
-use prelude.{SettledFew, SettledAmounts, UnderwayManageable, add_nonnegative, nonnegative_from_positive}
+use prelude.{SettledFew, SettledAmounts, UnderwayManageable, add_nonnegative, nonnegative_from_positive, balances_exact}
 use Rattle.op_flags.specs.ledger_types.declared.asset.Asset.TheVariants as asset
 use Rattle.op_flags.specs.ledger_types.declared.asset.TrustLineAsset.TheVariants as line
 use Rattle.op_flags.specs.ledger_types.declared.entry.LedgerEntryBody.TheVariants as body
@@ -94,15 +94,10 @@ in_not_below x id_pool (body.LiquidityPool pool) r =
     (of_not_below x pool.params.asset_a pool.reserve_a r.reserve_a)
     (of_not_below x pool.params.asset_b pool.reserve_b r.reserve_b)
 
-pub balance_body : (of : LedgerEntryBody) (x : ClaimableBalanceEntry) → balance_in of ≡ Some x
-    → of ≡ body.ClaimableBalance x
-balance_body (body.ClaimableBalance y) x h = let same : y ≡ x = cc in ap body.ClaimableBalance same
-balance_body other x h = absurd (cc)
-
 amount_low : (id_pool : ℕ) (of : LedgerEntryBody) (x : ClaimableBalanceEntry) → balance_in of ≡ Some x
     → IsBodyInRange id_pool of → pos 0 ≤ℤ x.amount
 amount_low id_pool of x is range =
-    nonnegative_from_positive x.amount (subst (IsBodyInRange id_pool) (balance_body of x is) range).amount
+    nonnegative_from_positive x.amount (subst (IsBodyInRange id_pool) (balances_exact.body of x is) range).amount
 
 pub settled_amounts : SettledAmounts
 unfolding balance_at

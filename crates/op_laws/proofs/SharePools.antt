@@ -1,13 +1,12 @@
 -- The pool of a new line of shares: it is made where it doesn't exist, and nothing else changes.
 use Rattle.op_laws.proofs.Prelude as prelude
 use prelude.{◌≡◌, refl, sym, ap, ◌∙◌, ℕ, false, not, ◌||◌, inr, Option, Some, None, arith, ints, ℤ, pos, int_eq, is_lt}
-use prelude.{is_eq, get, AccountId, Hash, Asset, PoolParams, TrustLineAsset, LiquidityPoolEntry, LedgerEntry}
-use prelude.{LedgerEntryBody, key_of, key_of_body, asset_cmp, is_valid_asset, EntryMap, put, pool_in, pool_of, pool_at}
-use prelude.{part, View, IsKeyed, none_more, nothing_owed, IsEntryLegal, IsLegalOwing, IsPoolInRange, held, put_beside}
-use prelude.{put_same, Leaves, leaves_itself, accounts_kept, keyed_put, empty_pool, map_with_pool, map_with_pool_by}
-use prelude.{IsLegalNow, when_nothing_owed, same_params, put_elsewhere, put_there, if_zero, int_eq_true}
-use prelude.{zeros_add_to_zero, is_lt_true_Less, not-false, or_parts}
-use Rattle.op_flags.specs.ledger_types.declared.entry.LedgerEntryBody.TheVariants as body
+use prelude.{is_eq, get, AccountId, Hash, Asset, PoolParams, TrustLineAsset, LiquidityPoolEntry, LedgerEntry, key_of}
+use prelude.{asset_cmp, is_valid_asset, EntryMap, put, pool_of, pool_at, part, View, IsKeyed, none_more, nothing_owed}
+use prelude.{IsEntryLegal, IsLegalOwing, IsPoolInRange, held, put_beside, put_same, Leaves, leaves_itself}
+use prelude.{accounts_kept, keyed_put, empty_pool, map_with_pool, map_with_pool_by, IsLegalNow, when_nothing_owed}
+use prelude.{same_params, put_elsewhere, put_there, if_zero, int_eq_true, zeros_add_to_zero, is_lt_true_Less, not-false}
+use prelude.{or_parts, nothing_under, pool_under, pools_exact}
 use Rattle.op_flags.specs.ledger_types.declared.key.LedgerKey.TheVariants as key
 use Rattle.op_flags.specs.legal_rules.PoolLaws.{new_pool}
 use Rattle.op_flags.proofs.legal_rules_proofs.PoolsKept.{pool_put}
@@ -25,18 +24,10 @@ pub record IsPooled (id_pool base : ℕ) (pool : Hash) (params : PoolParams) (m 
 -- ---- a pool that doesn't exist
 
 -- where no pool is under its key, nothing is
-no_pool_body : (b : LedgerEntryBody) (pool : Hash) → key_of_body b ≡ key.LiquidityPool pool → pool_in b ≡ None → ⊥
-no_pool_body (body.LiquidityPool p) pool own none = absurd (cc)
-no_pool_body other pool own none = absurd (cc)
-
-no_pool_of : (o : Option LedgerEntry) (pool : Hash)
-    → ((e : LedgerEntry) → o ≡ Some e → key_of e ≡ key.LiquidityPool pool) → pool_of o ≡ None → o ≡ None
-no_pool_of None pool own none = refl
-no_pool_of (Some e) pool own none = absurd (no_pool_body e.body pool (own e refl) none)
-
 no_pool : (m : EntryMap) (pool : Hash) → IsKeyed m → pool_at m pool ≡ None → get m (key.LiquidityPool pool) ≡ None
 unfolding pool_at
-no_pool m pool keyed none = no_pool_of (get m (key.LiquidityPool pool)) pool (keyed (key.LiquidityPool pool)) none
+no_pool m pool keyed none =
+    nothing_under pools_exact m (key.LiquidityPool pool) (pool_under pool) (keyed (key.LiquidityPool pool)) none
 
 -- ---- a new pool
 

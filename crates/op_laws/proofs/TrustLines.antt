@@ -1,20 +1,18 @@
 -- CHANGE_TRUST of a line in an asset is lawful.
 use Rattle.op_laws.proofs.Prelude as prelude
-use prelude.{◌≡◌, ◌≢◌, refl, sym, ap, subst, ◌∙◌, ℕ, ◌%◌, ◌≤◌, Bool, true, false, not, ◌||◌, bit_or}
-use prelude.{Option, Some, None, Ok, arith, ints, ℤ, pos, neg_ℤ, int_lt, ◌+ℤ◌, ◌≤ℤ◌, if◌then◌else◌, get, int_eq}
-use prelude.{AccountId, AccountEntry, Asset, TrustLineAsset, TrustLineEntry, LedgerEntry, LedgerEntryBody, LedgerKey}
-use prelude.{key_of, key_of_body, is_valid_asset, EntryMap, erase, account_at, HasAccount, sponsor_of, line_liabilities}
-use prelude.{use_count, line_in, line_of, line_at, part, greatest_i64, Ctx, map_after_adding}
+use prelude.{◌≡◌, ◌≢◌, refl, sym, ap, subst, ◌∙◌, ℕ, ◌%◌, ◌≤◌, Bool, true, false, not, ◌||◌, bit_or, Some, None, Ok}
+use prelude.{arith, ints, ℤ, pos, neg_ℤ, int_lt, ◌+ℤ◌, ◌≤ℤ◌, if◌then◌else◌, get, int_eq, AccountId, AccountEntry, Asset}
+use prelude.{TrustLineAsset, TrustLineEntry, LedgerEntry, LedgerKey, is_valid_asset, EntryMap, erase, account_at}
+use prelude.{HasAccount, sponsor_of, line_liabilities, use_count, line_at, part, greatest_i64, Ctx, map_after_adding}
 use prelude.{line_multiplicity, without_subentry, map_after_discounting, map_after_removing, map_after_removing_entry}
 use prelude.{apart_accounts, is_key, Kind, Subentries, Sponsoring, Sponsored, Selling, Buying, Shares, ShareLines, Uses}
 use prelude.{View, view, weighed, nothing_owed, beside_reserves, IsEntryLegal, IsHeldIn, AreLineFlags}
 use prelude.{IsTrustLineInRange, of_line, held_of, sponsors_ready, subentry_added_so, nothing_settled, subentry_removed}
-use prelude.{owns, legal_as, line_entry, with_line_body, subentry_of, is_native, is_issued_by, line_asset_of}
-use prelude.{Done, is_auth_required, is_account_clawback_enabled, IsLawful, IsUnderway}
-use prelude.{subentry_kept, discharged_kept, erased_kept, line_legal, IsKeyed, none_more, still_holds, Leaves}
-use prelude.{keeps_both, add_zero, add_zero_at_most}
+use prelude.{owns, legal_as, line_entry, with_line_body, subentry_of, is_native, is_issued_by, line_asset_of, Done}
+use prelude.{is_auth_required, is_account_clawback_enabled, IsLawful, IsUnderway, subentry_kept, discharged_kept}
+use prelude.{erased_kept, line_legal, IsKeyed, none_more, still_holds, Leaves, keeps_both, add_zero, add_zero_at_most}
 use prelude.{int_eq_true, int_lt_false, zero_sub_if_zero, zero_sub_zero, zeros_add_to_zero, of_line_zero, not-false}
-use prelude.{or_parts}
+use prelude.{or_parts, line_under, lines_exact, nothing_under}
 use Rattle.op_flags.specs.ledger_types.declared.asset.Asset.TheVariants as asset
 use Rattle.op_flags.specs.ledger_types.declared.entry.LedgerEntryBody.TheVariants as body
 use Rattle.op_flags.specs.ledger_types.declared.key.LedgerKey.TheVariants as key
@@ -28,20 +26,11 @@ use Rattle.op_trust.proofs.TrustSteps.{trust_steps, trusted}
 -- ---- keys
 
 -- where no line is under its key, nothing is
-no_line_body : (b : LedgerEntryBody) (id : AccountId) (held : TrustLineAsset) → key_of_body b ≡ key.TrustLine id held
-    → line_in b ≡ None → ⊥
-no_line_body (body.TrustLine t) id held own none = absurd (cc)
-no_line_body other id held own none = absurd (cc)
-
-no_line_of : (o : Option LedgerEntry) (id : AccountId) (held : TrustLineAsset)
-    → ((e : LedgerEntry) → o ≡ Some e → key_of e ≡ key.TrustLine id held) → line_of o ≡ None → o ≡ None
-no_line_of None id held own none = refl
-no_line_of (Some e) id held own none = absurd (no_line_body e.body id held (own e refl) none)
-
 pub no_line : (m : EntryMap) (id : AccountId) (held : TrustLineAsset) → IsKeyed m → line_at m id held ≡ None
     → get m (key.TrustLine id held) ≡ None
 unfolding line_at
-no_line m id held keyed none = no_line_of (get m (key.TrustLine id held)) id held (keyed (key.TrustLine id held)) none
+no_line m id held keyed none =
+    nothing_under lines_exact m (key.TrustLine id held) (line_under id held) (keyed (key.TrustLine id held)) none
 
 -- ---- what a line counts beside its reserve
 

@@ -3,6 +3,7 @@ pub mod Underway
 pub mod Moves
 pub mod Laws
 pub mod Steps
+pub mod Premises
 pub mod CrossedBooks
 pub use Rattle.op_flags.specs.entry_sums
 pub use Rattle.op_flags.specs.legal_rules

@@ -5,6 +5,7 @@
 
 pub mod crossed_books;
 pub mod operations;
+pub mod premises;
 pub mod steps;
 
 pub use op_flags;

@@ -1,12 +1,11 @@
 -- The entry of an offer of the source that was loaded, and that it can be sold once it is out of its book.
 use Rattle.op_offers.proofs.Prelude.{◌≡◌, refl, sym, ap, ◌∙◌, Bool, true, false, Option, Some, None, Ok, arith, ints, ℤ}
 use Rattle.op_offers.proofs.Prelude.{pos, ◌≤ℤ◌, Result, if◌then◌else◌, get, int_eq, IsPriced, AccountId, OfferEntry}
-use Rattle.op_offers.proofs.Prelude.{LedgerEntry, LedgerEntryBody, EntryMap, offer_of, offer_at, offer_slot_by}
-use Rattle.op_offers.proofs.Prelude.{offer_slot_of, offer_slot_at, entry_of_offer, Ctx, nothing_owed, IsOfferInRange}
-use Rattle.op_offers.proofs.Prelude.{holder, DoesReleaseFit, map_after_cancelling, offer_key, release_fits, Ask}
-use Rattle.op_offers.proofs.Prelude.{OfferFault, IsManageable, IsSellable, IsSound, sell_fault, buy_fault, old_asked}
-use Rattle.op_offers.proofs.Prelude.{changed, managed_at, Managed, Removed, map_without_offer, nothing_right}
-use Rattle.ledger_types.specs.declared.entry.LedgerEntryBody.TheVariants as body
+use Rattle.op_offers.proofs.Prelude.{LedgerEntry, EntryMap, offer_of, offer_at, offer_slot_at, entry_of_offer, Ctx}
+use Rattle.op_offers.proofs.Prelude.{nothing_owed, IsOfferInRange, holder, DoesReleaseFit, map_after_cancelling}
+use Rattle.op_offers.proofs.Prelude.{offer_key, release_fits, Ask, OfferFault, IsManageable, IsSellable, IsSound}
+use Rattle.op_offers.proofs.Prelude.{sell_fault, buy_fault, old_asked, changed, managed_at, Managed, Removed}
+use Rattle.op_offers.proofs.Prelude.{map_without_offer, nothing_right, offer_slot, offers_exact, slot_entry}
 use Rattle.ledger_types.specs.declared.key.LedgerKey.TheVariants as key
 use Rattle.entry_slots.specs.declared.offers.OfferSlot.{OfferSlot}
 use Rattle.op_offers.proofs.OldOffers.{old_counted, old_rightly}
@@ -14,21 +13,12 @@ use Rattle.op_offers.proofs.Tested.{valid_ask}
 
 -- ---- the entry of an offer that was loaded
 
-slot_entry_by : (e : LedgerEntry) (b : LedgerEntryBody) (slot : OfferSlot) → e.body ≡ b
-    → Some slot ≡ offer_slot_by e b → e ≡ entry_of_offer slot
-slot_entry_by e (body.Offer o) slot is found =
-    let parts : OfferSlot = record {
-      last_modified_ledger_seq = e.last_modified_ledger_seq;
-      offer = o;
-      ext = e.ext;
-    } in
-    let same : slot ≡ parts = cc in
-    (λ i. record e { body = is i }) ∙ ap entry_of_offer (sym same)
-slot_entry_by e other slot is found = absurd (cc)
-
-slot_entry : (o : Option LedgerEntry) (slot : OfferSlot) → Some slot ≡ offer_slot_of o → o ≡ Some (entry_of_offer slot)
-slot_entry None slot found = absurd (cc)
-slot_entry (Some e) slot found = ap Some (slot_entry_by e e.body slot refl found)
+loaded_entry : (m : EntryMap) (seller : AccountId) (id : ℤ) (slot : OfferSlot) → Some slot ≡ offer_slot_at m seller id
+    → get m (key.Offer seller id) ≡ Some (entry_of_offer slot)
+loaded_entry m seller id slot loaded =
+    let found = slot_entry offers_exact offer_slot slot m (key.Offer seller id) loaded in
+    found.2.there ∙ ap Some (λ i. record found.0 { body = found.2.is i })
+    ∙ ap (λ s. Some (entry_of_offer s)) (sym found.3)
 
 managed_by : (ctx : Ctx) (ask : Ask) (slot : OfferSlot) (m : EntryMap) (o : Option LedgerEntry)
     → o ≡ Some (entry_of_offer slot)
@@ -45,14 +35,14 @@ pub removed_is : (ctx : Ctx) (ask : Ask) (slot : OfferSlot) (m : EntryMap)
     → managed_at ctx ask (get m (key.Offer ctx.op_source ask.offer_id)) m
     ≡ Ok (Removed (map_after_cancelling slot.offer m))
 removed_is ctx ask slot m found is =
-    managed_by ctx ask slot m _ (slot_entry _ slot found) ∙ either_way _ true _ _ is
+    managed_by ctx ask slot m _ (loaded_entry m ctx.op_source ask.offer_id slot found) ∙ either_way _ true _ _ is
 
 pub changed_is : (ctx : Ctx) (ask : Ask) (slot : OfferSlot) (m : EntryMap)
     → Some slot ≡ offer_slot_at m ctx.op_source ask.offer_id → int_eq ask.amount (pos 0) ≡ false
     → managed_at ctx ask (get m (key.Offer ctx.op_source ask.offer_id)) m
     ≡ changed ctx ask slot.offer (entry_of_offer slot) m
 changed_is ctx ask slot m found is =
-    managed_by ctx ask slot m _ (slot_entry _ slot found) ∙ either_way _ false _ _ is
+    managed_by ctx ask slot m _ (loaded_entry m ctx.op_source ask.offer_id slot found) ∙ either_way _ false _ _ is
 
 -- ---- out of its book
 
@@ -65,7 +55,7 @@ module _ (ctx : Ctx) (ask : Ask) (m : EntryMap) (k : IsManageable ctx m) (slot :
   e = entry_of_offer slot
 
   there : get m (key.Offer ctx.op_source ask.offer_id) ≡ Some e
-  there = slot_entry (get m (key.Offer ctx.op_source ask.offer_id)) slot found
+  there = loaded_entry m ctx.op_source ask.offer_id slot found
 
   keyed : offer_key old ≡ key.Offer ctx.op_source ask.offer_id
   keyed = k.legal.keyed (key.Offer ctx.op_source ask.offer_id) e there

@@ -10,12 +10,13 @@ pub use Rattle.std.specs.Prelude.{Result, if◌then◌else◌, int_le, int_lt, n
 pub use Rattle.entry_map.proofs.Lookups.{erase_elsewhere, left_over, put_elsewhere}
 pub use Rattle.entry_map.specs.EntryMap.{EntryMap, erase, put}
 pub use Rattle.entry_map.specs.Undo.{Undo, opened, with_current}
+pub use Rattle.entry_slots.proofs.ChangedEntries.{offers_exact, slot_entry}
 pub use Rattle.entry_slots.specs.Accounts.{HasAccount}
 unfoldable pub use Rattle.entry_slots.specs.Accounts.{account_at}
 pub use Rattle.entry_slots.specs.EntrySponsor.{sponsor_of}
 pub use Rattle.entry_slots.specs.Lines.{line_of}
 unfoldable pub use Rattle.entry_slots.specs.Lines.{line_at}
-pub use Rattle.entry_slots.specs.Offers.{entry_of_offer, offer_of, offer_slot_at, offer_slot_by, offer_slot_of}
+pub use Rattle.entry_slots.specs.Offers.{entry_of_offer, offer_of, offer_slot, offer_slot_at}
 unfoldable pub use Rattle.entry_slots.specs.Offers.{offer_at}
 pub use Rattle.entry_slots.specs.Tests.{Tests, first_fault, unless_fault}
 pub use Rattle.ledger_types.proofs.Arithmetic.{add_assoc, add_neg_self, add_to_zero_at_most_one, add_zero}

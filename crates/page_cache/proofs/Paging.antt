@@ -7,7 +7,7 @@ use Rattle.std.proofs.lemmas.List.{length-drop}
 use Rattle.ledger_types.specs.declared.bucket.BucketEntry.{BucketEntry}
 use Rattle.ledger_types.specs.declared.key.LedgerKey.{LedgerKey}
 use Rattle.std.proofs.Common.{◌≢◌, get_or, Bool, true, false, cond, option_map, ◌/◌, ◌%◌, Vec, Global}
-use Rattle.std.specs.Prelude.{MatchOption}
+use Rattle.std.specs.Prelude.{MatchOption, is_some}
 use Rattle.std.specs.Ordering.{eq_by_cmp}
 use Rattle.ledger_types.specs.KeyOrder.{key_cmp}
 use Rattle.bucket_core.specs.Bucket.{Change, Contents, change_at}
@@ -118,6 +118,21 @@ marked c k i h is = λ none.
       told_value c k h,
       ap (option_map (λ change. item_of (k, change))) none,
     ))
+
+unindexed_by : (c : Contents) (k : LedgerKey) (o : Option ℕ) → HasFile c → change_at c k ≡ None
+    → index_of k (rows c) ≡ o → o ≡ None
+unindexed_by c k None h none is = refl
+unindexed_by c k (Some i) h none is = absurd (marked c k i h is none)
+
+pub unindexed : (c : Contents) (k : LedgerKey) → HasFile c → change_at c k ≡ None → index_of k (rows c) ≡ None
+unindexed c k h none = unindexed_by c k (index_of k (rows c)) h none refl
+
+-- an item that isn't stored is of a key without a mark
+pub unstored : (k : LedgerKey) (stored : Option (LedgerKey × BucketEntry)) (o : Option Change)
+    → is_some stored ≡ false
+    → option_map (λ x. x.1) stored ≡ option_map (λ change. item_of (k, change)) o → o ≡ None
+unstored k None o none is = mapped_none k o is
+unstored k (Some x) o none is = absurd (cc (none))
 
 get_mapped : (row : Row) (i : ℕ) (x : LedgerKey × BucketEntry) → slice_get row i ≡ Some x
     → slice_get (map (λ (y : LedgerKey × BucketEntry). y.1) row) i ≡ Some x.1

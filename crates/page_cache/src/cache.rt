@@ -5,10 +5,13 @@ ghost use Rattle.std.specs.Prelude.{OnErr};
 ghost use Rattle.bucket_core.specs.Bucket.{change_at};
 ghost use Rattle.bucket_core.specs.File.{item_of};
 ghost use Rattle.std.specs.NonZero.{non_zero_usize_get};
-ghost use Rattle.bucket_core.specs.Index.{rows};
+ghost use Rattle.bucket_core.specs.Index.{rows, index_of};
 ghost use Rattle.page_cache.specs.Pages as spec;
+ghost use Rattle.page_cache.specs.Sought as seeking;
+ghost use Rattle.ledger_types.specs.declared.key.LedgerKey.{LedgerKey as AKey};
 
 use crate::page::{PAGE_LEN, read_page};
+use crate::sought::{SoughtKey, sought_key};
 use bucket_core::{Bucket, encoded_key};
 use item_list::ItemList;
 use ledger_types::{BucketEntry, LedgerKey};
@@ -85,12 +88,29 @@ impl PageCache {
             MatchBool has (change_at self.old.contents key.now ≢ None) (change_at self.old.contents key.now ≡ None)) }
         ensures pages { spec.IsWarmed key.now self.old result self.new }
     {
+        let sought = sought_key(self.bucket.allocator(), key)?;
+        self.warm_sought(&sought)
+    }
+
+    /// The same, by a key that is sought in several files.
+    pub(crate) fn warm_sought(&mut self, sought: &Option<SoughtKey>) -> Result<bool, AllocError>
+        requires { (k : AKey) × seeking.IsSought k sought.now }
+        ensures marked { (k : AKey) → seeking.IsSought k sought.now → IfOk result (λ has.
+            MatchBool has (change_at self.old.contents k ≢ None) (change_at self.old.contents k ≡ None)) }
+        ensures none { (k : AKey) → seeking.IsSought k sought.now → IfOk result (λ has.
+            MatchBool has (Unit {0}) (index_of k (rows self.old.contents) ≡ None)) }
+        ensures pages { (k : AKey) → seeking.IsSought k sought.now → spec.IsWarmed k self.old result self.new }
+    {
         self.bucket.has_file();
-        let Some(text) = encoded_key(self.bucket.allocator(), key)? else {
+        let Some(sought) = sought else {
             // no file has an item without an encoding
             return Ok(false);
         };
-        match self.bucket.index_of(text.as_slice()) {
+        let text = sought.text.as_slice();
+        if self.bucket.stored(text, sought.fingerprint).is_none() {
+            return Ok(false);
+        }
+        match self.bucket.index_of(text) {
             None => Ok(false),
             Some(index) => {
                 self.take_page(index / PAGE_LEN)?;

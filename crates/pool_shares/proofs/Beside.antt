@@ -1,14 +1,13 @@
 -- What a change of one entry leaves of the others.
 use Rattle.pool_shares.proofs.Prelude as prelude
 use prelude.{◌≡◌, ◌≢◌, refl, sym, ap, ◌∙◌, ℕ, Option, Some, None, ℤ, get, AccountId, Hash, TrustLineAsset, AccountEntry}
-use prelude.{TrustLineEntry, LiquidityPoolEntry, LedgerEntry, LedgerEntryBody, LedgerKey, key_of_body, EntryMap}
-use prelude.{with_account, with_account_in, with_account_of, sponsor_of, with_line, with_line_in, with_line_of}
-use prelude.{pool_slot_of, pool_slot_at, with_pool, with_pool_in, with_pool_of, map_after_releasing, without_subentry}
-use prelude.{with_less_paid, map_without_charge, map_after_removing_entry, map_after_removing, IsKeyed, keyed_put}
-use prelude.{line_paid, paying, erase_elsewhere, put_elsewhere}
+use prelude.{TrustLineEntry, LiquidityPoolEntry, LedgerEntry, LedgerKey, key_of_body, EntryMap, with_account}
+use prelude.{sponsor_of, with_line, pool_slot_at, with_pool, map_after_releasing, without_subentry, with_less_paid}
+use prelude.{map_without_charge, map_after_removing_entry, map_after_removing, IsKeyed, line_paid, paying}
+use prelude.{erase_elsewhere, pool_kind, pool_slot, IsExact, accounts_exact, lines_exact, pools_exact, with_beside}
+use prelude.{own_key, keyed_after}
 use Rattle.sponsor_rules.specs.Counting.{with_less}
 use Rattle.trade_cross.specs.legal_rules.Payments.{paid}
-use Rattle.ledger_types.specs.declared.entry.LedgerEntryBody.TheVariants as body
 use Rattle.ledger_types.specs.declared.key.LedgerKey.TheVariants as key
 use Rattle.trade_cross.proofs.entry_sums_proofs.Lookups.{erase_each}
 use Rattle.sponsor_rules.specs.declared.charge.Charge.{Charge}
@@ -16,130 +15,59 @@ use Rattle.sponsor_rules.specs.declared.charge.Charge.TheVariants as charge
 use Rattle.sponsor_rules.specs.declared.count.Count.TheVariants.{SubEntries, Sponsoring, Sponsored}
 use Rattle.sponsor_rules.specs.Charge.{charge_of}
 use Rattle.sponsor_rules.proofs.Keeping.{with_count_core}
+use Rattle.entry_slots.specs.EntryKinds.{EntryKind, slot_of, with_entry}
 
 -- ---- pools stay when a line changes
-
-pools_by : (m : EntryMap) (f : TrustLineEntry → TrustLineEntry) (pool : Hash) (e : LedgerEntry) (b : LedgerEntryBody)
-    → get (with_line_in m e f b) (key.LiquidityPool pool) ≡ get m (key.LiquidityPool pool)
-pools_by m f pool e (body.TrustLine t) =
-    put_elsewhere m (record e { body = body.TrustLine (f t) }) (key.LiquidityPool pool) (λ same. absurd (cc))
-pools_by m f pool e other = refl
-
-pools_of : (m : EntryMap) (f : TrustLineEntry → TrustLineEntry) (pool : Hash) (o : Option LedgerEntry)
-    → get (with_line_of m f o) (key.LiquidityPool pool) ≡ get m (key.LiquidityPool pool)
-pools_of m f pool None = refl
-pools_of m f pool (Some e) = pools_by m f pool e e.body
 
 pub pools_still : (m : EntryMap) (id : AccountId) (held : TrustLineAsset) (f : TrustLineEntry → TrustLineEntry)
     (pool : Hash) → pool_slot_at (with_line m id held f) pool ≡ pool_slot_at m pool
 unfolding with_line
-pools_still m id held f pool = ap pool_slot_of (pools_of m f pool (get m (key.TrustLine id held)))
+pools_still m id held f pool = ap (slot_of pool_kind pool_slot)
+    (with_beside lines_exact m (key.TrustLine id held) f (key.LiquidityPool pool) (λ t exists same. absurd (cc)))
 
--- ---- an account that is changed
+-- ---- an entry that is changed
 
-module _ (m : EntryMap) (keyed : IsKeyed m) (id : AccountId) (f : AccountEntry → AccountEntry)
-    (keeps : (a : AccountEntry) → (f a).account_id ≡ a.account_id) where
-  account_in_place : (q : LedgerKey) → q ≢ key.Account id → (e : LedgerEntry) (b : LedgerEntryBody)
-      → key_of_body b ≡ key.Account id → get (with_account_in m e f b) q ≡ get m q
-  account_in_place q apart e (body.Account a) own =
-      put_elsewhere m (record e { body = body.Account (f a) }) q
-      (λ same. apart (same ∙ ap key.Account (keeps a) ∙ own))
-  account_in_place q apart e other own = refl
+module _ {V : Type 0} {kind : EntryKind V} (exact : IsExact kind) (m : EntryMap) (keyed : IsKeyed m) (k : LedgerKey)
+    (f : V → V) where
+  beside : ((v : V) → key_of_body (kind.body_of (f v)) ≡ key_of_body (kind.body_of v)) → (q : LedgerKey) → q ≢ k
+      → get (with_entry kind m k f) q ≡ get m q
+  beside keeps q apart = with_beside exact m k f q (λ v exists same.
+      apart (same ∙ keeps v ∙ own_key exact m k v (keyed k) exists))
 
-  account_found : (q : LedgerKey) → q ≢ key.Account id → (o : Option LedgerEntry) → get m (key.Account id) ≡ o
-      → get (with_account_of m f o) q ≡ get m q
-  account_found q apart None there = refl
-  account_found q apart (Some e) there = account_in_place q apart e e.body (keyed (key.Account id) e there)
-
-  pub account_beside : (q : LedgerKey) → q ≢ key.Account id → get (with_account m id f) q ≡ get m q
-  unfolding with_account
-  account_beside q apart = account_found q apart (get m (key.Account id)) refl
-
-account_keyed_in : (m : EntryMap) (f : AccountEntry → AccountEntry) (e : LedgerEntry) (b : LedgerEntryBody) → IsKeyed m
-    → IsKeyed (with_account_in m e f b)
-account_keyed_in m f e (body.Account a) keyed = keyed_put m (record e { body = body.Account (f a) }) keyed
-account_keyed_in m f e other keyed = keyed
-
-account_keyed_of : (m : EntryMap) (f : AccountEntry → AccountEntry) (o : Option LedgerEntry) → IsKeyed m
-    → IsKeyed (with_account_of m f o)
-account_keyed_of m f None keyed = keyed
-account_keyed_of m f (Some e) keyed = account_keyed_in m f e e.body keyed
+pub account_beside : (m : EntryMap) → IsKeyed m → (id : AccountId) (f : AccountEntry → AccountEntry)
+    → ((a : AccountEntry) → (f a).account_id ≡ a.account_id) → (q : LedgerKey) → q ≢ key.Account id
+    → get (with_account m id f) q ≡ get m q
+unfolding with_account
+account_beside m keyed id f keeps = beside accounts_exact m keyed (key.Account id) f (λ a. ap key.Account (keeps a))
 
 pub account_keyed : (m : EntryMap) (id : AccountId) (f : AccountEntry → AccountEntry) → IsKeyed m
     → IsKeyed (with_account m id f)
 unfolding with_account
-account_keyed m id f keyed = account_keyed_of m f (get m (key.Account id)) keyed
+account_keyed m id f keyed = keyed_after accounts_exact m (key.Account id) f keyed
 
--- ---- a line that is changed
-
-module _ (m : EntryMap) (keyed : IsKeyed m) (id : AccountId) (held : TrustLineAsset)
+pub line_beside : (m : EntryMap) → IsKeyed m → (id : AccountId) (held : TrustLineAsset)
     (f : TrustLineEntry → TrustLineEntry)
-    (keeps : (t : TrustLineEntry) → key.TrustLine (f t).account_id (f t).asset ≡ key.TrustLine t.account_id t.asset)
-  where
-    line_in_place : (q : LedgerKey) → q ≢ key.TrustLine id held → (e : LedgerEntry) (b : LedgerEntryBody)
-        → key_of_body b ≡ key.TrustLine id held → get (with_line_in m e f b) q ≡ get m q
-    line_in_place q apart e (body.TrustLine t) own =
-        put_elsewhere m (record e { body = body.TrustLine (f t) }) q (λ same. apart (same ∙ keeps t ∙ own))
-    line_in_place q apart e other own = refl
-
-    line_found : (q : LedgerKey) → q ≢ key.TrustLine id held → (o : Option LedgerEntry)
-        → get m (key.TrustLine id held) ≡ o → get (with_line_of m f o) q ≡ get m q
-    line_found q apart None there = refl
-    line_found q apart (Some e) there = line_in_place q apart e e.body (keyed (key.TrustLine id held) e there)
-
-    pub line_beside : (q : LedgerKey) → q ≢ key.TrustLine id held → get (with_line m id held f) q ≡ get m q
-    unfolding with_line
-    line_beside q apart = line_found q apart (get m (key.TrustLine id held)) refl
-
-line_keyed_in : (m : EntryMap) (f : TrustLineEntry → TrustLineEntry) (e : LedgerEntry) (b : LedgerEntryBody)
-    → IsKeyed m → IsKeyed (with_line_in m e f b)
-line_keyed_in m f e (body.TrustLine t) keyed = keyed_put m (record e { body = body.TrustLine (f t) }) keyed
-line_keyed_in m f e other keyed = keyed
-
-line_keyed_of : (m : EntryMap) (f : TrustLineEntry → TrustLineEntry) (o : Option LedgerEntry) → IsKeyed m
-    → IsKeyed (with_line_of m f o)
-line_keyed_of m f None keyed = keyed
-line_keyed_of m f (Some e) keyed = line_keyed_in m f e e.body keyed
+    → ((t : TrustLineEntry) → key.TrustLine (f t).account_id (f t).asset ≡ key.TrustLine t.account_id t.asset)
+    → (q : LedgerKey) → q ≢ key.TrustLine id held → get (with_line m id held f) q ≡ get m q
+unfolding with_line
+line_beside m keyed id held f keeps = beside lines_exact m keyed (key.TrustLine id held) f keeps
 
 pub line_keyed : (m : EntryMap) (id : AccountId) (held : TrustLineAsset) (f : TrustLineEntry → TrustLineEntry)
     → IsKeyed m → IsKeyed (with_line m id held f)
 unfolding with_line
-line_keyed m id held f keyed = line_keyed_of m f (get m (key.TrustLine id held)) keyed
+line_keyed m id held f keyed = keyed_after lines_exact m (key.TrustLine id held) f keyed
 
--- ---- a pool that is changed
-
-module _ (m : EntryMap) (keyed : IsKeyed m) (pool : Hash) (f : LiquidityPoolEntry → LiquidityPoolEntry)
-    (keeps : (p : LiquidityPoolEntry) → (f p).pool_id ≡ p.pool_id) where
-  pool_in_place : (q : LedgerKey) → q ≢ key.LiquidityPool pool → (e : LedgerEntry) (b : LedgerEntryBody)
-      → key_of_body b ≡ key.LiquidityPool pool → get (with_pool_in m e f b) q ≡ get m q
-  pool_in_place q apart e (body.LiquidityPool p) own =
-      put_elsewhere m (record e { body = body.LiquidityPool (f p) }) q
-      (λ same. apart (same ∙ ap key.LiquidityPool (keeps p) ∙ own))
-  pool_in_place q apart e other own = refl
-
-  pool_found : (q : LedgerKey) → q ≢ key.LiquidityPool pool → (o : Option LedgerEntry)
-      → get m (key.LiquidityPool pool) ≡ o → get (with_pool_of m f o) q ≡ get m q
-  pool_found q apart None there = refl
-  pool_found q apart (Some e) there = pool_in_place q apart e e.body (keyed (key.LiquidityPool pool) e there)
-
-  pub pool_beside : (q : LedgerKey) → q ≢ key.LiquidityPool pool → get (with_pool m pool f) q ≡ get m q
-  unfolding with_pool
-  pool_beside q apart = pool_found q apart (get m (key.LiquidityPool pool)) refl
-
-pool_keyed_in : (m : EntryMap) (f : LiquidityPoolEntry → LiquidityPoolEntry) (e : LedgerEntry) (b : LedgerEntryBody)
-    → IsKeyed m → IsKeyed (with_pool_in m e f b)
-pool_keyed_in m f e (body.LiquidityPool p) keyed = keyed_put m (record e { body = body.LiquidityPool (f p) }) keyed
-pool_keyed_in m f e other keyed = keyed
-
-pool_keyed_of : (m : EntryMap) (f : LiquidityPoolEntry → LiquidityPoolEntry) (o : Option LedgerEntry) → IsKeyed m
-    → IsKeyed (with_pool_of m f o)
-pool_keyed_of m f None keyed = keyed
-pool_keyed_of m f (Some e) keyed = pool_keyed_in m f e e.body keyed
+pub pool_beside : (m : EntryMap) → IsKeyed m → (pool : Hash) (f : LiquidityPoolEntry → LiquidityPoolEntry)
+    → ((p : LiquidityPoolEntry) → (f p).pool_id ≡ p.pool_id) → (q : LedgerKey) → q ≢ key.LiquidityPool pool
+    → get (with_pool m pool f) q ≡ get m q
+unfolding with_pool
+pool_beside m keyed pool f keeps =
+    beside pools_exact m keyed (key.LiquidityPool pool) f (λ p. ap key.LiquidityPool (keeps p))
 
 pub pool_keyed : (m : EntryMap) (pool : Hash) (f : LiquidityPoolEntry → LiquidityPoolEntry) → IsKeyed m
     → IsKeyed (with_pool m pool f)
 unfolding with_pool
-pool_keyed m pool f keyed = pool_keyed_of m f (get m (key.LiquidityPool pool)) keyed
+pool_keyed m pool f keyed = keyed_after pools_exact m (key.LiquidityPool pool) f keyed
 
 -- ---- a payment
 

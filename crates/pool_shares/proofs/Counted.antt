@@ -1,47 +1,26 @@
 -- What counting a line of shares leaves: no account changes, and nothing is held that wasn't.
 use Rattle.pool_shares.proofs.Prelude as prelude
 use prelude.{◌≡◌, refl, sym, ap, subst, ◌∙◌, ℕ, Option, Some, None, get, ℤ, AccountId, Hash, Asset, PoolParams}
-use prelude.{TrustLineAsset, TrustLineEntry, LiquidityPoolEntry, LedgerEntry, LedgerEntryBody, LedgerKey, key_of_body}
-use prelude.{EntryMap, put, line_in, line_of, line_at, with_line_in, with_line_of, with_line, pool_in, pool_of, pool_at}
-use prelude.{with_pool_in, with_pool_of, with_pool, part, IsKeyed, none_more, needed_line, with_uses, map_with_uses_at}
+use prelude.{TrustLineAsset, TrustLineEntry, LiquidityPoolEntry, LedgerEntry, LedgerKey, key_of_body, EntryMap, put}
+use prelude.{line_at, with_line, pool_at, with_pool, part, IsKeyed, none_more, needed_line, with_uses, map_with_uses_at}
 use prelude.{map_with_uses, with_lines, map_with_lines, map_with_share_lines, held, with_pool_body, IsPoolEntry}
 use prelude.{pool_entry, put_beside, put_same, Leaves, leaves_itself, keeps_both, accounts_kept, keyed_put, line_kept}
-use prelude.{with_pool_is}
+use prelude.{with_pool_is, lines_exact, pools_exact, with_missing}
 use Rattle.ledger_types.specs.declared.entry.LedgerEntryBody.TheVariants as body
 use Rattle.ledger_types.specs.declared.key.LedgerKey.TheVariants as key
 use Rattle.trade_cross.specs.legal_rules.Supply.{held_in}
 
 -- ---- what doesn't exist isn't changed
 
-no_line_in : (m : EntryMap) (e : LedgerEntry) (change : TrustLineEntry → TrustLineEntry) (b : LedgerEntryBody)
-    → line_in b ≡ None → with_line_in m e change b ≡ m
-no_line_in m e change (body.TrustLine t) none = absurd (cc)
-no_line_in m e change other none = refl
-
-no_line_of : (m : EntryMap) (change : TrustLineEntry → TrustLineEntry) (o : Option LedgerEntry) → line_of o ≡ None
-    → with_line_of m change o ≡ m
-no_line_of m change None none = refl
-no_line_of m change (Some e) none = no_line_in m e change e.body none
-
 pub no_line_changed : (m : EntryMap) (id : AccountId) (a : TrustLineAsset) (change : TrustLineEntry → TrustLineEntry)
     → line_at m id a ≡ None → with_line m id a change ≡ m
 unfolding line_at with_line
-no_line_changed m id a change none = no_line_of m change (get m (key.TrustLine id a)) none
-
-no_pool_in : (m : EntryMap) (e : LedgerEntry) (change : LiquidityPoolEntry → LiquidityPoolEntry) (b : LedgerEntryBody)
-    → pool_in b ≡ None → with_pool_in m e change b ≡ m
-no_pool_in m e change (body.LiquidityPool p) none = absurd (cc)
-no_pool_in m e change other none = refl
-
-no_pool_of : (m : EntryMap) (change : LiquidityPoolEntry → LiquidityPoolEntry) (o : Option LedgerEntry)
-    → pool_of o ≡ None → with_pool_of m change o ≡ m
-no_pool_of m change None none = refl
-no_pool_of m change (Some e) none = no_pool_in m e change e.body none
+no_line_changed m id a change none = with_missing lines_exact m (key.TrustLine id a) change none
 
 no_pool_changed : (m : EntryMap) (pool : Hash) (change : LiquidityPoolEntry → LiquidityPoolEntry)
     → pool_at m pool ≡ None → with_pool m pool change ≡ m
 unfolding pool_at with_pool
-no_pool_changed m pool change none = no_pool_of m change (get m (key.LiquidityPool pool)) none
+no_pool_changed m pool change none = with_missing pools_exact m (key.LiquidityPool pool) change none
 
 -- ---- lines and pools that count more or less
 

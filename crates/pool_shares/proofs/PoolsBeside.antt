@@ -1,13 +1,12 @@
 -- A pool stays as it was where accounts, lines and claimable balances change or are added.
 use Rattle.entry_map.proofs.Lookups.{put_elsewhere}
 use Rattle.entry_map.specs.EntryMap.{EntryMap, put}
-use Rattle.entry_slots.specs.Accounts.{with_account, with_account_in, with_account_of}
-use Rattle.entry_slots.specs.Lines.{with_line, with_line_in, with_line_of}
+use Rattle.entry_slots.specs.Accounts.{with_account}
+use Rattle.entry_slots.specs.Lines.{with_line}
 use Rattle.ledger_types.specs.Keys.{key_of}
 use Rattle.ledger_types.specs.declared.account.AccountEntry.{AccountEntry}
 use Rattle.ledger_types.specs.declared.asset.TrustLineAsset.{TrustLineAsset}
 use Rattle.ledger_types.specs.declared.entry.LedgerEntry.{LedgerEntry}
-use Rattle.ledger_types.specs.declared.entry.LedgerEntryBody.{LedgerEntryBody}
 use Rattle.ledger_types.specs.declared.ids.AccountId.{AccountId}
 use Rattle.ledger_types.specs.declared.ids.Hash.{Hash}
 use Rattle.ledger_types.specs.declared.key.LedgerKey.{LedgerKey}
@@ -25,8 +24,8 @@ use Rattle.std.proofs.Common.{ap, refl, sym, ◌∙◌}
 use Rattle.std.specs.FinMap.{get}
 use Rattle.std.specs.Prelude.{None, Ok, Option, Some, ℕ, ℤ, ◌≡◌, ◌≢◌}
 use Rattle.trade_cross.specs.Holdings.{line_paid, paying}
-use Rattle.ledger_types.specs.declared.entry.LedgerEntryBody.TheVariants as body
 use Rattle.ledger_types.specs.declared.key.LedgerKey.TheVariants as key
+use Rattle.pool_shares.proofs.Prelude.{accounts_exact, lines_exact, with_beside}
 
 module _ (pool : Hash) where
   -- the entry of a pool
@@ -35,37 +34,18 @@ module _ (pool : Hash) where
 
   -- ---- accounts and lines
 
-  account_by : (m : EntryMap) (change : AccountEntry → AccountEntry) (e : LedgerEntry) (of : LedgerEntryBody)
-      → its (with_account_in m e change of) ≡ its m
-  account_by m change e (body.Account a) =
-      put_elsewhere m (record e { body = body.Account (change a) }) (key.LiquidityPool pool) (λ same. absurd (cc))
-  account_by m change e other = refl
-
-  account_found : (m : EntryMap) (change : AccountEntry → AccountEntry) (found : Option LedgerEntry)
-      → its (with_account_of m change found) ≡ its m
-  account_found m change None = refl
-  account_found m change (Some e) = account_by m change e e.body
-
   pub beside_account : (m : EntryMap) (id : AccountId) (change : AccountEntry → AccountEntry)
       → its (with_account m id change) ≡ its m
   unfolding with_account
-  beside_account m id change = account_found m change (get m (key.Account id))
-
-  line_by : (m : EntryMap) (change : TrustLineEntry → TrustLineEntry) (e : LedgerEntry) (of : LedgerEntryBody)
-      → its (with_line_in m e change of) ≡ its m
-  line_by m change e (body.TrustLine t) =
-      put_elsewhere m (record e { body = body.TrustLine (change t) }) (key.LiquidityPool pool) (λ same. absurd (cc))
-  line_by m change e other = refl
-
-  line_found : (m : EntryMap) (change : TrustLineEntry → TrustLineEntry) (found : Option LedgerEntry)
-      → its (with_line_of m change found) ≡ its m
-  line_found m change None = refl
-  line_found m change (Some e) = line_by m change e e.body
+  beside_account m id change =
+      with_beside accounts_exact m (key.Account id) change (key.LiquidityPool pool) (λ a exists same. absurd (cc))
 
   pub beside_line : (m : EntryMap) (id : AccountId) (held : TrustLineAsset)
       (change : TrustLineEntry → TrustLineEntry) → its (with_line m id held change) ≡ its m
   unfolding with_line
-  beside_line m id held change = line_found m change (get m (key.TrustLine id held))
+  beside_line m id held change =
+      with_beside lines_exact m (key.TrustLine id held) change (key.LiquidityPool pool)
+      (λ t exists same. absurd (cc))
 
   pub beside_paying : (o : Option LedgerKey) (n : ℤ) (m : EntryMap) → its (paying o n m) ≡ its m
   beside_paying (Some (key.Account id)) n m = beside_account m id (paid n)

@@ -1,23 +1,23 @@
 -- Names that several proofs of this crate use.
 pub use Rattle.std.proofs.Common.{All, Bool, IfSome, List, None, Option, Some, [], ap, append-nil, append_assoc, arith}
-pub use Rattle.std.proofs.Common.{false, inl, inr, length, of_z, refl, rules, subst, sym, to_z, true, w32, w64, ℕ, ◌%◌}
-pub use Rattle.std.proofs.Common.{◌++◌, ◌<◌, ◌∙◌, ◌∷◌, ◌≡◌, ◌≢◌, ◌≤◌, ◌⊎◌}
+pub use Rattle.std.proofs.Common.{false, inl, inr, length, of_z, option_map, refl, rules, subst, sym, to_z, true, w32}
+pub use Rattle.std.proofs.Common.{w64, ℕ, ◌%◌, ◌++◌, ◌<◌, ◌∙◌, ◌∷◌, ◌≡◌, ◌≢◌, ◌≤◌, ◌⊎◌}
 pub use Rattle.std.proofs.lemmas.Int.{ints, to_z-of_z}
 pub use Rattle.std.specs.FinMap.{entries, get}
 pub use Rattle.std.specs.Ordering.{is_eq, ordering_then}
 pub use Rattle.std.specs.Prelude.{if◌then◌else◌, int_lt, neg_ℤ, pos, unsigned_abs, ℤ, ◌+ℤ◌, ◌-ℤ◌, ◌<ℤ◌, ◌≤ℤ◌}
 pub use Rattle.std.specs.declared.cmp.Ordering.TheVariants.{Equal, Greater, Less}
-pub use Rattle.entry_map.proofs.Lookups.{erase_elsewhere, put_elsewhere, put_there}
+pub use Rattle.entry_map.proofs.Lookups.{erase_elsewhere}
 pub use Rattle.entry_map.specs.EntryMap.{EntryMap, IsLeastAbove, IsNextAfter, erase, put}
 pub use Rattle.entry_map.specs.Undo.{Undo}
-pub use Rattle.entry_slots.specs.Accounts.{with_account_in, with_account_of}
+pub use Rattle.entry_slots.proofs.ChangedEntries.{IsExact, accounts_exact, lines_exact, own_key, pools_exact}
+pub use Rattle.entry_slots.proofs.ChangedEntries.{slot_value, with_beside, with_missing, with_there}
 unfoldable pub use Rattle.entry_slots.specs.Accounts.{account_at, with_account}
 pub use Rattle.entry_slots.specs.EntrySponsor.{sponsor_of}
 pub use Rattle.entry_slots.specs.LineExtensions.{line_liabilities, use_count}
-pub use Rattle.entry_slots.specs.Lines.{line_in, line_of, line_of_slot, line_slot_at, line_slot_by, line_slot_of}
-pub use Rattle.entry_slots.specs.Lines.{with_line_in, with_line_of}
+pub use Rattle.entry_slots.specs.Lines.{line_in, line_of, line_of_slot, line_slot, line_slot_at}
 unfoldable pub use Rattle.entry_slots.specs.Lines.{line_at, with_line}
-pub use Rattle.entry_slots.specs.Pools.{pool_in, pool_of, pool_slot_at, pool_slot_of, with_pool_in, with_pool_of}
+pub use Rattle.entry_slots.specs.Pools.{pool_in, pool_kind, pool_of, pool_slot, pool_slot_at}
 unfoldable pub use Rattle.entry_slots.specs.Pools.{pool_at, with_pool}
 pub use Rattle.ledger_types.proofs.Arithmetic.{add_positive_first, add_positive_second, if_zeros, int_eq_true}
 pub use Rattle.ledger_types.proofs.Arithmetic.{natural_nonnegative, natural_positive, one_not_at_most_zero}
@@ -47,9 +47,9 @@ pub use Rattle.trade_cross.proofs.legal_rules_proofs.Changed.{IsPoolEntry, line_
 pub use Rattle.trade_cross.proofs.legal_rules_proofs.Changed.{with_pool_body, with_pool_is}
 pub use Rattle.trade_cross.proofs.legal_rules_proofs.ChargesLeft.{discharged_kept, erased_kept, put_beside}
 pub use Rattle.trade_cross.proofs.legal_rules_proofs.Holdings.{put_same, still_holds}
-pub use Rattle.trade_cross.proofs.legal_rules_proofs.Leaving.{Leaves, accounts_kept, keeps_both, keeps_then, keyed_put}
-pub use Rattle.trade_cross.proofs.legal_rules_proofs.Leaving.{leaves_as, leaves_itself}
-pub use Rattle.trade_cross.proofs.legal_rules_proofs.Liable.{IsLineEntry, line_entry, with_line_body, with_line_is}
+pub use Rattle.trade_cross.proofs.legal_rules_proofs.Leaving.{Leaves, accounts_kept, keeps_both, keeps_then}
+pub use Rattle.trade_cross.proofs.legal_rules_proofs.Leaving.{keyed_after, keyed_put, leaves_as, leaves_itself}
+pub use Rattle.trade_cross.proofs.legal_rules_proofs.Liable.{IsLineEntry, line_entry, with_line_body}
 pub use Rattle.trade_cross.proofs.legal_rules_proofs.LinesLeft.{IsLegalLine, line_kept, line_left, line_legal}
 pub use Rattle.trade_cross.proofs.legal_rules_proofs.LinesLeft.{line_named}
 pub use Rattle.trade_cross.proofs.legal_rules_proofs.PoolsKept.{pool_erased}

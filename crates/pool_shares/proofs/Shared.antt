@@ -1,9 +1,9 @@
 -- What remains of a pool and of an account's line of its shares, once these have changed.
 use Rattle.pool_shares.proofs.Prelude as prelude
 use prelude.{◌≡◌, ◌≢◌, refl, sym, ap, subst, ◌∙◌, Some, get, ℤ, AccountId, Hash, TrustLineEntry, LiquidityPoolEntry}
-use prelude.{LedgerKey, key_of_body, EntryMap, put, line_of, line_at, pool_of, pool_at, IsKeyed, with_pool_body}
-use prelude.{pool_entry, line_entry, with_line_body, with_line_is, line_paid, paying, DoesFit, DoLinesFit}
-use prelude.{DoShareLinesFit, share_key, with_change, map_with_shares, put_there, with_pool_is}
+use prelude.{LedgerKey, EntryMap, line_of, line_at, pool_at, IsKeyed, line_paid, paying, DoesFit, DoLinesFit}
+use prelude.{DoShareLinesFit, share_key, with_change, map_with_shares, option_map, own_key, with_there, lines_exact}
+use prelude.{pools_exact, with_line, with_pool}
 use Rattle.ledger_types.specs.declared.asset.TrustLineAsset.TheVariants as line
 use Rattle.ledger_types.specs.declared.key.LedgerKey.TheVariants as key
 use Rattle.pool_shares.proofs.Beside.{paying_beside, paying_keyed, pool_beside, pool_keyed}
@@ -32,31 +32,20 @@ module _ (m : EntryMap) (keyed : IsKeyed m) (id : AccountId) (pool : Hash) (a b 
 
   pub line_now : (t : TrustLineEntry) → line_at m id (line.PoolShare pool) ≡ Some t
       → line_at now id (line.PoolShare pool) ≡ Some (line_paid shares t)
-  unfolding line_at
+  unfolding line_at with_line
   line_now t has =
       let k = key.TrustLine id (line.PoolShare pool) in
-      let found = line_entry m id (line.PoolShare pool) t has in
-      let e = with_line_body found.0 (line_paid shares t) in
-      let own : key.TrustLine t.account_id t.asset ≡ k = sym (ap key_of_body found.1.is) ∙ keyed k found.0 found.1.there
-      in
-      let there : get paid k ≡ Some e =
-      ap (λ x. get x k) (with_line_is m id (line.PoolShare pool) (line_paid shares) t found.0 found.1)
-      ∙ subst (λ q. get (put m e) q ≡ Some e) own (put_there m e) in
-      ap line_of (pool_beside paid paid_keyed pool (with_change a b shares) (λ p. refl) k (λ same. absurd (cc)) ∙ there)
+      ap line_of (pool_beside paid paid_keyed pool (with_change a b shares) (λ p. refl) k (λ same. absurd (cc)))
+      ∙ with_there lines_exact m k (line_paid shares) (λ x. own_key lines_exact m k x (keyed k))
+      ∙ ap (option_map (line_paid shares)) has
 
   module _ (p : LiquidityPoolEntry) (exists : pool_at m pool ≡ Some p) where
     pub pool_now : pool_at now pool ≡ Some (with_change a b shares p)
-    unfolding pool_at
+    unfolding pool_at with_pool
     pool_now =
         let k = key.LiquidityPool pool in
-        let found = pool_entry paid pool p (pool_still m keyed id pool shares p exists) in
-        let e = with_pool_body found.0 (with_change a b shares p) in
-        let own : key.LiquidityPool p.pool_id ≡ k = sym (ap key_of_body found.1.is) ∙ paid_keyed k found.0 found.1.there
-        in
-        let there : get now k ≡ Some e =
-        ap (λ x. get x k) (with_pool_is paid pool (with_change a b shares) p found.0 found.1)
-        ∙ subst (λ q. get (put paid e) q ≡ Some e) own (put_there paid e) in
-        ap pool_of there
+        with_there pools_exact paid k (with_change a b shares) (λ x. own_key pools_exact paid k x (paid_keyed k))
+        ∙ ap (option_map (with_change a b shares)) (pool_still m keyed id pool shares p exists)
 
     -- what counts a line of shares can count as many more as it could
     pub shared_fits : (n : ℤ) → DoShareLinesFit n id pool p.params m → DoShareLinesFit n id pool p.params now

@@ -3,7 +3,8 @@
 //! can't be taken.
 //!
 //! The program's one argument is the file of the cases. Blank lines part them. The first line of a case says what it
-//! is of: `ledgers`, `maps` with the files of levels, `levels`, `streams`, `calls` or `changes`. Each further line is
+//! is of: `ledgers`, `maps` with the files of levels, `levels`, `streams`, `calls`, `changes`, `pages` with the file of a
+//! bucket, or `warming` with a start image. Each further line is
 //! the name of a step and its arguments, as XDR in hexadecimal. The scripts in `tests/probe` at the top write the
 //! cases, and what is expected of them.
 #![tactic(auto)]
@@ -18,6 +19,7 @@ mod machine;
 mod maps;
 mod operations;
 mod output;
+mod pages;
 mod ready;
 mod sheet;
 mod sponsoring;
@@ -30,6 +32,7 @@ use change_lists::run_changes;
 use machine::take_all;
 use maps::run_maps;
 use output::Output;
+use pages::{run_pages, run_warming};
 use std::alloc::Global;
 use std::{env, fs, io};
 use streams::Streams;
@@ -44,6 +47,8 @@ fn run(alloc: Global, head: &str, lines: &str, output: &mut Output) -> Option<()
         b"streams" => Some(take_all(alloc, &mut Streams, lines, output)),
         b"calls" => Some(take_all(alloc, &mut Calls, lines, output)),
         b"changes" => run_changes(alloc, lines, output),
+        b"pages" => run_pages(alloc, digits, lines, output),
+        b"warming" => run_warming(alloc, digits, lines, output),
         _ => None,
     }
 }

@@ -15,9 +15,8 @@ use crate::machine::{Machine, take_all};
 use crate::output::Output;
 use crate::sheet::Sheet;
 use entry_map::Batch;
-use entry_table::EntryTable;
 use ledger_types::{LedgerEntry, LedgerEntryBody, LedgerKey, OfferEntry};
-use level_entries::level_entries;
+use level_entries::{PlacedEntries, level_entries};
 use offer_book::{best, of_account};
 use std::alloc::{AllocError, Global};
 use tally::{lumens, supply};
@@ -180,17 +179,24 @@ impl Machine for Sheet<'_> {
 
 // ---- cases
 
-/// The entries of the levels of a case.
-fn table_of(alloc: Global, digits: &str) -> Option<EntryTable> {
-    let bytes = hex::decode(alloc, digits).ok()?;
-    let pairs = read_pairs(alloc, &mut Cursor::new(bytes.as_slice()))?;
-    level_entries(alloc, pairs.as_slice()).ok()?
+/// Takes the steps of lines over entries.
+fn take_over(
+    alloc: Global,
+    placed: &PlacedEntries<'_>,
+    lines: &str,
+    output: &mut Output,
+) -> Option<()> {
+    let mut sheet = Sheet::new(alloc, placed)?;
+    take_all(alloc, &mut sheet, lines, output);
+    Some(())
 }
 
 /// Takes the steps of lines over the entries of levels, if these represent some.
 pub fn run_maps(alloc: Global, digits: &str, lines: &str, output: &mut Output) -> Option<()> {
-    let table = table_of(alloc, digits)?;
-    let mut sheet = Sheet::new(alloc, &table)?;
-    take_all(alloc, &mut sheet, lines, output);
-    Some(())
+    let bytes = hex::decode(alloc, digits).ok()?;
+    let pairs = read_pairs(alloc, &mut Cursor::new(bytes.as_slice()))?;
+    match level_entries(alloc, pairs.as_slice()) {
+        Ok(Some(placed)) => take_over(alloc, &placed, lines, output),
+        _ => None,
+    }
 }

@@ -6,12 +6,15 @@ ghost use Rattle.entry_map.specs.Undo.{with_current};
 
 use entry_map::Entries;
 use entry_slots::{erase_account, erase_balance, erase_data, erase_line, erase_offer, erase_pool};
-use entry_table::EntryTable;
 use ledger_types::{LedgerEntry, LedgerKey};
+use level_entries::PlacedEntries;
 use std::alloc::{AllocError, Global};
 
 /// Erases what has a key, by the call of its kind.
-fn erase_by_kind(entries: &mut Entries<'_, EntryTable>, key: &LedgerKey) -> Result<(), AllocError>
+fn erase_by_kind(
+    entries: &mut Entries<'_, PlacedEntries<'_>>,
+    key: &LedgerKey,
+) -> Result<(), AllocError>
     ensures { OnOk result (entries.new ≡ with_current entries.old (erase entries.old.current key.now)) }
 {
     match key {
@@ -35,14 +38,14 @@ fn erase_by_kind(entries: &mut Entries<'_, EntryTable>, key: &LedgerKey) -> Resu
 #[derive(Drop)]
 pub struct Sheet<'a> {
     /// The entries.
-    pub entries: Entries<'a, EntryTable>,
+    pub entries: Entries<'a, PlacedEntries<'a>>,
     depth: usize,
     ghost open: { depth ≤ length entries.saved },
 }
 
 impl<'a> Sheet<'a> {
     /// The entries of a table.
-    pub fn new(alloc: Global, table: &'a EntryTable) -> Option<Sheet<'a>> {
+    pub fn new(alloc: Global, table: &'a PlacedEntries<'a>) -> Option<Sheet<'a>> {
         let entries = Entries::new(alloc, table).ok()?;
         Some(Sheet { entries, depth: 0 })
     }

@@ -36,6 +36,7 @@ pub mod Asking
 pub mod AskCompleting
 pub mod Commands
 pub mod Agreeing
+pub mod Warmed
 pub mod Sampling
 pub mod SampleSteps
 pub mod SampleReporting

@@ -19,6 +19,7 @@ pub mod Sampling
 pub mod CommandLaws
 pub mod VerifyLaws
 pub mod FileLaws
+pub mod Warming
 pub use Rattle.stored_outcome.specs.bucket_core
 pub use Rattle.worker_merges.specs.bucket_merge
 pub use Rattle.stored_outcome.specs.entry_sums

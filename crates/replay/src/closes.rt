@@ -6,11 +6,14 @@ ghost use Rattle.stored_outcome.specs.run_streams.Seen.{seen};
 ghost use Rattle.record_stream.specs.Measured.{record_end};
 ghost use Rattle.stored_outcome.specs.close_rules.Close.{IsClose};
 ghost use Rattle.stored_outcome.specs.run_outcome.Outcome.{lines_of};
+ghost use Rattle.worker_merges.specs.ledger_close.States.{close_of};
+ghost use Rattle.replay.specs.Warming.{IsWarmedAfter};
 ghost use Rattle.replay.specs.Following.{WroteClose, Turned, Refuses, Closes, Passes, EndsAt, Followed};
 ghost use Rattle.replay.specs.Keeping.{DiskFailed, Ready, KeptWriting, KeptClose, KeptPass, KeptTurn, KeptOn};
 
 use crate::crew::Crew;
 use crate::keeper::{KeepFault, Keeper};
+use crate::warming::{batch_keys, warm_keys};
 use outside::{Sink, Source, Steps, Volume, write_all};
 use record_stream::{PieceFault, RecordLength, read_piece, without_prefix};
 use reports::{prefix_record, write_end, write_refusal};
@@ -55,8 +58,8 @@ fn write_close<K: Keeper, V: Volume, O: Sink>(
     }
 }
 
-/// A close is kept, the ledger takes it, and its lines are written. All memory that the record takes is taken before it
-/// is kept.
+/// A close is kept, the ledger takes it, its lines are written, and the pages of the entries that it made or changed are
+/// taken. All memory that the record takes, but for these pages, is taken before it is kept.
 fn take_close<C: Crew, K: Keeper, V: Volume, O: Sink>(
     alloc: Global,
     crew: &C,
@@ -69,7 +72,7 @@ fn take_close<C: Crew, K: Keeper, V: Volume, O: Sink>(
     out: &mut O,
 ) -> Option<Status>
     requires short { length bytes.now ≤ 16777216 }
-    requires closes { IsClose ledger.old.state bytes.now (Ok prepared) }
+    requires closes { IsClose ledger.old.state bytes.now (Ok (close_of prepared)) }
     requires crew { C.has crew.now side.old }
     requires works { K.works keeper.old }
     requires ready { K.stores → V.reports
@@ -84,10 +87,14 @@ fn take_close<C: Crew, K: Keeper, V: Volume, O: Sink>(
     ensures works { IsNone result → K.works keeper.new }
     ensures keeps { K.stores → V.reports → IsNone result
         → Ready (K.keeps keeper.new (V.disk vol.new) ledger.new.state) (V.disk vol.new) ledger.new.state }
+    ensures warmed { IsNone result → IsWarmedAfter prepared ledger.old.caches ledger.new.caches }
     ensures crew { C.has crew.now side.new }
 {
     let pairs = prepared.results().results.as_slice();
     let Ok(text) = closed_text(alloc, prepared.header(), &prepared.header_hash(), pairs) else {
+        return Some(Status::NoMemory);
+    };
+    let Ok(keys) = batch_keys(alloc, prepared.batch()) else {
         return Some(Status::NoMemory);
     };
     let Ok(piece) = keeper.hold(alloc, bytes) else {
@@ -99,7 +106,9 @@ fn take_close<C: Crew, K: Keeper, V: Volume, O: Sink>(
     }
     ledger.install(prepared);
     crew.post_due(side, ledger);
-    write_close(alloc, ledger, keeper, vol, text.as_slice(), out)
+    let ended = write_close(alloc, ledger, keeper, vol, text.as_slice(), out);
+    warm_keys(ledger, keys.as_slice());
+    ended
 }
 
 /// Ends a run with a record that is refused, or where memory was.

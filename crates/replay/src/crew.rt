@@ -12,17 +12,19 @@ pub(crate) trait Crew {
     // The side is of this crew.
     ghost has: { Self → Self.Side → Type 0 };
 
-    /// Hands in the merges that are finished. What the ledger's state is stays.
+    /// Hands in the merges that are finished. What the ledger's state is stays, and the pages that it keeps.
     fn adopt(&self, side: &mut Self::Side, ledger: &mut Ledger)
         requires { has self.now side.old }
         ensures has { has self.now side.new }
-        ensures state { ledger.new.state ≡ ledger.old.state };
+        ensures state { ledger.new.state ≡ ledger.old.state }
+        ensures caches { ledger.new.caches ≡ ledger.old.caches };
 
-    /// Posts the merges that have begun. What the ledger's state is stays.
+    /// Posts the merges that have begun. What the ledger's state is stays, and the pages that it keeps.
     fn post_due(&self, side: &mut Self::Side, ledger: &mut Ledger)
         requires { has self.now side.old }
         ensures has { has self.now side.new }
-        ensures state { ledger.new.state ≡ ledger.old.state };
+        ensures state { ledger.new.state ≡ ledger.old.state }
+        ensures caches { ledger.new.caches ≡ ledger.old.caches };
 }
 
 /// Nobody: the closing thread makes each merge as it is due.

@@ -20,6 +20,7 @@ mod starting;
 mod stored;
 mod stored_run;
 mod verify;
+mod warming;
 
 pub use files::{do_changes, do_history};
 pub use path::do_path;

@@ -7,6 +7,7 @@ ghost use Rattle.stored_outcome.specs.run_outcome.Lines.{sample_line, success_co
 ghost use Rattle.stored_outcome.specs.run_outcome.declared.status.Status.TheVariants as status;
 ghost use Rattle.stored_outcome.specs.sample_ledger.Samples.{first_state, record_bytes as bytes_of};
 ghost use Rattle.reports.specs.Ends.{Wrote};
+ghost use Rattle.worker_merges.specs.ledger_close.States.{close_of};
 ghost use Rattle.replay.specs.Sampling.{HasReached, Advances, Samples};
 
 use crate::closes::refuse;
@@ -84,7 +85,7 @@ fn record_bytes(
 fn take_close(sampled: &mut Sampled, prepared: Prepared)
     requires few { (k : ℕ) × (k < 20000) × (sampled.old.transactions ≤ k * 2 ^ 64)
         × (sampled.old.successes ≤ k * 2 ^ 64) }
-    requires closes { (bytes : List ℕ) × IsClose sampled.old.ledger.state bytes (Ok prepared)
+    requires closes { (bytes : List ℕ) × IsClose sampled.old.ledger.state bytes (Ok (close_of prepared))
         × (length bytes ≤ 16777216) }
     ensures state { sampled.new.ledger.state ≡ prepared.state }
     ensures transactions { sampled.new.transactions ≡ sampled.old.transactions + length prepared.results }

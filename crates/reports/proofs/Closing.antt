@@ -5,13 +5,14 @@ use Rattle.reports.proofs.Prelude.{RecordClose, IsCloseOf, FileKind, Gathers, Is
 use Rattle.reports.proofs.Prelude.{Closes, Status}
 use Rattle.ledger_close.specs.declared.prepared.DetailedClose.{DetailedClose}
 use Rattle.ledger_close.specs.Closing.{IsDetail}
+use Rattle.ledger_close.specs.States as states
 use Rattle.run_outcome.specs.declared.status.Status.TheVariants as status
 use Rattle.reports.specs.declared.gathering.Stop.TheVariants as stop
 
 abbrev pub detailed : (s : ClosingState) (bytes : List ℕ) (close : DetailedClose) → length bytes ≤ max_record_len
-    → IsClose s bytes (Ok close.prepared) → IsDetail s bytes close → (c : RecordClose) × IsDetailed s close c
+    → IsClose s bytes (Ok (states.close_of close.prepared)) → IsDetail s bytes close → (c : RecordClose) × IsDetailed s close c
 detailed s bytes close short closes detail = (
-  record { before = s; closing = detail.0; closed = close.prepared },
+  record { before = s; closing = detail.0; closed = states.close_of close.prepared },
   record {
     bytes = bytes;
     short = short;
@@ -23,13 +24,13 @@ detailed s bytes close short closes detail = (
 
 -- the close of these bytes
 pub close_of : (s : ClosingState) (bytes : List ℕ) (close : DetailedClose) (short : length bytes ≤ max_record_len)
-    (closes : IsClose s bytes (Ok close.prepared)) (detail : IsDetail s bytes close)
+    (closes : IsClose s bytes (Ok (states.close_of close.prepared))) (detail : IsDetail s bytes close)
     → IsCloseOf s bytes (detailed s bytes close short closes detail).0
 close_of s bytes close short closes detail = record { before = refl; reads = detail.1; closes = closes }
 
 -- the ledger may take a close of a record
 pub installable : (s : ClosingState) (close : DetailedClose) (c : RecordClose) → IsDetailed s close c
-    → (bytes : List ℕ) × IsClose s bytes (Ok close.prepared) × (length bytes ≤ max_record_len)
+    → (bytes : List ℕ) × IsClose s bytes (Ok (states.close_of close.prepared)) × (length bytes ≤ max_record_len)
 installable s close c d =
     (d.bytes, subst (λ (p : PreparedClose). IsClose s d.bytes (Ok p)) d.closed d.is.closes, d.short)
 

@@ -7,6 +7,7 @@ use Rattle.record_stream.specs.declared.piece.PieceFault.{PieceFault}
 use Rattle.record_stream.specs.declared.piece.PieceFault.TheVariants as fault
 use Rattle.ledger_close.specs.declared.prepared.DetailedClose.{DetailedClose}
 use Rattle.ledger_close.specs.Closing.{IsDetailOf}
+use Rattle.ledger_close.specs.States.{close_of}
 use Rattle.run_outcome.specs.close_rules.State.{ClosingState}
 use Rattle.run_outcome.specs.close_rules.Close.{IsClose}
 use Rattle.run_outcome.specs.op_form.Sequences.{last_seq}
@@ -32,7 +33,7 @@ pub record IsDetailed (s : ClosingState) (close : DetailedClose) (c : RecordClos
   pub bytes : List ℕ
   pub short : length bytes ≤ max_record_len
   pub is : IsCloseOf s bytes c
-  pub closed : c.closed ≡ close.prepared
+  pub closed : c.closed ≡ close_of close.prepared
   pub detail : IsDetailOf s c.closing close
 
 abbrev pub IsGathered : FileKind → (old new : Gathers) → RecordClose → Type 0

@@ -63,7 +63,7 @@ fn changes_of(
     before.is_closing();
     taken_is_closable();
     next_is_closing();
-    changes(alloc, before, &close.batch)
+    changes(alloc, before, close.prepared.batch())
 }
 
 impl Gather for ChangeRecords {

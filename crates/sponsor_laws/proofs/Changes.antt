@@ -1,11 +1,12 @@
 -- Raising and lowering a count of one account, and what sponsors then pay.
 use Rattle.sponsor_laws.proofs.Prelude.{◌≡◌, ◌≢◌, ◌⊎◌, inl, inr, refl, sym, ap, subst, ◌∙◌, ℕ, ◌+◌, ◌-◌, ◌≤◌, true}
-use Rattle.sponsor_laws.proofs.Prelude.{false, cond, Option, Some, None, arith, if◌then◌else◌, eq_by_cmp, get, same_map}
+use Rattle.sponsor_laws.proofs.Prelude.{false, cond, Option, Some, None, arith, if◌then◌else◌, eq_by_cmp, get}
 use Rattle.sponsor_laws.proofs.Prelude.{AccountId, AccountEntry, LedgerEntry, LedgerEntryBody, LedgerKey, key_of}
-use Rattle.sponsor_laws.proofs.Prelude.{key_of_body, key_cmp, keys_total, keys_exact, EntryMap, put, same_itself, Count}
-use Rattle.sponsor_laws.proofs.Prelude.{SubEntries, Sponsoring, Sponsored, account_in, account_of, account_at}
-use Rattle.sponsor_laws.proofs.Prelude.{with_account, with_account_of, with_account_in, count_in, with_more, with_less}
-use Rattle.sponsor_laws.proofs.Prelude.{is_same_account, total, counted_for, is_itself, put_get, same_keys}
+use Rattle.sponsor_laws.proofs.Prelude.{key_of_body, key_cmp, keys_total, EntryMap, put, same_itself, Count, SubEntries}
+use Rattle.sponsor_laws.proofs.Prelude.{Sponsoring, Sponsored, account_in, account_at, with_account, count_in}
+use Rattle.sponsor_laws.proofs.Prelude.{with_more, with_less, is_same_account, total, counted_for, is_itself, put_get}
+use Rattle.sponsor_laws.proofs.Prelude.{same_keys, accounts_exact, entry_found, with_found, with_missing, own_key}
+use Rattle.sponsor_laws.proofs.Prelude.{with_twice}
 use Rattle.sponsor_rules.specs.ledger_types.declared.entry.LedgerEntryBody.TheVariants as body
 use Rattle.sponsor_rules.specs.ledger_types.declared.key.LedgerKey.TheVariants as key
 use Rattle.sponsor_rules.proofs.entry_map_proofs.Layers.{after_insert}
@@ -40,103 +41,37 @@ pub record IsChangedAt (m : EntryMap) (id : AccountId) (f : AccountEntry → Acc
 abbrev pub IsMissing : EntryMap → AccountId → (AccountEntry → AccountEntry) → Type 0
 IsMissing m id f = (account_at m id ≡ None) × (with_account m id f ≡ m)
 
-abbrev ChangeOf : EntryMap → AccountId → (AccountEntry → AccountEntry) → Option LedgerEntry → Type 0
-ChangeOf m id f o = get m (key.Account id) ≡ o → IsMissing m id f ⊎ IsChangedAt m id f
-
-changed_by : (m : EntryMap) (id : AccountId) (f : AccountEntry → AccountEntry) (e : LedgerEntry) (b : LedgerEntryBody)
-    → e.body ≡ b → AreOwn m → get m (key.Account id) ≡ Some e
-    → IsMissing m id f ⊎ IsChangedAt m id f
-unfolding account_at with_account
-changed_by m id f e (body.Account a) is own there = inr (record {
-  entry = e;
-  account = a;
-  there = there;
-  is = is;
-  own_id = (let same : key.Account a.account_id ≡ key.Account id = sym (ap key_of_body is) ∙ own _ e there in cc);
-  is_put = ap (with_account_of m f) there ∙ ap (with_account_in m e f) is;
-})
-changed_by m id f e other is own there = inl (
-  ap account_of there ∙ ap account_in is,
-  ap (with_account_of m f) there
-      ∙ ap (with_account_in m e f) is,
-)
-
 pub changed_at : (m : EntryMap) (id : AccountId) (f : AccountEntry → AccountEntry) → AreOwn m
     → IsMissing m id f ⊎ IsChangedAt m id f
 unfolding account_at with_account
-changed_at m id f own = elim (get m (key.Account id)) as (ChangeOf m id f) [
-  | None ↦ λ none. inl (ap account_of none, ap (with_account_of m f) none)
-  | Some e ↦ λ there. changed_by m id f e e.body refl own there
-] refl
+changed_at m id f own =
+    elim (account_at m id) as (λ o. account_at m id ≡ o → IsMissing m id f ⊎ IsChangedAt m id f) [
+      | None ↦ λ none. inl (none, with_missing accounts_exact m (key.Account id) f none)
+      | Some a ↦ λ exists.
+          let found = entry_found accounts_exact m (key.Account id) a exists in
+          let same : key.Account a.account_id ≡ key.Account id = sym (ap key_of_body found.1.is)
+          ∙ own _ found.0 found.1.there in
+          inr (record {
+            entry = found.0;
+            account = a;
+            there = found.1.there;
+            is = found.1.is;
+            own_id = cc;
+            is_put = with_found accounts_exact m (key.Account id) f a found.0 found.1;
+          })
+    ] refl
 
 -- ---- two changes of one account
-
-put_both : (k q : LedgerKey) (m : EntryMap) (e f : LedgerEntry) → key_of f ≡ key_of e
-    → get (put (put m e) f) q ≡ get (put m f) q
-put_both k q m e f same = put_get (put m e) f q
-    ∙ elim (eq_by_cmp key_cmp q (key_of f)) as (λ b. eq_by_cmp key_cmp q (key_of f) ≡ b
-    → cond b (Some f) (get (put m e) q) ≡ cond b (Some f) (get m q)) [
-      | true ↦ λ tied. refl
-      | false ↦ λ apart. put_get m e q ∙ ap (λ b. cond b (Some e) (get m q)) (ap (eq_by_cmp key_cmp q) (sym same)
-          ∙ apart)
-    ] refl
-    ∙ sym (put_get m f q)
-
--- an entry that is put in place of another one
-put_twice : (m : EntryMap) (e f : LedgerEntry) → key_of f ≡ key_of e → put (put m e) f ≡ put m f
-put_twice m e f same = same_map keys_total keys_exact _ _ (λ q. put_both (key_of e) q m e f same)
-
-put_found : (m : EntryMap) (e : LedgerEntry) (id : AccountId) → key_of e ≡ key.Account id
-    → get (put m e) (key.Account id) ≡ Some e
-put_found m e id named = put_get m e (key.Account id) ∙ ap (λ b. cond b (Some e) (get m (key.Account id)))
-    (ap (λ k. eq_by_cmp key_cmp k (key_of e)) (sym named) ∙ same_itself (key_of e))
-
-changed_again : (m : EntryMap) (id : AccountId) (f g : AccountEntry → AccountEntry)
-    → ((a : AccountEntry) → (f a).account_id ≡ a.account_id) → ((a : AccountEntry) → (g a).account_id ≡ a.account_id)
-    → IsChangedAt m id f → IsChangedAt m id (λ a. g (f a))
-    → with_account (with_account m id f) id g ≡ with_account m id (λ a. g (f a))
-unfolding with_account
-changed_again m id f g keeps_f keeps_g first both =
-    let e : LedgerEntry = record first.entry { body = body.Account (f first.account) } in
-    let named : key_of e ≡ key.Account id = ap key.Account (keeps_f first.account ∙ first.own_id) in
-    let same_entry : first.entry ≡ both.entry = (let one = first.there in let other = both.there in cc) in
-    let same_body : body.Account first.account ≡ body.Account both.account = sym first.is
-    ∙ ap (λ (x : LedgerEntry). x.body) same_entry ∙ both.is in
-    let same_of : first.account ≡ both.account = cc in
-    let last : LedgerEntry = record e { body = body.Account (g (f first.account)) } in
-    ap (λ n. with_account n id g) first.is_put
-    ∙ ap (with_account_of (put m e) g) (put_found m e id named)
-    ∙ put_twice m e last (ap key.Account (keeps_g (f first.account)))
-    ∙ (λ i. put m (record (same_entry i) { body = body.Account (g (f (same_of i))) }))
-    ∙ sym both.is_put
 
 -- an account that is changed twice
 pub twice : (m : EntryMap) (id : AccountId) (f g : AccountEntry → AccountEntry) → AreOwn m
     → ((a : AccountEntry) → (f a).account_id ≡ a.account_id) → ((a : AccountEntry) → (g a).account_id ≡ a.account_id)
     → with_account (with_account m id f) id g ≡ with_account m id (λ a. g (f a))
-twice m id f g own keeps_f keeps_g = elim (changed_at m id f own) [
-  | inl none ↦ elim (changed_at m id (λ a. g (f a)) own) [
-    | inl both ↦ ap (λ n. with_account n id g) none.1 ∙ unchanged m id g own none.0 ∙ sym both.1
-    | inr both ↦ absurd (missing_not m id (λ a. g (f a)) none.0 both)
-  ]
-  | inr first ↦ elim (changed_at m id (λ a. g (f a)) own) [
-    | inl both ↦ absurd (missing_not m id f both.0 first)
-    | inr both ↦ changed_again m id f g keeps_f keeps_g first both
-  ]
-]
-  where
-    missing_not : (m : EntryMap) (id : AccountId) (f : AccountEntry → AccountEntry) → account_at m id ≡ None
-        → IsChangedAt m id f → ⊥
-    missing_not m id f none c = let exists = exists_in m id c.entry c.account c.there (ap account_in c.is) in
-        absurd (cc)
-
-    unchanged : (m : EntryMap) (id : AccountId) (g : AccountEntry → AccountEntry) → AreOwn m → account_at m id ≡ None
-        → with_account m id g ≡ m
-    unchanged m id g own none = elim (changed_at m id g own) [
-      | inl missing ↦ missing.1
-      | inr c ↦ absurd
-          (missing_not m id g none c)
-    ]
+unfolding with_account
+twice m id f g own keeps_f keeps_g =
+    let its = λ (a : AccountEntry). own_key accounts_exact m (key.Account id) a (own (key.Account id)) in
+    with_twice accounts_exact m (key.Account id) f g (λ a exists. ap key.Account (keeps_f a) ∙ its a exists)
+    (λ a exists. ap key.Account (keeps_g (f a) ∙ keeps_f a) ∙ its a exists)
 
 -- the map with a count of an account raised, or lowered
 abbrev pub map_with_more : Count → ℕ → AccountId → EntryMap → EntryMap

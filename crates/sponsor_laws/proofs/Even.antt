@@ -6,6 +6,7 @@ use prelude.{AccountEntry, LedgerEntry, LedgerEntryBody, LedgerKey, key_of, key_
 use prelude.{Count, SubEntries, Sponsoring, Sponsored, account_in, account_of, account_at, HasAccount, sponsor_of}
 use prelude.{multiplicity, owner_of, count_in, HasItems, signer_sponsors, subentries_for, sponsored_signers}
 use prelude.{sponsoring_signers, total, counted_for, is_this, is_there, AreKept, same_account, if_some_at, if_some_from}
+use prelude.{accounts_exact, entry_found}
 use Rattle.sponsor_rules.specs.ledger_types.declared.entry.LedgerEntryBody.TheVariants as body
 use Rattle.sponsor_rules.specs.ledger_types.declared.key.LedgerKey.TheVariants as key
 use Rattle.sponsor_laws.proofs.Totals.{sum_in-none}
@@ -42,27 +43,19 @@ own_keys m keyed k e there = if_some_at (λ x. key_of x ≡ k) (get m k) e (keye
 keyed_of : (m : EntryMap) → AreOwn m → IsKeyed m
 keyed_of m own k = if_some_from (λ x. key_of x ≡ k) (get m k) (own k)
 
-pub account_body : (b : LedgerEntryBody) (account : AccountEntry) → account_in b ≡ Some account
-    → b ≡ body.Account account
-account_body (body.Account a) account h = let same : a ≡ account = cc in ap body.Account same
-account_body other account h = absurd (cc)
-
 pub account_key : (b : LedgerEntryBody) (account : AccountEntry) → account_in b ≡ Some account
     → key_of_body b ≡ key.Account account.account_id
-account_key b account h = ap key_of_body (account_body b account h)
+account_key b account h = ap key_of_body (accounts_exact.body b account h)
 
 -- ---- accounts by their ids
-
-account_entry_of : (o : Option LedgerEntry) (account : AccountEntry) → account_of o ≡ Some account
-    → (e : LedgerEntry) × ((o ≡ Some e) × (account_in e.body ≡ Some account))
-account_entry_of None account h = absurd (cc)
-account_entry_of (Some e) account h = (e, (refl, h))
 
 -- the entry of an account that exists
 pub account_entry : (m : EntryMap) (id : AccountId) (account : AccountEntry) → account_at m id ≡ Some account
     → (e : LedgerEntry) × ((get m (key.Account id) ≡ Some e) × (account_in e.body ≡ Some account))
 unfolding account_at
-account_entry m id account h = account_entry_of (get m (key.Account id)) account h
+account_entry m id account h =
+    let found = entry_found accounts_exact m (key.Account id) account h in
+    (found.0, (found.1.there, ap account_in found.1.is))
 
 pub exists_in : (m : EntryMap) (id : AccountId) (e : LedgerEntry) (account : AccountEntry)
     → get m (key.Account id) ≡ Some e → account_in e.body ≡ Some account → account_at m id ≡ Some account

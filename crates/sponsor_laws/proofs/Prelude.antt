@@ -23,6 +23,8 @@ pub use Rattle.sponsor_rules.proofs.Ids.{is_itself, same_account}
 pub use Rattle.sponsor_rules.proofs.Keeping.{counts_edited, same_sponsored, same_sponsoring, second_edited}
 pub use Rattle.sponsor_rules.proofs.entry_map_proofs.KeyMaps.{same_itself}
 pub use Rattle.sponsor_rules.proofs.entry_map_proofs.Lookups.{erase_get, erase_there, left_over, put_get, put_there}
+pub use Rattle.sponsor_rules.proofs.entry_slots_proofs.ChangedEntries.{account_under, accounts_exact, entry_found}
+pub use Rattle.sponsor_rules.proofs.entry_slots_proofs.ChangedEntries.{own_key, with_found, with_missing, with_twice}
 pub use Rattle.sponsor_rules.proofs.ledger_types_proofs.KeyOrdering.{keys_exact, keys_total, same_keys}
 pub use Rattle.sponsor_rules.proofs.ledger_types_proofs.Lists.{if_some_at, if_some_from, nil_contains_nothing}
 pub use Rattle.sponsor_rules.specs.Adding.{map_after_adding_account, map_after_adding_balance, map_after_adding_by}
@@ -52,8 +54,7 @@ pub use Rattle.sponsor_rules.specs.declared.count.Count.TheVariants.{Sponsored, 
 pub use Rattle.sponsor_rules.specs.entry_map.EntryMap.{EntryMap, IsKeyed, erase, put}
 pub use Rattle.sponsor_rules.specs.entry_slots.AccountExtensions.{second_in, signer_sponsor, sponsored_in}
 pub use Rattle.sponsor_rules.specs.entry_slots.AccountExtensions.{sponsorship_in}
-pub use Rattle.sponsor_rules.specs.entry_slots.Accounts.{HasAccount, account_in, account_of, with_account_in}
-pub use Rattle.sponsor_rules.specs.entry_slots.Accounts.{with_account_of}
+pub use Rattle.sponsor_rules.specs.entry_slots.Accounts.{HasAccount, account_in, account_of}
 unfoldable pub use Rattle.sponsor_rules.specs.entry_slots.Accounts.{account_at, with_account}
 pub use Rattle.sponsor_rules.specs.entry_slots.EntrySponsor.{sponsor_of, with_sponsor}
 pub use Rattle.sponsor_rules.specs.entry_slots.Tests.{Tests, first_fault, unless_fault, unless_first}

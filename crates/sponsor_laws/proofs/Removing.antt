@@ -6,11 +6,11 @@ use prelude.{LedgerKey, key_of, key_of_body, EntryMap, erase, SubEntries, Sponso
 use prelude.{sponsor_of, charge_of, line_multiplicity, multiplicity, owner_of, map_after_releasing, is_same_account}
 use prelude.{map_after_discounting, map_without_charge, map_after_removing_entry, signer_sponsors, subentries_for}
 use prelude.{total, counted_for, AreKept, IsRemovable, IsBare, RemovingKeeps, is_itself, erase_there, nil_from_length}
+use prelude.{accounts_exact}
 use Rattle.sponsor_rules.specs.ledger_types.declared.entry.LedgerEntryBody.TheVariants as body
 use Rattle.sponsor_rules.specs.ledger_types.declared.key.LedgerKey.TheVariants as key
 use Rattle.sponsor_laws.proofs.Accounts.{share, own_part, counted_split, as_many}
-use Rattle.sponsor_laws.proofs.Even.{IsEven, Names, even, kept_of, account_of_entry, account_body, account_key}
-use Rattle.sponsor_laws.proofs.Even.{account_entry}
+use Rattle.sponsor_laws.proofs.Even.{IsEven, Names, even, kept_of, account_of_entry, account_key, account_entry}
 use Rattle.sponsor_laws.proofs.Shifts.{Shift, at_one, plus, no_shift, IsShifted, unshifted, apart_ids}
 use Rattle.sponsor_laws.proofs.Paying.{shared, shifted_discounting, shifted_payer}
 use Rattle.sponsor_laws.proofs.Settling.{erased, exists_after, exists_erased}
@@ -114,7 +114,7 @@ module _ (old : EntryMap) (h : IsEven old) (k : LedgerKey) (e : LedgerEntry) (th
         let le = in_total old x y SubEntries account.account_id at in let nothing = no_subentries in
         absurd (omega arith))
         (λ other holds. let same : other.account_id ≡ account.account_id =
-        (let its = ap owner_of (account_body y.body other holds) in cc) in
+        (let its = ap owner_of (accounts_exact.body y.body other holds) in cc) in
         apart (sym (h.own x y at) ∙ account_key y.body other holds ∙ ap key.Account same ∙ sym its_key))
     unnamed x y apart at (inr (inl pays)) = bare.sponsors.entries x y at pays
     unnamed x y apart at (inr (inr n)) = bare.sponsors.signers n.account.account_id n.account

@@ -1,11 +1,10 @@
 -- A map whose counts moved, after one entry is put or taken away so that each count is its sum again.
 use Rattle.sponsor_laws.proofs.Prelude.{◌≡◌, ◌≢◌, ◌⊎◌, inl, inr, refl, sym, ap, subst, ◌∙◌, ◌+◌, ◌≤◌, true, false, cond}
 use Rattle.sponsor_laws.proofs.Prelude.{length, Option, Some, None, Contains, arith, eq_by_cmp, get, AccountId}
-use Rattle.sponsor_laws.proofs.Prelude.{AccountEntry, LedgerEntry, LedgerEntryBody, LedgerKey, key_of, key_of_body}
-use Rattle.sponsor_laws.proofs.Prelude.{key_cmp, keys_total, keys_exact, EntryMap, put, erase, same_itself, Count}
-use Rattle.sponsor_laws.proofs.Prelude.{SubEntries, Sponsoring, account_in, HasAccount, count_in, HasItems, total}
-use Rattle.sponsor_laws.proofs.Prelude.{counted_for, erase_get, put_get, put_there, same_keys}
-use Rattle.sponsor_rules.specs.ledger_types.declared.entry.LedgerEntryBody.TheVariants as body
+use Rattle.sponsor_laws.proofs.Prelude.{AccountEntry, LedgerEntry, LedgerKey, key_of, key_cmp, keys_total, keys_exact}
+use Rattle.sponsor_laws.proofs.Prelude.{EntryMap, put, erase, same_itself, Count, SubEntries, Sponsoring, account_in}
+use Rattle.sponsor_laws.proofs.Prelude.{HasAccount, count_in, HasItems, total, counted_for, erase_get, put_get}
+use Rattle.sponsor_laws.proofs.Prelude.{put_there, same_keys, account_under}
 use Rattle.sponsor_rules.specs.ledger_types.declared.key.LedgerKey.TheVariants as key
 use Rattle.sponsor_laws.proofs.Totals.{part_of, sum_in-remove}
 use Rattle.sponsor_laws.proofs.Accounts.{as_many, has_items}
@@ -183,18 +182,13 @@ erased q old m k e even h there balanced rest = settled no_shift q old m (erase 
 
 -- ---- put
 
-account_body_of : (b : LedgerEntryBody) (id : AccountId) → key_of_body b ≡ key.Account id
-    → (account : AccountEntry) × (account_in b ≡ Some account)
-account_body_of (body.Account account) id is = (account, refl)
-account_body_of other id is = absurd (cc)
-
 pub exists_put : (m : EntryMap) (e : LedgerEntry) (id : AccountId) → HasAccount m id → HasAccount (put m e) id
 exists_put m e id exists =
     let entry = account_entry m id exists.0 exists.1 in
     elim (eq_by_cmp key_cmp (key.Account id) (key_of e)) as (λ b. eq_by_cmp key_cmp (key.Account id) (key_of e) ≡ b
     → get (put m e) (key.Account id) ≡ cond b (Some e) (get m (key.Account id)) → HasAccount (put m e) id) [
-      | true ↦ λ tied is. let new = account_body_of e.body id (sym (same_keys _ (key_of e) tied)) in
-          (new.0, exists_in (put m e) id e new.0 is new.1)
+      | true ↦ λ tied is. let new = account_under id e.body (sym (same_keys _ (key_of e) tied)) in
+          (new.0, exists_in (put m e) id e new.0 is (ap account_in new.1))
       | false ↦ λ apart is. (exists.0, exists_in (put m e) id entry.0 exists.0 (is ∙ entry.1.0) entry.1.1)
     ] refl (put_get m e (key.Account id))
 

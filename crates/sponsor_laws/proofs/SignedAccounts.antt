@@ -5,11 +5,11 @@ use prelude.{Option, Some, None, Contains, slice_set, nat_lt, arith, if◌then�
 use prelude.{position_or_len, get, sum_by-remove, sum_by-set, get_or-le-sum_by, ltb-true, AccountId, Signer, SignerKey}
 use prelude.{AccountEntry, LedgerEntry, EntryMap, Count, SubEntries, Sponsoring, Sponsored, account_in, account_at}
 use prelude.{HasAccount, signer_sponsor, owner_of, count_in, index_of, is_this, is_there, signer_sponsors, total}
-use prelude.{counted_for, is_itself}
+use prelude.{counted_for, is_itself, accounts_exact}
 use Rattle.sponsor_rules.specs.ledger_types.declared.entry.LedgerEntryBody.TheVariants as body
 use Rattle.sponsor_rules.specs.ledger_types.declared.key.LedgerKey.TheVariants as key
 use Rattle.sponsor_laws.proofs.Accounts.{share, own_part, counted_split, as_many}
-use Rattle.sponsor_laws.proofs.Even.{IsEven, account_body, account_entry, same_id}
+use Rattle.sponsor_laws.proofs.Even.{IsEven, account_entry, same_id}
 use Rattle.sponsor_laws.proofs.Shifts.{Shift, no_shift}
 use Rattle.sponsor_laws.proofs.Paying.{HasEnough}
 use Rattle.sponsor_laws.proofs.Parts.{enough}
@@ -28,7 +28,7 @@ pub record IsHeld (old : EntryMap) (id : AccountId) (a : AccountEntry) : Type 0 
 
 pub held_by : (old : EntryMap) (id : AccountId) (a : AccountEntry) → account_at old id ≡ Some a → IsHeld old id a
 held_by old id a exists = let found = account_entry old id a exists in
-    record { entry = found.0; there = found.1.0; is = account_body found.0.body a found.1.1 }
+    record { entry = found.0; there = found.1.0; is = accounts_exact.body found.0.body a found.1.1 }
 
 module _ (old : EntryMap) (h : IsEven old) (id : AccountId) (a : AccountEntry) (held : IsHeld old id a) where
   pub own_id : a.account_id ≡ id

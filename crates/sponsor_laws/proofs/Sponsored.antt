@@ -5,11 +5,12 @@ use Rattle.sponsor_laws.proofs.Prelude.{AccountEntry, LedgerEntry, LedgerEntryBo
 use Rattle.sponsor_laws.proofs.Prelude.{SubEntries, Sponsored, account_in, sponsor_of, multiplicity, owner_of}
 use Rattle.sponsor_laws.proofs.Prelude.{is_same_account, HasItems, is_this, is_there, signer_sponsors, subentries_for}
 use Rattle.sponsor_laws.proofs.Prelude.{sponsored_signers, counted_for, total, SponsoredAtMost, left_over}
+use Rattle.sponsor_laws.proofs.Prelude.{accounts_exact}
 use Rattle.sponsor_rules.specs.ledger_types.declared.entry.LedgerEntryBody.TheVariants as body
 use Rattle.sponsor_rules.specs.ledger_types.declared.key.LedgerKey.TheVariants as key
 use Rattle.sponsor_laws.proofs.Totals.{sum_in-at_most}
 use Rattle.sponsor_laws.proofs.Accounts.{as_many}
-use Rattle.sponsor_laws.proofs.Even.{IsEven, even, sums_of, account_entry, account_key, account_body, sponsored_none}
+use Rattle.sponsor_laws.proofs.Even.{IsEven, even, sums_of, account_entry, account_key, sponsored_none}
 use Rattle.sponsor_laws.proofs.Shifts.{apart_ids}
 use Rattle.sponsor_laws.proofs.Settling.{erase_total}
 
@@ -79,7 +80,7 @@ sponsored_at_most id account m kept there =
     let h = even m kept in
     let entry = account_entry m id account there in
     let itself = account_at_most id entry.0 account (kept.items id account there)
-    (account_body entry.0.body account entry.1.1) in
+    (accounts_exact.body entry.0.body account entry.1.1) in
     let others = others_at_most m id h in
     let sponsored = erase_total m (key.Account id) entry.0 Sponsored id entry.1.0 in
     let subentries = erase_total m (key.Account id) entry.0 SubEntries id entry.1.0 in

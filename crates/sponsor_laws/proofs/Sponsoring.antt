@@ -2,11 +2,11 @@
 use Rattle.sponsor_laws.proofs.Prelude.{◌≡◌, ◌≢◌, refl, sym, ap, ◌∙◌, ◌≤◌, List, [], ◌∷◌, length, Some, arith, count_by}
 use Rattle.sponsor_laws.proofs.Prelude.{get, AccountId, LedgerEntry, LedgerEntryBody, LedgerKey, EntryMap, Sponsoring}
 use Rattle.sponsor_laws.proofs.Prelude.{sponsor_of, multiplicity, is_this, signer_sponsors, total}
-use Rattle.sponsor_laws.proofs.Prelude.{SponsoredEntriesCount, ZeroSponsorsNothing}
+use Rattle.sponsor_laws.proofs.Prelude.{SponsoredEntriesCount, ZeroSponsorsNothing, accounts_exact}
 use Rattle.sponsor_rules.specs.ledger_types.declared.entry.LedgerEntryBody.TheVariants as body
 use Rattle.sponsor_rules.specs.ledger_types.declared.key.LedgerKey.TheVariants as key
 use Rattle.sponsor_laws.proofs.Accounts.{own_part, counted_split}
-use Rattle.sponsor_laws.proofs.Even.{even, sums_of, account_entry, account_body}
+use Rattle.sponsor_laws.proofs.Even.{even, sums_of, account_entry}
 use Rattle.sponsor_laws.proofs.Parts.{pays_for, in_total, counts_once}
 use Rattle.sponsor_laws.proofs.Edits.{counted_once}
 
@@ -40,7 +40,7 @@ zero_sponsors id account m kept entire exists zero =
           let once = counted_once (signer_sponsors other) id has in
           let split = counted_split Sponsoring id entry.0 in
           let part : own_part Sponsoring id entry.0.body ≡ count_by (is_this id) (signer_sponsors other) =
-          ap (own_part Sponsoring id) (account_body entry.0.body other entry.1.1) in
+          ap (own_part Sponsoring id) (accounts_exact.body entry.0.body other entry.1.1) in
           let le = in_total m (key.Account of) entry.0 Sponsoring id entry.1.0 in
           absurd (omega arith);
     }

@@ -2,15 +2,13 @@
 use Rattle.sponsor_rules.proofs.Prelude as prelude
 use prelude.{◌≡◌, ◌≢◌, ◌⊎◌, inl, inr, refl, sym, ap, subst, ◌∙◌, ◌≤◌, Bool, true, false, cond, Option, Some, None}
 use prelude.{arith, get, get-insert, get-remove, AccountId, AccountEntry, key_of, EntryMap, put, erase, account_of}
-use prelude.{account_at, account_slot_by, account_slot_of, account_slot_at, account_of_slot, account_in}
-use prelude.{entry_of_account, with_account, with_account_in, with_account_of, Count, count_if, count_at, KeepsCore}
-use prelude.{KeepsOtherCounts, RaisesNoCount, IsChanged, IsChangeOf, KeepsOthers, RaisesNone, ChangesAtMost, IsLoaded}
-use prelude.{HasCore, LeavesCore, LeavesOtherCores}
+use prelude.{account_at, account_slot_at, account_of_slot, entry_of_account, with_account, Count, count_if, count_at}
+use prelude.{KeepsCore, KeepsOtherCounts, RaisesNoCount, IsChanged, IsChangeOf, KeepsOthers, RaisesNone, ChangesAtMost}
+use prelude.{IsLoaded, HasCore, LeavesCore, LeavesOtherCores, account_slot, account_kind}
 use Rattle.std.specs.Ordering.{eq_by_cmp}
 use Rattle.ledger_types.specs.KeyOrder.{key_cmp}
 use Rattle.ledger_types.proofs.KeyOrdering.{keys_total, same_keys}
 use Rattle.ledger_types.specs.declared.entry.LedgerEntry.{LedgerEntry}
-use Rattle.ledger_types.specs.declared.entry.LedgerEntryBody.{LedgerEntryBody}
 use Rattle.ledger_types.specs.declared.entry.LedgerEntryBody.TheVariants as body
 use Rattle.ledger_types.specs.declared.key.LedgerKey.{LedgerKey}
 use Rattle.ledger_types.specs.declared.key.LedgerKey.TheVariants as key
@@ -28,20 +26,17 @@ use Rattle.sponsor_rules.specs.Counting.{with_less}
 use Rattle.sponsor_rules.specs.Paying.{map_after_releasing, without_subentry}
 use Rattle.sponsor_rules.specs.Removing.{map_without_charge}
 use Rattle.sponsor_rules.proofs.Keeping.{core_kept, core_kept_twice}
+use Rattle.reserve_rules.proofs.entry_slots_proofs.ChangedEntries.{accounts_exact, slot_entry, slot_value, with_beside}
+use Rattle.reserve_rules.proofs.entry_slots_proofs.ChangedEntries.{with_found, with_missing}
+use Rattle.reserve_rules.specs.entry_slots.EntryKinds.{slot_of}
+use Rattle.reserve_rules.proofs.entry_map_proofs.Lookups.{put_elsewhere, erase_elsewhere}
 
 -- ---- slots and accounts
 
-account_by_slot : (e : LedgerEntry) (b : LedgerEntryBody) → account_in b ≡ account_of_slot (account_slot_by e b)
-account_by_slot e (body.Account a) = refl
-account_by_slot e other = refl
-
-account_of_slot_of : (o : Option LedgerEntry) → account_of o ≡ account_of_slot (account_slot_of o)
-account_of_slot_of None = refl
-account_of_slot_of (Some e) = account_by_slot e e.body
-
 pub account_of_slot_at : (m : EntryMap) (id : AccountId) → account_at m id ≡ account_of_slot (account_slot_at m id)
 unfolding account_at
-account_of_slot_at m id = account_of_slot_of (get m (key.Account id))
+account_of_slot_at m id =
+    slot_value accounts_exact account_slot (λ s. s.account) (λ e a. refl) (get m (key.Account id))
 
 -- what is loaded stays so, while that account doesn't change
 pub loaded_after : (old new : EntryMap) (id : AccountId) (slot : Option AccountSlot) (changed : Option AccountId)
@@ -70,45 +65,19 @@ changed_as R m id slot account loaded changed was exists =
 
 -- ---- with_account, by what is loaded
 
-with_slot_by : (m : EntryMap) (f : AccountEntry → AccountEntry) (slot : AccountSlot) (e : LedgerEntry)
-    (b : LedgerEntryBody) → Some slot ≡ account_slot_by e b
-    → with_account_in m e f b ≡ put m (entry_of_account (record slot { account = f slot.account }))
-with_slot_by m f slot e (body.Account a) is =
-    let parts : AccountSlot = record {
-      last_modified_ledger_seq = e.last_modified_ledger_seq;
-      account = a;
-      ext = e.ext;
-    } in
-    let same : parts ≡ slot = cc in
-    ap (λ (s : AccountSlot). put m (entry_of_account (record s { account = f s.account }))) same
-with_slot_by m f slot e other is = absurd (cc)
-
-with_slot : (m : EntryMap) (f : AccountEntry → AccountEntry) (slot : AccountSlot) (o : Option LedgerEntry)
-    → Some slot ≡ account_slot_of o
-    → with_account_of m f o ≡ put m (entry_of_account (record slot { account = f slot.account }))
-with_slot m f slot None is = absurd (cc)
-with_slot m f slot (Some e) is = with_slot_by m f slot e e.body is
-
 pub with_account_put : (m : EntryMap) (id : AccountId) (f : AccountEntry → AccountEntry) (slot : AccountSlot)
     → IsLoaded m id (Some slot)
     → with_account m id f ≡ put m (entry_of_account (record slot { account = f slot.account }))
 unfolding with_account
-with_account_put m id f slot loaded = with_slot m f slot (get m (key.Account id)) loaded.slot_is
-
-without_slot_by : (m : EntryMap) (f : AccountEntry → AccountEntry) (e : LedgerEntry) (b : LedgerEntryBody)
-    → None ≡ account_slot_by e b → with_account_in m e f b ≡ m
-without_slot_by m f e (body.Account a) is = absurd (cc)
-without_slot_by m f e other is = refl
-
-without_slot : (m : EntryMap) (f : AccountEntry → AccountEntry) (o : Option LedgerEntry) → None ≡ account_slot_of o
-    → with_account_of m f o ≡ m
-without_slot m f None is = refl
-without_slot m f (Some e) is = without_slot_by m f e e.body is
+with_account_put m id f slot loaded =
+    let found = slot_entry accounts_exact account_slot slot m (key.Account id) loaded.slot_is in
+    with_found accounts_exact m (key.Account id) f found.1 found.0 found.2
+    ∙ ap (λ (s : AccountSlot). put m (entry_of_account (record s { account = f s.account }))) (sym found.3)
 
 pub with_account_none : (m : EntryMap) (id : AccountId) (f : AccountEntry → AccountEntry) → IsLoaded m id None
     → with_account m id f ≡ m
-unfolding with_account
-with_account_none m id f loaded = without_slot m f (get m (key.Account id)) loaded.slot_is
+unfolding account_at with_account
+with_account_none m id f loaded = with_missing accounts_exact m (key.Account id) f loaded.account_is
 
 pub stored_as : (m : EntryMap) (id : AccountId) (f : AccountEntry
     → AccountEntry) (slot : AccountSlot) (account : AccountEntry) → IsLoaded m id (Some slot) → account ≡ f slot.account
@@ -118,8 +87,11 @@ stored_as m id f slot account loaded changed = ap (λ (a : AccountEntry). put m
 
 -- ---- after an account's entry is put
 
+abbrev slots : Option LedgerEntry → Option AccountSlot
+slots o = slot_of account_kind account_slot o
+
 slot_chosen : (b : Bool) (slot : AccountSlot) (o : Option LedgerEntry)
-    → account_slot_of (cond b (Some (entry_of_account slot)) o) ≡ cond b (Some slot) (account_slot_of o)
+    → slots (cond b (Some (entry_of_account slot)) o) ≡ cond b (Some slot) (slots o)
 slot_chosen true slot o = refl
 slot_chosen false slot o = refl
 
@@ -127,7 +99,7 @@ slot_after : (m : EntryMap) (id : AccountId) (slot : AccountSlot)
     → account_slot_at (put m (entry_of_account slot)) id ≡ cond
     (eq_by_cmp key_cmp (key.Account id) (key.Account slot.account.account_id)) (Some slot) (account_slot_at m id)
 slot_after m id slot =
-    ap account_slot_of (get-insert keys_total m (key.Account slot.account.account_id) (entry_of_account slot)
+    ap slots (get-insert keys_total m (key.Account slot.account.account_id) (entry_of_account slot)
     (key.Account id)) ∙ slot_chosen _ slot (get m (key.Account id))
 
 abbrev After : EntryMap → AccountId → AccountSlot → AccountId → Type 0
@@ -221,23 +193,21 @@ stored_low m id slot named change low = record {
 pub put_balances : (m : EntryMap) (e : LedgerEntry) → LeavesOtherCores (key_of e) m (put m e)
 unfolding account_at
 put_balances m e = record {
-  kept = λ id was apart exists.
-      elim (eq_by_cmp key_cmp (key.Account id) (key_of e)) as (λ b. eq_by_cmp key_cmp (key.Account id) (key_of e) ≡ b
-      → get (put m e) (key.Account id) ≡ cond b (Some e) (get m (key.Account id)) → HasCore (put m e) id was) [
-        | true ↦ λ tied is. absurd (apart (same_keys _ _ tied))
-        | false ↦ λ differ is. record { account = was; exists = ap account_of is ∙ exists; core = core_kept was }
-      ] refl (get-insert keys_total m (key_of e) e (key.Account id));
+  kept = λ id was apart exists. record {
+    account = was;
+    exists = ap account_of (put_elsewhere m e (key.Account id) apart) ∙ exists;
+    core = core_kept was;
+  };
 }
 
 pub erased_balances : (m : EntryMap) (k : LedgerKey) → LeavesOtherCores k m (erase m k)
 unfolding account_at
 erased_balances m k = record {
-  kept = λ id was apart exists.
-      elim (eq_by_cmp key_cmp (key.Account id) k) as (λ b. eq_by_cmp key_cmp (key.Account id) k ≡ b
-      → get (erase m k) (key.Account id) ≡ cond b None (get m (key.Account id)) → HasCore (erase m k) id was) [
-        | true ↦ λ tied is. absurd (apart (same_keys _ _ tied))
-        | false ↦ λ differ is. record { account = was; exists = ap account_of is ∙ exists; core = core_kept was }
-      ] refl (get-remove keys_total m k (key.Account id));
+  kept = λ id was apart exists. record {
+    account = was;
+    exists = ap account_of (erase_elsewhere m k (key.Account id) apart) ∙ exists;
+    core = core_kept was;
+  };
 }
 
 pub erased_low : (m : EntryMap) (k : LedgerKey) → RaisesNone m (erase m k)
@@ -323,21 +293,11 @@ module _ (seller : AccountId) (id : ℤ) where
   abbrev offer_key : LedgerKey
   offer_key = key.Offer seller id
 
-  offer_by : (m : EntryMap) (e : LedgerEntry) (f : AccountEntry → AccountEntry) (b : LedgerEntryBody)
-      → get (with_account_in m e f b) offer_key ≡ get m offer_key
-  offer_by m e f (body.Account a) = get-insert keys_total m (key.Account (f a).account_id)
-      (record e { body = body.Account (f a) }) offer_key
-  offer_by m e f other = refl
-
-  offer_where : (m : EntryMap) (f : AccountEntry → AccountEntry) (o : Option LedgerEntry)
-      → get (with_account_of m f o) offer_key ≡ get m offer_key
-  offer_where m f None = refl
-  offer_where m f (Some e) = offer_by m e f e.body
-
   offer_beside : (m : EntryMap) (account : AccountId) (f : AccountEntry → AccountEntry)
       → get (with_account m account f) offer_key ≡ get m offer_key
   unfolding with_account
-  offer_beside m account f = offer_where m f (get m (key.Account account))
+  offer_beside m account f =
+      with_beside accounts_exact m (key.Account account) f offer_key (λ a exists same. absurd (cc))
 
   offer_released : (k : ℕ) (sponsor : Option AccountId) (m : EntryMap)
       → get (map_after_releasing k sponsor m) offer_key ≡ get m offer_key

@@ -8,9 +8,8 @@ pub use Rattle.ledger_types.specs.declared.account.AccountEntry.{AccountEntry}
 pub use Rattle.ledger_types.specs.declared.ids.AccountId.{AccountId}
 pub use Rattle.reserve_rules.specs.entry_map.EntryMap.{EntryMap, erase, put}
 pub use Rattle.reserve_rules.specs.entry_map.Undo.{Undo, with_current}
-pub use Rattle.reserve_rules.specs.entry_slots.Accounts.{account_in, account_of, account_of_slot, account_slot_at}
-pub use Rattle.reserve_rules.specs.entry_slots.Accounts.{account_slot_by, account_slot_of, entry_of_account}
-pub use Rattle.reserve_rules.specs.entry_slots.Accounts.{with_account_in, with_account_of}
+pub use Rattle.reserve_rules.specs.entry_slots.Accounts.{account_kind, account_of, account_of_slot}
+pub use Rattle.reserve_rules.specs.entry_slots.Accounts.{account_slot, account_slot_at, entry_of_account}
 unfoldable pub use Rattle.reserve_rules.specs.entry_slots.Accounts.{account_at, with_account}
 pub use Rattle.sponsor_rules.specs.Counting.{count_at, count_if, count_in, with_less, with_more, with_new_count}
 unfoldable pub use Rattle.sponsor_rules.specs.Counting.{with_count}

@@ -1,15 +1,15 @@
 -- What is bound and paid where an account has an asset, and an offer that is changed, as changes of one entry.
 use Rattle.trade_cross.proofs.Prelude as prelude
 use prelude.{◌≡◌, refl, sym, ap, ℕ, Option, Some, None, get, ℤ, AccountId, TrustLineAsset, AccountEntry, TrustLineEntry}
-use prelude.{OfferEntry, LedgerEntry, LedgerEntryBody, LedgerKey, key_of_body, EntryMap, put, with_account}
-use prelude.{with_account_in, with_account_of, with_line, with_line_in, with_line_of, offer_of, offer_at, with_offer}
-use prelude.{with_offer_in, with_offer_of, binding, bound_account, bound_line, IsKeyed, paid, Change, with_amount}
-use prelude.{offer_key, line_paid, paying, changed_account, changed_line, changing}
+use prelude.{OfferEntry, LedgerEntry, LedgerEntryBody, LedgerKey, key_of_body, EntryMap, put, with_account, with_line}
+use prelude.{offer_at, with_offer, binding, bound_account, bound_line, IsKeyed, paid, Change, with_amount, offer_key}
+use prelude.{line_paid, paying, changed_account, changed_line, changing, offer_entry, with_offer_is, IsExact}
+use prelude.{accounts_exact, lines_exact, account_under, line_under, ◌∙◌}
 use Rattle.ledger_types.specs.declared.entry.LedgerEntryBody.TheVariants as body
 use Rattle.ledger_types.specs.declared.key.LedgerKey.TheVariants as key
-use Rattle.entry_slots.specs.Offers.{offer_in}
 use Rattle.trade_cross.proofs.Altering.{altered, altered_by, altered_opt, KeepsKeys}
 use Rattle.trade_cross.proofs.Passing.{IsOwnKey}
+use Rattle.entry_slots.specs.EntryKinds.{EntryKind, with_entry, with_value, with_value_of}
 
 abbrev pub over : (LedgerEntryBody → LedgerEntryBody) → LedgerEntry → LedgerEntry
 over h e = record e { body = h e.body }
@@ -66,35 +66,32 @@ resized_keeps n e = by_body e.body
 -- ---- one entry
 
 module _ (m : EntryMap) (keyed : IsKeyed m) where
+  -- what is under the key of a kind is of that kind
+  module _ {V : Type 0} {kind : EntryKind V} (exact : IsExact kind) (k : LedgerKey)
+      (under : (b : LedgerEntryBody) → key_of_body b ≡ k → (v : V) × (b ≡ kind.body_of v)) (f : V → V)
+      (h : LedgerEntryBody → LedgerEntryBody) (same : (v : V) → h (kind.body_of v) ≡ kind.body_of (f v)) where
+    value_altered : (o : Option LedgerEntry) → get m k ≡ o → with_value_of kind m f o ≡ altered_by (over h) m o
+    value_altered None there = refl
+    value_altered (Some e) there =
+        let found = under e.body (keyed k e there) in
+        ap (λ b. with_value kind m f e (kind.value_in b)) found.1 ∙ ap (with_value kind m f e) (exact.value found.0)
+        ∙ ap (λ b. put m (record e { body = b })) (sym (same found.0))
+        ∙ ap (λ b. put m (record e { body = h b })) (sym found.1)
+
+    entry_altered : with_entry kind m k f ≡ altered k (over h) m
+    entry_altered = value_altered (get m k) refl
+
   module _ (f : AccountEntry → AccountEntry) (g : TrustLineEntry → TrustLineEntry) where
-    account_body : (e : LedgerEntry) (b : LedgerEntryBody) (id : AccountId) → key_of_body b ≡ key.Account id
-        → with_account_in m e f b ≡ put m (record e { body = holding_body f g b })
-    account_body e (body.Account a) id own = refl
-    account_body e other id own = absurd (cc)
-
-    account_by : (id : AccountId) (o : Option LedgerEntry) → get m (key.Account id) ≡ o
-        → with_account_of m f o ≡ altered_by (over (holding_body f g)) m o
-    account_by id None there = refl
-    account_by id (Some e) there = account_body e e.body id (keyed (key.Account id) e there)
-
     account_altered : (id : AccountId) → with_account m id f ≡ altered (key.Account id) (over (holding_body f g)) m
     unfolding with_account
-    account_altered id = account_by id (get m (key.Account id)) refl
-
-    line_body : (e : LedgerEntry) (b : LedgerEntryBody) (id : AccountId) (x : TrustLineAsset)
-        → key_of_body b ≡ key.TrustLine id x → with_line_in m e g b ≡ put m (record e { body = holding_body f g b })
-    line_body e (body.TrustLine t) id x own = refl
-    line_body e other id x own = absurd (cc)
-
-    line_by : (id : AccountId) (x : TrustLineAsset) (o : Option LedgerEntry) → get m (key.TrustLine id x) ≡ o
-        → with_line_of m g o ≡ altered_by (over (holding_body f g)) m o
-    line_by id x None there = refl
-    line_by id x (Some e) there = line_body e e.body id x (keyed (key.TrustLine id x) e there)
+    account_altered id =
+        entry_altered accounts_exact (key.Account id) (account_under id) f (holding_body f g) (λ a. refl)
 
     line_altered : (id : AccountId) (x : TrustLineAsset)
         → with_line m id x g ≡ altered (key.TrustLine id x) (over (holding_body f g)) m
     unfolding with_line
-    line_altered id x = line_by id x (get m (key.TrustLine id x)) refl
+    line_altered id x =
+        entry_altered lines_exact (key.TrustLine id x) (line_under id x) g (holding_body f g) (λ t. refl)
 
   pub bound_altered : (owner : AccountId) (k : Option LedgerKey) → IsOwnKey owner k → (selling buying : ℤ)
       → binding k selling buying m ≡ altered_opt k (bound_entry selling buying) m
@@ -122,21 +119,11 @@ module _ (m : EntryMap) (keyed : IsKeyed m) where
   changed_altered owner (Some other) own change = absurd own
 
   -- an offer that exists gets another amount
-  module _ (n : ℕ) (o : OfferEntry) where
-    resized_by_body : (e : LedgerEntry) (b : LedgerEntryBody) → offer_in b ≡ Some o
-        → with_offer_in m e (λ was. with_amount n o) b ≡ put m (record e { body = resized_body n b })
-    resized_by_body e (body.Offer was) is =
-        let same : was ≡ o = cc in
-        ap (λ (p : OfferEntry). put m (record e { body = body.Offer (with_amount n p) })) (sym same)
-    resized_by_body e other is = absurd (cc)
-
-    resized_by : (x : Option LedgerEntry) → offer_of x ≡ Some o
-        → with_offer_of m (λ was. with_amount n o) x ≡ altered_by (over (resized_body n)) m x
-    resized_by None is = absurd (cc)
-    resized_by (Some e) is = resized_by_body e e.body is
-
-    pub resized_altered : offer_at m o.seller_id o.offer_id ≡ Some o
-        → with_offer m o.seller_id o.offer_id (λ was. with_amount n o)
-        ≡ altered_opt (Some (offer_key o)) (over (resized_body n)) m
-    unfolding with_offer offer_at
-    resized_altered exists = resized_by (get m (offer_key o)) exists
+  pub resized_altered : (n : ℕ) (o : OfferEntry) → offer_at m o.seller_id o.offer_id ≡ Some o
+      → with_offer m o.seller_id o.offer_id (λ was. with_amount n o)
+      ≡ altered_opt (Some (offer_key o)) (over (resized_body n)) m
+  resized_altered n o exists =
+      let found = offer_entry m o.seller_id o.offer_id o exists in
+      with_offer_is m o.seller_id o.offer_id (λ was. with_amount n o) o found.0 found.1
+      ∙ sym (ap (altered_by (over (resized_body n)) m) found.1.there
+      ∙ ap (λ b. put m (record found.0 { body = resized_body n b })) found.1.is)

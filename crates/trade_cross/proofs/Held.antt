@@ -1,10 +1,10 @@
 -- What is under the keys under which accounts have their assets, and what changes leave of it.
 use Rattle.trade_cross.proofs.Prelude as prelude
 use prelude.{◌≡◌, ◌≢◌, refl, sym, ap, subst, ◌∙◌, ◌%◌, true, false, Option, Some, None, get, AccountId, TrustLineAsset}
-use prelude.{AccountEntry, TrustLineEntry, LedgerEntry, LedgerKey, key_of_body, EntryMap, put, same_itself, account_of}
-use prelude.{account_at, with_account, line_of, line_at, with_line, is_key, line_entry, with_line_is, with_line_body}
-use prelude.{IsLineEntry, account_after, account_elsewhere, kept_elsewhere, is_same_account, same_account}
-use prelude.{apart_accounts, IsHeld, Related, IsKeyed, keyed_put, put_elsewhere, put_there, same_keys}
+use prelude.{AccountEntry, TrustLineEntry, LedgerKey, EntryMap, same_itself, account_of, account_at, with_account}
+use prelude.{line_of, line_at, with_line, is_key, account_after, account_elsewhere, kept_elsewhere, is_same_account}
+use prelude.{same_account, apart_accounts, IsHeld, Related, IsKeyed, same_keys, option_map, own_key, of_any}
+use prelude.{with_beside, with_there, lines_exact, keyed_after}
 use Rattle.ledger_types.specs.declared.key.LedgerKey.TheVariants as key
 
 -- ---- one thing before and after
@@ -70,26 +70,20 @@ module _ (R : AccountEntry → AccountEntry → Type 0) (S : TrustLineEntry → 
     its_key = key.TrustLine id held
 
     line_key : key.TrustLine (g t).account_id (g t).asset ≡ its_key
-    line_key =
-        let found = line_entry m id held t exists in
-        (λ i. key.TrustLine (owned i) (its i)) ∙ sym (ap key_of_body found.1.is) ∙ keyed its_key found.0 found.1.there
+    unfolding line_at
+    line_key = (λ i. key.TrustLine (owned i) (its i)) ∙ own_key lines_exact m its_key t (keyed its_key) exists
 
-    now_is : (e : LedgerEntry) → IsLineEntry m id held t e → now ≡ put m (with_line_body e (g t))
-    now_is e here = with_line_is m id held g t e here
+    stays : (x : TrustLineEntry) → line_at m id held ≡ Some x
+        → key.TrustLine (g x).account_id (g x).asset ≡ its_key
+    stays = of_any (λ x. key.TrustLine (g x).account_id (g x).asset ≡ its_key) (line_at m id held) t exists line_key
 
     pub line_keeps : (k : LedgerKey) → k ≢ its_key → get now k ≡ get m k
-    line_keeps k apart =
-        let found = line_entry m id held t exists in
-        ap (λ n. get n k) (now_is found.0 found.1)
-        ∙ put_elsewhere m (with_line_body found.0 (g t)) k (λ same. apart (same ∙ line_key))
+    unfolding line_at with_line
+    line_keeps k apart = with_beside lines_exact m its_key g k (λ x there same. apart (same ∙ stays x there))
 
     line_there : line_at now id held ≡ Some (g t)
-    unfolding line_at
-    line_there =
-        let found = line_entry m id held t exists in
-        ap (λ n. line_of (get n its_key)) (now_is found.0 found.1)
-        ∙ ap (λ k. line_of (get (put m (with_line_body found.0 (g t))) k)) (sym line_key)
-        ∙ ap line_of (put_there m (with_line_body found.0 (g t)))
+    unfolding line_at with_line
+    line_there = with_there lines_exact m its_key g stays ∙ ap (option_map g) exists
 
     pub line_elsewhere : (other : AccountId) (x : TrustLineAsset) → key.TrustLine other x ≢ its_key
         → line_at now other x ≡ line_at m other x
@@ -122,9 +116,8 @@ module _ (R : AccountEntry → AccountEntry → Type 0) (S : TrustLineEntry → 
     }
 
     pub line_still_keyed : IsKeyed now
-    line_still_keyed =
-        let found = line_entry m id held t exists in
-        subst IsKeyed (sym (now_is found.0 found.1)) (keyed_put m (with_line_body found.0 (g t)) keyed)
+    unfolding with_line
+    line_still_keyed = keyed_after lines_exact m its_key g keyed
 
 -- ---- what is held is held still
 

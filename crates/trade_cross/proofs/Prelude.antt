@@ -1,7 +1,7 @@
 -- Names that several proofs of this crate use.
 pub use Rattle.std.proofs.Common.{All, Bool, IfOk, List, None, OnOk, Option, Some, T, [], ap, append-nil, append_assoc}
-pub use Rattle.std.proofs.Common.{arith, cond, false, inl, inr, length, refl, rules, subst, suc, sym, true, zero, ℕ}
-pub use Rattle.std.proofs.Common.{◌%◌, ◌&&◌, ◌++◌, ◌+◌, ◌-◌, ◌<◌, ◌∙◌, ◌∷◌, ◌≡◌, ◌≢◌, ◌≤◌, ◌⊎◌}
+pub use Rattle.std.proofs.Common.{arith, cond, false, inl, inr, length, option_map, refl, rules, subst, suc, sym, true}
+pub use Rattle.std.proofs.Common.{zero, ℕ, ◌%◌, ◌&&◌, ◌++◌, ◌+◌, ◌-◌, ◌<◌, ◌∙◌, ◌∷◌, ◌≡◌, ◌≢◌, ◌≤◌, ◌⊎◌}
 pub use Rattle.std.proofs.lemmas.Bool.{and_parts, eq-eqb, eqb-true, leb-true, ltb-true, or_left, or_right}
 pub use Rattle.std.proofs.lemmas.Int.{ints}
 pub use Rattle.std.proofs.lemmas.List.Elements.{All-cons, All-filter, All-head, All-nil, All-tail, All-weaker}
@@ -17,19 +17,21 @@ pub use Rattle.entry_map.specs.Book.{AreApart, AreOffersSound, head, is_of_pair,
 unfoldable pub use Rattle.entry_map.specs.Book.{book_in}
 pub use Rattle.entry_map.specs.EntryMap.{EntryMap, erase, put}
 pub use Rattle.entry_map.specs.Undo.{Undo, kept, opened, undone, with_current}
+pub use Rattle.entry_slots.proofs.ChangedEntries.{IsExact, account_under, accounts_exact, line_under, lines_exact}
+pub use Rattle.entry_slots.proofs.ChangedEntries.{of_any, offers_exact, own_key, pools_exact, slot_entry, slot_value}
+pub use Rattle.entry_slots.proofs.ChangedEntries.{with_beside, with_found, with_there}
 pub use Rattle.entry_slots.specs.AccountExtensions.{account_liabilities, liabilities_in, sponsored_in, sponsoring_in}
 pub use Rattle.entry_slots.specs.AccountExtensions.{with_liabilities_in}
 pub use Rattle.entry_slots.specs.AccountFacts.{facts_in}
-pub use Rattle.entry_slots.specs.Accounts.{account_in, account_of, with_account_in, with_account_of}
+pub use Rattle.entry_slots.specs.Accounts.{account_in, account_of}
 unfoldable pub use Rattle.entry_slots.specs.Accounts.{account_at, with_account}
 pub use Rattle.entry_slots.specs.EntrySponsor.{sponsor_of}
 pub use Rattle.entry_slots.specs.LineExtensions.{line_liabilities, line_liabilities_in, with_line_liabilities_in}
-pub use Rattle.entry_slots.specs.Lines.{line_in, line_of, with_line_in, with_line_of}
+pub use Rattle.entry_slots.specs.Lines.{line_in, line_of}
 unfoldable pub use Rattle.entry_slots.specs.Lines.{line_at, with_line}
-pub use Rattle.entry_slots.specs.Offers.{offer_of, with_offer_in, with_offer_of}
+pub use Rattle.entry_slots.specs.Offers.{offer_of}
 unfoldable pub use Rattle.entry_slots.specs.Offers.{offer_at, with_offer}
-pub use Rattle.entry_slots.specs.Pools.{entry_of_pool, pool_in, pool_of, pool_of_slot, pool_slot_at, pool_slot_by}
-pub use Rattle.entry_slots.specs.Pools.{pool_slot_of, with_pool_in, with_pool_of}
+pub use Rattle.entry_slots.specs.Pools.{entry_of_pool, pool_of_slot, pool_slot, pool_slot_at}
 unfoldable pub use Rattle.entry_slots.specs.Pools.{pool_at, with_pool}
 pub use Rattle.ledger_types.proofs.Arithmetic.{add_assoc, add_assoc_to, add_change_if, add_natural_nonnegative}
 pub use Rattle.ledger_types.proofs.Arithmetic.{add_neg_zero, add_nonnegative, add_sub_first, add_two_zeros, add_zero}
@@ -66,16 +68,16 @@ pub use Rattle.legal_rules.proofs.ChargesLeft.{discharged_kept, erase_beside, er
 pub use Rattle.legal_rules.proofs.Covered.{minimum_not_below, not_above_balance}
 pub use Rattle.legal_rules.proofs.Holdings.{put_holds, put_same, still_holds}
 pub use Rattle.legal_rules.proofs.Indices.{account_after, account_elsewhere, kept_elsewhere}
-pub use Rattle.legal_rules.proofs.Leaving.{Leaves, account_changed, account_kept, accounts_kept, keeps_both, keyed_put}
-pub use Rattle.legal_rules.proofs.Leaving.{leaves_as, leaves_both, leaves_itself, no_account_changed}
-pub use Rattle.legal_rules.proofs.Liable.{IsLineEntry, line_entry, line_stored, second, stored, with_line_body}
-pub use Rattle.legal_rules.proofs.Liable.{with_line_is}
+pub use Rattle.legal_rules.proofs.Leaving.{Leaves, account_changed, account_kept, accounts_kept, keeps_both}
+pub use Rattle.legal_rules.proofs.Leaving.{keyed_after, keyed_put, leaves_as, leaves_both, leaves_itself}
+pub use Rattle.legal_rules.proofs.Leaving.{no_account_changed}
+pub use Rattle.legal_rules.proofs.Liable.{line_entry, line_stored, second, stored}
 pub use Rattle.legal_rules.proofs.LinesLeft.{line_kept, line_left, line_legal}
 pub use Rattle.legal_rules.proofs.OffersKept.{IsOfferEntry, acquiring_legal, binding_legal, offer_changed, offer_entry}
 pub use Rattle.legal_rules.proofs.OffersKept.{unbound_if, with_offer_body, with_offer_is}
 pub use Rattle.legal_rules.proofs.Releasing.{bound_in_range, can_release, line_in_range, releasing_legal}
 pub use Rattle.legal_rules.proofs.ReservesLeft.{IsCharged, available_still, no_subentry_core, pays_less}
-pub use Rattle.legal_rules.proofs.Steps.{legal_as}
+pub use Rattle.legal_rules.proofs.Steps.{account_entry, legal_as}
 pub use Rattle.legal_rules.specs.Aggregates.{Kind, ShareLines, Shares, Sponsored, Sponsoring, Subentries, View}
 pub use Rattle.legal_rules.specs.Binding.{CanBind, CanBindBoth, acquiring, binding, bound_account, bound_line}
 pub use Rattle.legal_rules.specs.Binding.{releasing, risen}

@@ -1,9 +1,8 @@
 -- What an offer's owner can give and take, as it is seen in the entries that exist before the offer's liabilities are
 -- released, and after the trade.
-use Rattle.trade_cross.proofs.Prelude.{◌≡◌, ◌≢◌, ap, ◌∙◌, Option, Some, None, get, AccountId, TrustLineAsset}
-use Rattle.trade_cross.proofs.Prelude.{AccountEntry, TrustLineEntry, LedgerEntry, LedgerEntryBody, LedgerKey, EntryMap}
-use Rattle.trade_cross.proofs.Prelude.{account_in, account_of, account_at, line_in, line_of, line_at, IsKeyed}
-use Rattle.ledger_types.specs.declared.entry.LedgerEntryBody.TheVariants as body
+use Rattle.trade_cross.proofs.Prelude.{◌≡◌, ◌≢◌, ap, ◌∙◌, Option, Some, AccountId, TrustLineAsset, AccountEntry}
+use Rattle.trade_cross.proofs.Prelude.{TrustLineEntry, LedgerEntry, LedgerKey, EntryMap, account_in, account_of}
+use Rattle.trade_cross.proofs.Prelude.{account_at, line_in, line_of, line_at, IsKeyed, account_entry, line_entry}
 use Rattle.ledger_types.specs.declared.key.LedgerKey.TheVariants as key
 use Rattle.trade_cross.proofs.Altering.{mapped, altered_opt, AreApart, KeepsKeys, altered_at, opt_keyed, opt_elsewhere}
 use Rattle.trade_cross.proofs.Changing.{over, holding_body}
@@ -11,38 +10,24 @@ use Rattle.trade_cross.proofs.Changing.{over, holding_body}
 -- ---- under the key that is changed
 
 module _ (f : AccountEntry → AccountEntry) (g : TrustLineEntry → TrustLineEntry) where
-  account_changed_in : (b : LedgerEntryBody) (a : AccountEntry) → account_in b ≡ Some a
-      → account_in (holding_body f g b) ≡ Some (f a)
-  account_changed_in (body.Account was) a is = let same : was ≡ a = cc in ap (λ x. Some (f x)) same
-  account_changed_in other a is = absurd (cc)
-
-  account_changed_of : (o : Option LedgerEntry) (a : AccountEntry) → account_of o ≡ Some a
-      → account_of (mapped (over (holding_body f g)) o) ≡ Some (f a)
-  account_changed_of None a is = absurd (cc)
-  account_changed_of (Some e) a is = account_changed_in e.body a is
-
-  line_changed_in : (b : LedgerEntryBody) (t : TrustLineEntry) → line_in b ≡ Some t
-      → line_in (holding_body f g b) ≡ Some (g t)
-  line_changed_in (body.TrustLine was) t is = let same : was ≡ t = cc in ap (λ x. Some (g x)) same
-  line_changed_in other t is = absurd (cc)
-
-  line_changed_of : (o : Option LedgerEntry) (t : TrustLineEntry) → line_of o ≡ Some t
-      → line_of (mapped (over (holding_body f g)) o) ≡ Some (g t)
-  line_changed_of None t is = absurd (cc)
-  line_changed_of (Some e) t is = line_changed_in e.body t is
-
   module _ (m : EntryMap) (keyed : IsKeyed m) (keeps : KeepsKeys (over (holding_body f g))) where
     pub account_then : (id : AccountId) (a : AccountEntry) → account_at m id ≡ Some a
         → account_at (altered_opt (Some (key.Account id)) (over (holding_body f g)) m) id ≡ Some (f a)
     unfolding account_at
-    account_then id a exists = ap account_of (altered_at m keyed (key.Account id) (over (holding_body f g)) keeps)
-        ∙ account_changed_of (get m (key.Account id)) a exists
+    account_then id a exists =
+        let found = account_entry m id a exists in
+        ap account_of (altered_at m keyed (key.Account id) (over (holding_body f g)) keeps)
+        ∙ ap (λ o. account_of (mapped (over (holding_body f g)) o)) found.1.there
+        ∙ ap (λ b. account_in (holding_body f g b)) found.1.is
 
     pub line_then : (id : AccountId) (x : TrustLineAsset) (t : TrustLineEntry) → line_at m id x ≡ Some t
         → line_at (altered_opt (Some (key.TrustLine id x)) (over (holding_body f g)) m) id x ≡ Some (g t)
     unfolding line_at
-    line_then id x t exists = ap line_of (altered_at m keyed (key.TrustLine id x) (over (holding_body f g)) keeps)
-        ∙ line_changed_of (get m (key.TrustLine id x)) t exists
+    line_then id x t exists =
+        let found = line_entry m id x t exists in
+        ap line_of (altered_at m keyed (key.TrustLine id x) (over (holding_body f g)) keeps)
+        ∙ ap (λ o. line_of (mapped (over (holding_body f g)) o)) found.1.there
+        ∙ ap (λ b. line_in (holding_body f g b)) found.1.is
 
 -- ---- under another key
 

@@ -7,11 +7,11 @@ use prelude.{offer_at, with_offer, map_after_removing, Rounding, Normal, Bounds,
 use prelude.{wheat_stays, exchanged, adjusted, liabilities, bound_of, is_key, binding, acquiring, releasing, CanBind}
 use prelude.{CanBindBoth, Kind, Subentries, Sponsoring, Sponsored, View, AreReservesSettled, trade_aggregates, Owed}
 use prelude.{plus, less, beside_reserves, weighed, IsEntryLegal, IsLegalOwing, IsOfferInRange, acquiring_legal}
-use prelude.{binding_legal, unbound_if, offer_changed, offer_entry, with_offer_is, with_offer_body, IsOfferEntry}
-use prelude.{releasing_legal, can_release, legal_as, most_given, most_taken, paying, account_gives, account_takes}
-use prelude.{line_gives, line_takes, Left, seller_gives_at, seller_takes_at, amount_at, meeting, map_after_trade}
-use prelude.{with_amount, offer_key, map_after_rest, step_by, step, atom_of, IsOwedRightly, kept_at, kept_by, IsHeld}
-use prelude.{put_elsewhere, add_assoc, add_neg_zero, natural_at_most_trans, sub_if_zeros, unsigned_abs_positive}
+use prelude.{binding_legal, unbound_if, offer_changed, offer_entry, with_offer_body, IsOfferEntry, releasing_legal}
+use prelude.{can_release, legal_as, most_given, most_taken, paying, account_gives, account_takes, line_gives}
+use prelude.{line_takes, Left, seller_gives_at, seller_takes_at, amount_at, meeting, map_after_trade, with_amount}
+use prelude.{offer_key, map_after_rest, step_by, step, atom_of, IsOwedRightly, kept_at, kept_by, IsHeld, add_assoc}
+use prelude.{add_neg_zero, natural_at_most_trans, sub_if_zeros, unsigned_abs_positive, with_beside, offers_exact}
 use Rattle.std.proofs.Math.Nat.{min-le_right}
 use Rattle.ledger_types.specs.declared.entry.LedgerEntryBody.TheVariants as body
 use Rattle.ledger_types.specs.declared.key.LedgerKey.TheVariants as key
@@ -40,11 +40,10 @@ module _ (m : EntryMap) (o new : OfferEntry) (exists : offer_at m o.seller_id o.
   changed = with_offer m o.seller_id o.offer_id (λ was. new)
 
   pub offer_keeps : (k : LedgerKey) → k ≢ offer_key o → get changed k ≡ get m k
+  unfolding with_offer
   offer_keeps k apart =
-      let found = offer_entry m o.seller_id o.offer_id o exists in
-      ap (λ x. get x k) (with_offer_is m o.seller_id o.offer_id (λ was. new) o found.0 found.1)
-      ∙ put_elsewhere m (with_offer_body found.0 new) k
-      (λ same. apart (same ∙ (λ i. key.Offer (seller i) (id i))))
+      with_beside offers_exact m (offer_key o) (λ was. new) k
+      (λ was there same. apart (same ∙ (λ i. key.Offer (seller i) (id i))))
 
   pub account_keeps : (x : AccountId) → account_at changed x ≡ account_at m x
   unfolding account_at

@@ -3,28 +3,25 @@ use Rattle.tx_apply.proofs.Prelude as prelude
 use prelude.{◌≡◌, ◌≢◌, ℕ, suc, ◌+◌, ◌<◌, ◌≤◌, ℤ, pos, negsuc, neg_ℤ, ◌+ℤ◌, ◌-ℤ◌, ◌≤ℤ◌, Bool, true, false, ◌&&◌}
 use prelude.{if◌then◌else◌, List, [], ◌∷◌, ◌++◌, length, get_or, drop, min, unsigned_abs, Option, Some, None, refl, sym}
 use prelude.{ap, subst, ◌∙◌, append_assoc, arith, ints, append-nil, drop_all, is_eq, AccountId, AccountEntry}
-use prelude.{LedgerHeader, TransactionEnvelope, EntryMap, Undo, with_current, account_at, with_account, total}
-use prelude.{fee_source_of, not_below_0, fee_charged, greatest_i64, paid, with_paid, Holder, OfAccount, FeePool, Move}
-use prelude.{is_holder, gained, holding, is_issuer, location_of, AreDescribed, TransactionLaws, IsSettled, more_at}
-use prelude.{described_at, described_itself, gained_twice, account_location, end_describes, holding_with}
-use prelude.{AreAllDescribed, FeesConserve, envelopes_at, add_assoc, add_nonnegative, add_zero, natural_nonnegative}
-use Rattle.std.specs.FinMap.{get}
+use prelude.{LedgerHeader, TransactionEnvelope, EntryMap, Undo, with_current, account_at, total, fee_source_of}
+use prelude.{not_below_0, fee_charged, greatest_i64, paid, with_paid, Holder, OfAccount, FeePool, Move, is_holder}
+use prelude.{gained, holding, is_issuer, location_of, AreDescribed, TransactionLaws, IsSettled, more_at, described_at}
+use prelude.{described_itself, gained_twice, account_location, end_describes, holding_with, AreAllDescribed}
+use prelude.{FeesConserve, envelopes_at, add_assoc, add_nonnegative, add_zero, natural_nonnegative}
 use Rattle.ledger_types.specs.KeyOrder.{asset_cmp}
 use Rattle.op_laws.specs.legal_rules.Holdings.{none_more, for_one, HoldsMore}
 use Rattle.ledger_types.specs.declared.asset.Asset.{Asset}
 use Rattle.ledger_types.specs.declared.asset.Asset.TheVariants as asset
-use Rattle.ledger_types.specs.declared.key.LedgerKey.TheVariants as key
 use Rattle.op_laws.specs.legal_rules.Supply.{held, lumens_of, lumens_in}
 use Rattle.op_laws.proofs.legal_rules_proofs.Holdings.{no_lumens_more, account_holds, holds_itself, holds_as}
 use Rattle.tx_apply.specs.Fees.{fee_of, map_after_fee, fee_move, FeesTaken, after_fee, fees_taken, sum_of}
 use Rattle.tx_apply.proofs.Placed.{first_left}
-use Rattle.op_laws.proofs.legal_rules_proofs.Leaving.{no_account_of}
+use Rattle.op_laws.proofs.legal_rules_proofs.Leaving.{no_account_changed}
 
 -- ---- one fee
 
 nothing_paid : (m : EntryMap) (id : AccountId) (delta : ℤ) → account_at m id ≡ None → with_paid id delta m ≡ m
-unfolding account_at with_account
-nothing_paid m id delta e = no_account_of m (paid delta) (get m (key.Account id)) e
+nothing_paid m id delta e = no_account_changed m id (paid delta) e
 
 -- the least of some numbers is at most the first
 min_low : (a b : ℕ) → min a b ≤ a

@@ -12,6 +12,7 @@ use std::sync::Wait;
 /// Hands in an outcome. One that is refused is dropped.
 fn hand_in(ledger: &mut Ledger, out: MergeOut)
     ensures state { ledger.new.state ≡ ledger.old.state }
+    ensures caches { ledger.new.caches ≡ ledger.old.caches }
     ensures handed_in { IsHandedIn out ledger.old ledger.new }
 {
     let _refused = ledger.hand_in(out);
@@ -24,6 +25,7 @@ pub fn adopt<R: Wait>(rt: &R, ledger: &mut Ledger, room: &Room, collector: &mut 
     ensures room { IsCollectorIn room.now collector.new }
     ensures parts { collector_parts collector.new ≡ collector_parts collector.old }
     ensures state { ledger.new.state ≡ ledger.old.state }
+    ensures caches { ledger.new.caches ≡ ledger.old.caches }
     ensures adopts { Adopts (collected_by collector.old) (collected_by collector.new) ledger.old ledger.new }
     ensures looked { empty_looks_of collector.new ≡ empty_looks_of collector.old + 1 }
 {

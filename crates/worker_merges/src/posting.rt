@@ -31,6 +31,7 @@ pub fn post_due<R: Wait>(rt: &R, ledger: &mut Ledger, room: &Room, board: &mut B
     ensures room { IsBoardIn room.now board.new }
     ensures parts { board_parts board.new ≡ board_parts board.old }
     ensures state { ledger.new.state ≡ ledger.old.state }
+    ensures caches { ledger.new.caches ≡ ledger.old.caches }
     ensures drawn { ledger.new.pending ≡ map drawn ledger.old.pending }
     ensures count { posted_by board.old + waiting_in ledger.old.pending ≡ posted_by board.new + result }
     ensures returned { returned_to board.new ≡ returned_to board.old + result }

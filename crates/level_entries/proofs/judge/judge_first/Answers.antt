@@ -1,6 +1,6 @@
-use Rattle.level_entries.proofs.Prelude.{◌+◌, drop, sym, subst, Less, Equal, Greater, item_type, MayFollowBy}
+use Rattle.level_entries.proofs.Prelude.{◌+◌, drop, sym, subst, ◌∙◌, item_type, MayFollowBy}
 use Rattle.bucket_items.specs.declared.item.BucketEntryType.{BucketEntryType}
-use Rattle.level_entries.proofs.JudgedRows.{from_index, ordered, judged_less, judged_equal, judged_greater}
+use Rattle.level_entries.proofs.JudgedRows.{from_index, judged_less, judged_equal, judged_greater}
 use Rattle.level_entries.proofs.JudgedRows.{refused_equal}
 use Rattle.level_entries.proofs.judge.judge_first.Goals as goal
 
@@ -13,8 +13,7 @@ returns-in-Less c =
     judged_less (drop c.args.index older) (drop c.args.turn newer) (drop (c.args.turn + 1) newer) item
     (from_index newer c.args.turn item c.requires.turn c.index-newer-turn.is) c.requires.older c.requires.newer
     (drop (c.args.index + 1) older) under (from_index older c.args.index under c.requires.index c.index-older-index.is)
-    (ordered c.key.result.now c.key-2.result.now under.0 item.0 c.order.result Less c.key.ensures c.key-2.ensures
-    c.order.ensures c.in-Less.is)
+    (sym (c.order.ensures item.0 c.key.ensures) ∙ c.in-Less.is)
 
 pub returns-then-may_follow : goal.returns-then-may_follow
 returns-then-may_follow c =
@@ -25,8 +24,7 @@ returns-then-may_follow c =
     judged_equal (drop c.args.index older) (drop c.args.turn newer) (drop (c.args.turn + 1) newer) item
     (from_index newer c.args.turn item c.requires.turn c.index-newer-turn.is) c.requires.older c.requires.newer
     (drop (c.args.index + 1) older) under (from_index older c.args.index under c.requires.index c.index-older-index.is)
-    (ordered c.key.result.now c.key-2.result.now under.0 item.0 c.order.result Equal c.key.ensures c.key-2.ensures
-    c.order.ensures c.in-Equal.is)
+    (sym (c.order.ensures item.0 c.key.ensures) ∙ c.in-Equal.is)
     (subst (λ (t : BucketEntryType). MayFollowBy t (item_type under.1)) c.mark.ensures
     (subst (λ (t : BucketEntryType). MayFollowBy c.mark.result t) c.mark-in-Equal.ensures
     (c.may_follow.ensures.0 c.if-may_follow.true)))
@@ -40,8 +38,7 @@ returns-else-may_follow c =
     refused_equal (drop c.args.index older) (drop c.args.turn newer) (drop (c.args.turn + 1) newer) item
     (from_index newer c.args.turn item c.requires.turn c.index-newer-turn.is) c.requires.older c.requires.newer
     (drop (c.args.index + 1) older) under (from_index older c.args.index under c.requires.index c.index-older-index.is)
-    (ordered c.key.result.now c.key-2.result.now under.0 item.0 c.order.result Equal c.key.ensures c.key-2.ensures
-    c.order.ensures c.in-Equal.is)
+    (sym (c.order.ensures item.0 c.key.ensures) ∙ c.in-Equal.is)
     (λ may. cc (
       c.may_follow.ensures.1 (subst (λ (t : BucketEntryType). MayFollowBy c.mark.result t) (sym c.mark-in-Equal.ensures)
           (subst (λ (t : BucketEntryType). MayFollowBy t (item_type under.1)) (sym c.mark.ensures) may)),
@@ -57,5 +54,4 @@ returns-in-Greater c =
     judged_greater (drop c.args.index older) (drop c.args.turn newer) (drop (c.args.turn + 1) newer) item
     (from_index newer c.args.turn item c.requires.turn c.index-newer-turn.is) c.requires.older c.requires.newer
     (drop (c.args.index + 1) older) under (from_index older c.args.index under c.requires.index c.index-older-index.is)
-    (ordered c.key.result.now c.key-2.result.now under.0 item.0 c.order.result Greater c.key.ensures c.key-2.ensures
-    c.order.ensures c.in-Greater.is)
+    (sym (c.order.ensures item.0 c.key.ensures) ∙ c.in-Greater.is)

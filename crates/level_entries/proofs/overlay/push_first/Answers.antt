@@ -1,6 +1,6 @@
-use Rattle.level_entries.proofs.Prelude.{◌+◌, drop, arith, Less, Equal, Greater, older_passed, both_passed}
+use Rattle.level_entries.proofs.Prelude.{◌+◌, drop, arith, sym, ◌∙◌, older_passed, both_passed}
 use Rattle.level_entries.proofs.Prelude.{newer_passed}
-use Rattle.level_entries.proofs.JudgedRows.{from_index, ordered}
+use Rattle.level_entries.proofs.JudgedRows.{from_index}
 use Rattle.level_entries.proofs.overlay.push_first.Goals as goal
 
 pub returns-in_ok-push-in-Less : goal.returns-in_ok-push-in-Less
@@ -15,8 +15,7 @@ returns-in_ok-push-in-Less c =
           (from_index older c.args.index under c.requires.index c.index-older-index.is) c.requires.older
           c.requires.newer item (drop (c.args.turn + 1) newer)
           (from_index newer c.args.turn item c.requires.turn c.index-newer-turn.is)
-          (ordered c.key.result.now c.key-2.result.now under.0 item.0 c.order.result Less c.key.ensures
-          c.key-2.ensures c.order.ensures c.in-Less.is) c.in_ok-push-in-Less.ensures;
+          (sym (c.order.ensures item.0 c.key.ensures) ∙ c.in-Less.is) c.in_ok-push-in-Less.ensures;
       older_within = omega (arith, c.requires.index);
       newer_within = omega (arith, c.requires.turn);
     }
@@ -33,8 +32,7 @@ returns-in_ok-push-in-Equal c =
           (from_index older c.args.index under c.requires.index c.index-older-index.is) c.requires.older
           c.requires.newer item (drop (c.args.turn + 1) newer)
           (from_index newer c.args.turn item c.requires.turn c.index-newer-turn.is)
-          (ordered c.key.result.now c.key-2.result.now under.0 item.0 c.order.result Equal c.key.ensures
-          c.key-2.ensures c.order.ensures c.in-Equal.is) c.in_ok-push-in-Equal.ensures;
+          (sym (c.order.ensures item.0 c.key.ensures) ∙ c.in-Equal.is) c.in_ok-push-in-Equal.ensures;
       older_within = omega (arith, c.requires.index);
       newer_within = omega (arith, c.requires.turn);
     }
@@ -51,8 +49,7 @@ returns-in_ok-push-in-Greater c =
           (from_index older c.args.index under c.requires.index c.index-older-index.is) c.requires.older
           c.requires.newer item (drop (c.args.turn + 1) newer)
           (from_index newer c.args.turn item c.requires.turn c.index-newer-turn.is)
-          (ordered c.key.result.now c.key-2.result.now under.0 item.0 c.order.result Greater c.key.ensures
-          c.key-2.ensures c.order.ensures c.in-Greater.is) c.in_ok-push-in-Greater.ensures;
+          (sym (c.order.ensures item.0 c.key.ensures) ∙ c.in-Greater.is) c.in_ok-push-in-Greater.ensures;
       older_within = omega (arith, c.requires.index);
       newer_within = omega (arith, c.requires.turn);
     }

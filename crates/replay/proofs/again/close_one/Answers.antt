@@ -1,5 +1,6 @@
 use Rattle.replay.proofs.Prelude.{inl, inr}
 use Rattle.replay.proofs.Forms.{may_hold_or, never_both}
+use Rattle.worker_merges.specs.ledger_close.States.{close_of}
 use Rattle.replay.proofs.again.close_one.Goals as goal
 
 pub returns-then-not-may_hold : goal.returns-then-not-may_hold
@@ -11,7 +12,7 @@ returns-then-not-may_hold g c = elim (may_hold_or c.args.format c.args.bytes.now
 pub returns-in-Ok : goal.returns-in-Ok
 returns-in-Ok g c = record {
   held = c.may_hold.ensures.0 c.if-not-may_hold.false;
-  close = c.in-Ok.prepared;
+  close = close_of c.in-Ok.prepared;
   closes = c.in-Ok.ensures.answers;
   next = c.install.ensures.state;
 }

@@ -7,5 +7,6 @@ invariant-loop g l = record {
   parts : collector_parts l.collector ≡ collector_parts l.initial.collector;
   looks : empty_looks_of l.collector ≡ empty_looks_of l.initial.collector;
   state : l.ledger.state ≡ l.initial.ledger.state;
+  caches : l.ledger.caches ≡ l.initial.ledger.caches;
   adopts : Adopts (collected_by l.initial.collector) (collected_by l.collector) l.initial.ledger l.ledger;
 }

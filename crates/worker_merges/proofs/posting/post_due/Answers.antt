@@ -11,6 +11,7 @@ loop-job-preserved g c =
       room = posted.ensures.room;
       parts = posted.ensures.parts ∙ it.parts;
       state = c.next_job.ensures.state ∙ it.state;
+      caches = c.next_job.ensures.caches ∙ it.caches;
       returned = (let so_far = it.returned in let one = posted.ensures.returned in omega (arith, so_far, one));
       so_far = one_more (posted_by c.args.board.now) c.args.ledger.now.pending (levels_at c.loop-job.ledger)
           c.in-Some.job (levels_at c.next_job.new.self) (posted_by c.loop-job.board) (posted_by posted.new.board)

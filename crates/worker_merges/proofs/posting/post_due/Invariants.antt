@@ -7,6 +7,7 @@ invariant-loop-job g l = record {
   room : IsBoardIn l.room l.board;
   parts : board_parts l.board ≡ board_parts l.initial.board;
   state : l.ledger.state ≡ l.initial.ledger.state;
+  caches : l.ledger.caches ≡ l.initial.ledger.caches;
   returned : returned_to l.board ≡ returned_to l.initial.board + l.back;
   so_far : SoFar (posted_by l.initial.board) l.initial.ledger.pending l.ledger.pending (posted_by l.board) l.back;
 }

@@ -42,7 +42,8 @@ returns c =
     let keyed = applied_keyed s closing old begun conserved in
     let batch = applied_batch s closing old new c.in-Ok.done c.in_ok-batch.batch begun answer c.in_ok-batch.ensures in
     let next = c.stamp_batch.ensures.next s.entries (applied_in s closing).entries keyed batch in
-    let index = applied_index s closing old new c.in-Ok.done c.in_ok-offers.offers begun answer c.in_ok-offers.ensures in
+    let index = applied_index s closing old new c.in-Ok.done c.in_ok-offers.offers begun answer
+    c.in_ok-offers.ensures in
     let before = keyed_by s.entries c.self.invariant.state.legal.keyed in
     let worked : Worked = record {
       done = c.in-Ok.done;

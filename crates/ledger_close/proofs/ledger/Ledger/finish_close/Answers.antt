@@ -3,6 +3,9 @@ use Rattle.ledger_close.proofs.Prelude.{Worked, AreStepsTo, AreStepsWith, Leaves
 use Rattle.ledger_close.proofs.Prelude.{CloseRecord, EntryMap, IsKeyed, list_hash, finished, close_record, ClosingState}
 use Rattle.ledger_close.proofs.Prelude.{IsClosingState, IsEncoded, record_fault, IsClosed, upgraded_header, IsClosable}
 use Rattle.ledger_close.proofs.Prelude.{AreClosed, NextIsLegal, next_counts, IsLeveled, LevelsAfter, entries_after}
+use Rattle.ledger_close.proofs.Prelude.{List, Pair, pair_of}
+use Rattle.std.proofs.lemmas.List.{length-map}
+use Rattle.page_cache.specs.Caches.{AreNewCaches}
 use Rattle.ledger_close.proofs.Counting.{steps_with}
 use Rattle.close_laws.proofs.Unrefused.{seq_below}
 use Rattle.ledger_close.proofs.Works.{keyed_by}
@@ -66,8 +69,8 @@ pub file_total-bytes-requires : goal.file_total-bytes-requires
 file_total-bytes-requires g c =
     let can = closable_by _ c.args.self.now c.args.closing c.self.view_is c.self.invariant.state
     c.requires.encoded c.requires.unrefused c.requires.few in
-    let leveled = leveled_by c.next_is_legal.ensures c.args.self.now c.args.closing c.args.worked _ c.in_ok-step.step can
-    c.requires.worked c.in_ok-step.ensures.levels in
+    let leveled = leveled_by c.next_is_legal.ensures c.args.self.now c.args.closing c.args.worked _ c.in_ok-step.step
+    can c.requires.worked c.in_ok-step.ensures.levels in
     omega (arith, leveled.levels.count)
 
 pub returns-then-bytes-gt-MAX_FILE_TOTAL-clause-finished : goal.returns-then-bytes-gt-MAX_FILE_TOTAL-clause-finished
@@ -116,6 +119,14 @@ ledger_hash-requires g c =
     c.requires.encoded c.requires.unrefused c.requires.few)
     (c.in_ok-header.ensures c.args.closing refl c.requires.next c.requires.worked.done)
 
+pub new_caches-requires : goal.new_caches-requires
+new_caches-requires g c =
+    let can = closable_by _ c.args.self.now c.args.closing c.self.view_is c.self.invariant.state
+    c.requires.encoded c.requires.unrefused c.requires.few in
+    let leveled = leveled_by c.next_is_legal.ensures c.args.self.now c.args.closing c.args.worked _ c.in_ok-step.step
+    can c.requires.worked c.in_ok-step.ensures.levels in
+    sym (length-map c.pairs.result.now pair_of) ∙ ap length c.pairs.ensures ∙ leveled.levels.count
+
 pub invariant_of-prepared : goal.invariant_of-prepared
 invariant_of-prepared g c =
     let s = c.args.self.now.state in
@@ -129,6 +140,8 @@ invariant_of-prepared g c =
     record {
       hashed = c.in_ok-digest.ensures;
       number = leveled.seq ∙ sym (ap (λ (h : LedgerHeader). h.ledger_seq) header_is ∙ counts.ledger_seq);
+      files = subst (λ (pairs : List Pair). AreNewCaches c.in_ok-header.header.ledger_seq pairs c.in_ok-caches.caches.items)
+          c.pairs.ensures c.in_ok-caches.ensures;
     }
 
 pub returns-clause-finished : goal.returns-clause-finished
@@ -190,6 +203,12 @@ returns-in_err-header-clause-steps g c =
 
 pub returns-in_err-digest-clause-steps : goal.returns-in_err-digest-clause-steps
 returns-in_err-digest-clause-steps g c =
+    counted c.next_is_legal.ensures c.args.self.now c.args.closing c.args.worked _ _
+    (closable_by _ c.args.self.now c.args.closing c.self.view_is c.self.invariant.state c.requires.encoded
+    c.requires.unrefused c.requires.few) c.requires.worked c.level.ensures.steps
+
+pub returns-in_err-caches-clause-steps : goal.returns-in_err-caches-clause-steps
+returns-in_err-caches-clause-steps g c =
     counted c.next_is_legal.ensures c.args.self.now c.args.closing c.args.worked _ _
     (closable_by _ c.args.self.now c.args.closing c.self.view_is c.self.invariant.state c.requires.encoded
     c.requires.unrefused c.requires.few) c.requires.worked c.level.ensures.steps

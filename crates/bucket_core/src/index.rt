@@ -88,8 +88,8 @@ pub(crate) fn filter_of(
     Ok((words, hints))
 }
 
-/// The item under a key among those at some offsets of a file, by the key's text, if one is there. It looks where a hint
-/// says, and then halves the offsets again and again.
+/// The item under a key among those at some offsets of a file, by the key's text, if one is there. It looks where a
+/// hint says, and then halves the offsets again and again.
 pub(crate) fn find_stored<'a>(
     file: &'a [u8],
     offsets: &[u32],
@@ -113,8 +113,8 @@ pub(crate) fn find_stored<'a>(
     }
 }
 
-/// The first item above a key among those at some offsets of a file, by the key's text, if one is there. It looks where a
-/// hint says that the key is, and then halves the offsets again and again.
+/// The first item above a key among those at some offsets of a file, by the key's text, if one is there. It looks where
+/// a hint says that the key is, and then halves the offsets again and again.
 pub(crate) fn stored_above<'a>(
     file: &'a [u8],
     offsets: &[u32],

@@ -18,8 +18,8 @@ const KIND_OFFSET: usize = 3;
 /// The kind of an offer's key (OFFER of LedgerEntryType in Stellar-ledger-entries.x).
 const OFFER: u8 = 2;
 
-/// The offset in an offer's key of the first byte of its id, after the kind and the seller. That byte is below 128 where
-/// the id isn't negative.
+/// The offset in an offer's key of the first byte of its id, after the kind and the seller. That byte is below 128
+/// where the id isn't negative.
 const ID_OFFSET: usize = 40;
 
 /// The kind of the key of data (DATA of LedgerEntryType in Stellar-ledger-entries.x).

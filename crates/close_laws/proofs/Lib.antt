@@ -9,6 +9,7 @@ pub mod NextHeader
 pub mod NextLegal
 pub mod Digests
 pub mod Bytes
+pub mod EntireIds
 pub mod ThirdExtensions
 pub mod AccountBytes
 pub mod DatedEntries

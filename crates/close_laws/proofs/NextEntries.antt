@@ -363,6 +363,13 @@ pool_numbers pool range = record {
 
 -- ---- all entries
 
+-- the bytes of what the set of a record leaves
+pub applied_bytes : TransactionLaws → LegalSettles → (s : ClosingState) (closing : CloseRecord) → IsClosable s closing
+    → AreBytes (applied_in s closing).entries
+applied_bytes laws settles s closing can =
+    set_bytes laws settles (setting_in s closing) closing.tx_set s.entries (can_close s closing can)
+    (time_fits closing can.encoded) (set_encoded closing can.encoded) can.few (map_bytes s.entries can.state.entries)
+
 module _ (laws : TransactionLaws) (settles : LegalSettles) (legal : SettledLegal) (conserve : SetsConserve)
     (s : ClosingState) (closing : CloseRecord) (after : EntryMap) (can : IsClosable s closing)
     (closed : AreClosed s closing after) where
@@ -370,8 +377,7 @@ module _ (laws : TransactionLaws) (settles : LegalSettles) (legal : SettledLegal
   next_bytes =
       alike_bytes (applied_in s closing).entries after
       (next_alike (s.header.ledger_seq + 1) s.entries (applied_in s closing).entries after closed)
-      (set_bytes laws settles (setting_in s closing) closing.tx_set s.entries (can_close s closing can)
-      (time_fits closing can.encoded) (set_encoded closing can.encoded) can.few (map_bytes s.entries can.state.entries))
+      (applied_bytes laws settles s closing can)
 
   next_seq : (k : LedgerKey) (e : LedgerEntry) → get after k ≡ Some e → e.last_modified_ledger_seq < 4294967296
   next_seq k e there =

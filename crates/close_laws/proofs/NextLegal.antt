@@ -37,6 +37,10 @@ module _ (conserve : SetsConserve) (s : ClosingState) (closing : CloseRecord) (c
       next_range s closing list_hash can.state.legal.header can.unrefused
       (seq_below s closing can.unrefused can.state.legal.header.seq_high) few_drawn
 
+  -- what the set leaves is settled
+  pub applied_settled : IsSettled (applied_in s closing).id_pool (applied_in s closing).entries
+  applied_settled = conserved.settled
+
   -- what exists after the close is settled
   pub next_settled : (after : EntryMap) → AreClosed s closing after → IsSettled (applied_in s closing).id_pool after
   next_settled after closed =

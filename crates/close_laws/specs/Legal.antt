@@ -6,7 +6,7 @@ use Rattle.close_rules.specs.xdr_header.Records.{close_record}
 use Rattle.bucket_levels.specs.entry_map.EntryMap.{EntryMap}
 use Rattle.close_rules.specs.entry_changes.Next.{AreNextEntries}
 use Rattle.close_rules.specs.legal_rules.Legal.{IsLegal}
-use Rattle.close_rules.specs.entry_changes.Encodable.{AreEncodable}
+use Rattle.close_rules.specs.entry_changes.Encodable.{AreEncodable, HaveEntireIds}
 use Rattle.close_rules.specs.header_chain.SkipList.{finished}
 use Rattle.close_rules.specs.State.{ClosingState, IsClosingState, IsEncoded}
 use Rattle.close_rules.specs.Refusals.{record_fault}
@@ -34,3 +34,12 @@ NextIsLegal = (s : ClosingState) (closing : CloseRecord) (after : EntryMap) (lis
 abbrev pub EntriesStayEncodable : Type 0
 EntriesStayEncodable = (s : ClosingState) (closing : CloseRecord) (after : EntryMap) → IsClosable s closing
     → AreClosed s closing after → AreEncodable after
+
+-- what summing all entries up asks of their keys: of those of a state from which a ledger closes
+abbrev pub StatesHaveEntireIds : Type 0
+StatesHaveEntireIds = (s : ClosingState) → IsClosingState s → HaveEntireIds s.entries
+
+-- and of those that the set of a record leaves
+abbrev pub SetsLeaveEntireIds : Type 0
+SetsLeaveEntireIds =
+    (s : ClosingState) (closing : CloseRecord) → IsClosable s closing → HaveEntireIds (applied_in s closing).entries

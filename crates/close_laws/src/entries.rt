@@ -22,3 +22,17 @@ pub fn entries_stay_encodable()
     settled_legal();
     sets_conserve();
 }
+
+/// What the entries of a state hold can be summed up, by the crate `tally`.
+pub fn states_have_entire_ids()
+    ensures { legal.StatesHaveEntireIds }
+{}
+
+/// What the entries hold that the set of a record leaves can be summed up, by the crate `tally`.
+pub fn sets_leave_entire_ids()
+    ensures { legal.SetsLeaveEntireIds }
+{
+    transaction_laws();
+    legal_settles();
+    sets_conserve();
+}

@@ -4,16 +4,25 @@ use prelude.{◌≡◌, ◌≢◌, ℕ, ◌+◌, ◌-◌, ◌<◌, ◌≤◌, le
 use prelude.{false, cond, ◌||◌, List, [], ◌∷◌, Option, Some, None, Ordering, Less, Equal, Greater, unwrap_or, option_or}
 use prelude.{is_lt, is_gt, ordering_reverse, eq_by_cmp, upto, tied_itself, list_any, get, contains_key, keys}
 use prelude.{contains_key-keys, LedgerKey, LedgerEntry, key_of, key_cmp, keys_total, keys_exact, EntryMap, IsLeastAbove}
-use prelude.{IsNextAfter, LayerMap, under, under_one, change_of, newest_change, is_changed, is_known, IsLeastKey}
+use prelude.{LayerMap, under, under_one, change_of, newest_change, is_changed, is_known, IsLeastKey}
 use prelude.{IsNextKey, lesser_of, common_steps, is_lt_true_Less, same_keys, is_some_false, or_left, or_parts, or_right}
 use Rattle.std.proofs.Common.{is_some, option_map}
-use Rattle.entry_map.specs.Walk.{IsNextKnown}
+use Rattle.entry_map.specs.EntryMap.{IsNextAfter, IsNextUpTo}
+use Rattle.entry_map.specs.Walk.{IsNextKnown, up_to}
 use Rattle.entry_map.specs.declared.walk.Known.{Known}
 use Rattle.entry_map.specs.declared.walk.Known.TheVariants.{Kept, Changed}
 use Rattle.entry_map.proofs.Under.{get-current}
 use Rattle.entry_map.proofs.KeyMaps.{not_greater}
 
 -- ---- the order
+
+pub gt_is : (o : Ordering) → is_gt o ≡ true → o ≡ Greater
+gt_is Less h = cc
+gt_is Equal h = cc
+gt_is Greater h = refl
+
+below_not_greater : (a b : LedgerKey) → key_cmp a b ≡ Less → key_cmp a b ≢ Greater
+below_not_greater a b less greater = cc
 
 -- a is at most b
 abbrev UpTo : LedgerKey → LedgerKey → Type 0
@@ -188,9 +197,10 @@ module _ (m : EntryMap) (ls : List LayerMap) (top : LayerMap) where
             (λ early. seen.none q above early)),
       )
 
-  pub ended : (k at : LedgerKey) → IsSeenTo current k at → IsNextKey known at None → IsNextAfter current k None
-  ended k at seen next q above =
-      by_order (get current q ≡ None) (key_cmp at q) (λ later. unknown m ls top q (next q later))
+  pub ended : (k at : LedgerKey) (last : Option LedgerKey) → IsSeenTo current k at → IsNextKnown m ls top at last None
+      → IsNextUpTo current k last None
+  ended k at last seen next q above within =
+      by_order (get current q ≡ None) (key_cmp at q) (λ later. unknown m ls top q (next q later within))
       (λ early. seen.none q above early)
 
 -- ---- how many known keys are left
@@ -285,16 +295,48 @@ module _ (m : EntryMap) (ls : List LayerMap) (top : LayerMap) where
   abbrev changed : LedgerKey → Bool
   changed q = contains_key top q || is_changed ls q
 
-  pub none_kept : (k : LedgerKey) (o : Option LedgerKey) → IsNextAfter m k None → IsNextKey changed k o
-      → IsNextKnown m ls top k (option_map Changed o)
-  none_kept k None none next =
-      next_either (contains_key m) changed k None None (λ q above. ap is_some (none q above)) next
-  none_kept k (Some x) none next =
-      next_either (contains_key m) changed k None (Some x) (λ q above. ap is_some (none q above)) next
+  -- the next changed key is above the last one
+  none_within : (k x l : LedgerKey) → IsLeastKey changed k x → is_gt (key_cmp x l) ≡ true → (q : LedgerKey)
+      → key_cmp k q ≡ Less → key_cmp q l ≢ Greater → changed q ≡ false
+  none_within k x l next behind q above within =
+      elim (changed q) as (λ b. changed q ≡ b → b ≡ false) [
+        | true ↦ λ e. cannot_be (is_gt (key_cmp x l))
+            (upto keys_total x q l (not_gt _ (next.least_of q above e)) (not_gt _ within)) behind
+        | false ↦ λ _. refl
+      ] refl
 
-  pub none_changed : (k : LedgerKey) (e : LedgerEntry) → IsLeastAbove m k e → IsNextKey changed k None
-      → IsNextKnown m ls top k (Some (Kept e))
-  none_changed k e base next = (
+  -- the next changed key is at most the last one
+  least_within : (k x l : LedgerKey) → IsNextUpTo m k (Some l) None → IsLeastKey changed k x
+      → is_gt (key_cmp x l) ≡ false → IsNextKey (is_known m ls top) k (Some x)
+  least_within k x l none next low = record {
+    there = or_right (contains_key m x) (changed x) next.there;
+    above = next.above;
+    least_of = λ q above passes. or_elim (key_cmp x q ≢ Greater) (contains_key m q) (changed q) passes
+        (λ here. elim (is_gt (key_cmp q l)) as (λ b. is_gt (key_cmp q l) ≡ b → key_cmp x q ≢ Greater) [
+          | true ↦ λ e. below_not_greater x q
+              (up_to_less x l q low (keys_total.antisymm l q ∙ ap ordering_reverse (gt_is (key_cmp q l) e)))
+          | false ↦ λ e. cannot_be (contains_key m q) (ap is_some (none q above (not_greater _ e))) here
+        ] refl)
+        (λ here. next.least_of q above here);
+  }
+
+  pub none_kept : (k : LedgerKey) (last o : Option LedgerKey) → IsNextUpTo m k last None → IsNextKey changed k o
+      → IsNextKnown m ls top k last (option_map Changed (up_to o last))
+  none_kept k last None none next =
+      λ q above within. or_false (contains_key m q) (changed q) (ap is_some (none q above within)) (next q above)
+  none_kept k None (Some x) none next =
+      next_either (contains_key m) changed k None (Some x) (λ q above. ap is_some (none q above tt)) next
+  none_kept k (Some l) (Some x) none next =
+      elim (is_gt (key_cmp x l)) as (λ b. is_gt (key_cmp x l) ≡ b
+      → IsNextKnown m ls top k (Some l) (option_map Changed (cond b None (Some x)))) [
+        | true ↦ λ e q above within. or_false (contains_key m q) (changed q) (ap is_some (none q above within))
+            (none_within k x l next e q above within)
+        | false ↦ λ e. least_within k x l none next e
+      ] refl
+
+  pub none_changed : (k : LedgerKey) (last : Option LedgerKey) (e : LedgerEntry) → IsLeastAbove m k e
+      → IsNextKey changed k None → IsNextKnown m ls top k last (Some (Kept e))
+  none_changed k last e base next = (
     next_either (contains_key m) changed k (Some (key_of e)) None (base_next m k e base) next,
     unchanged m ls top (key_of e) (next (key_of e) base.above) ∙ base.there,
     next (key_of e) base.above,
@@ -307,9 +349,9 @@ module _ (m : EntryMap) (ls : List LayerMap) (top : LayerMap) where
       subst (λ t. IsNextKey (is_known m ls top) k (cond t (Some x) (Some (key_of e)))) is
       (next_either (contains_key m) changed k (Some (key_of e)) (Some x) (base_next m k e base) next)
 
-  pub kept_first : (k : LedgerKey) (e : LedgerEntry) (x : LedgerKey) → IsLeastAbove m k e
-      → IsNextKey changed k (Some x) → key_cmp (key_of e) x ≡ Less → IsNextKnown m ls top k (Some (Kept e))
-  kept_first k e x base next less =
+  pub kept_first : (k : LedgerKey) (last : Option LedgerKey) (e : LedgerEntry) (x : LedgerKey) → IsLeastAbove m k e
+      → IsNextKey changed k (Some x) → key_cmp (key_of e) x ≡ Less → IsNextKnown m ls top k last (Some (Kept e))
+  kept_first k last e x base next less =
       let after : key_cmp x (key_of e) ≡ Greater = keys_total.antisymm x (key_of e) ∙ ap ordering_reverse less in
       let same : changed (key_of e) ≡ false =
       elim (changed (key_of e)) as (λ b. changed (key_of e) ≡ b → b ≡ false) [
@@ -321,9 +363,10 @@ module _ (m : EntryMap) (ls : List LayerMap) (top : LayerMap) where
         same,
       )
 
-  pub changed_first : (k : LedgerKey) (e : LedgerEntry) (x : LedgerKey) → IsLeastAbove m k e
-      → IsNextKey changed k (Some x) → key_cmp (key_of e) x ≢ Less → IsNextKnown m ls top k (Some (Changed x))
-  changed_first k e x base next late =
+  pub changed_first : (k : LedgerKey) (last : Option LedgerKey) (e : LedgerEntry) (x : LedgerKey)
+      → IsLeastAbove m k e → IsNextKey changed k (Some x) → key_cmp (key_of e) x ≢ Less
+      → IsNextKnown m ls top k last (Some (Changed x))
+  changed_first k last e x base next late =
       elim (key_cmp (key_of e) x) as (λ r. key_cmp (key_of e) x ≡ r → IsNextKey (is_known m ls top) k (Some x)) [
         | Less ↦ λ less. absurd (late less)
         | Equal ↦ λ tied. subst (λ y. IsNextKey (is_known m ls top) k (Some y)) (keys_exact (key_of e) x tied)
@@ -334,10 +377,10 @@ module _ (m : EntryMap) (ls : List LayerMap) (top : LayerMap) where
       ] refl
 
   -- what the layers change next is next after an entry of the base that comes before it
-  pub still_ahead : (k : LedgerKey) (e : LedgerEntry) (o : Option LedgerKey) → IsNextKnown m ls top k (Some (Kept e))
-      → IsNextKey changed k o → IsNextKey changed (key_of e) o
-  still_ahead k e None known next = λ q above. next q (keys_total.trans k (key_of e) q known.0.above above)
-  still_ahead k e (Some x) known next = record {
+  pub still_ahead : (k : LedgerKey) (last : Option LedgerKey) (e : LedgerEntry) (o : Option LedgerKey)
+      → IsNextKnown m ls top k last (Some (Kept e)) → IsNextKey changed k o → IsNextKey changed (key_of e) o
+  still_ahead k last e None known next = λ q above. next q (keys_total.trans k (key_of e) q known.0.above above)
+  still_ahead k last e (Some x) known next = record {
     there = next.there;
     above = elim (key_cmp (key_of e) x) as (λ r. key_cmp (key_of e) x ≡ r → key_cmp (key_of e) x ≡ Less) [
       | Less ↦ λ less. less
@@ -349,10 +392,21 @@ module _ (m : EntryMap) (ls : List LayerMap) (top : LayerMap) where
     least_of = λ q above passes. next.least_of q (keys_total.trans k (key_of e) q known.0.above above) passes;
   }
 
-pub next_is : (m : EntryMap) (ls : List LayerMap) (top : LayerMap) (k : LedgerKey) (o p : Option Known) → o ≡ p
-    → IsNextKnown m ls top k o → IsNextKnown m ls top k p
-next_is m ls top k o p is next = subst (IsNextKnown m ls top k) is next
+pub next_is : (m : EntryMap) (ls : List LayerMap) (top : LayerMap) (k : LedgerKey) (last : Option LedgerKey)
+    (o p : Option Known) → o ≡ p → IsNextKnown m ls top k last o → IsNextKnown m ls top k last p
+next_is m ls top k last o p is next = subst (IsNextKnown m ls top k last) is next
 
 pub first_and_rest : {X : Type 0} (xs : List X) (x : X) → 1 ≤ length xs → x ≡ get_or xs 0 x
     → xs ≡ x ∷ take (length xs - 1) (drop 1 xs)
 first_and_rest xs x h e = grind (arith, common_steps)
+
+-- ---- as far as a last key
+
+pub any_last : (m : EntryMap) (k : LedgerKey) (last : Option LedgerKey) (o : Option LedgerEntry) → IsNextAfter m k o
+    → IsNextUpTo m k last o
+any_last m k last None next = λ q above within. next q above
+any_last m k last (Some e) next = next
+
+pub with_no_last : (m : EntryMap) (k : LedgerKey) (o : Option LedgerEntry) → IsNextUpTo m k None o → IsNextAfter m k o
+with_no_last m k None next = λ q above. next q above tt
+with_no_last m k (Some e) next = next

@@ -19,3 +19,4 @@ pub mod Saved
 pub use Rattle.ledger_types.proofs as ledger_types_proofs
 pub use Rattle.shared_tree.proofs as shared_tree_proofs
 mod Prelude
+mod Raised

@@ -1,5 +1,5 @@
 -- The entries of a ledger as one finite map, from keys in their order to entries.
-use Rattle.std.specs.Prelude.{◌≡◌, ◌≢◌, Option, Some, None, IfSome}
+use Rattle.std.specs.Prelude.{◌≡◌, ◌≢◌, ⊤, Option, Some, None, IfSome}
 use Rattle.std.specs.declared.cmp.Ordering.TheVariants.{Less, Greater}
 use Rattle.std.specs.FinMap.{FinMap, get, insert, remove}
 use Rattle.ledger_types.specs.declared.key.LedgerKey.{LedgerKey}
@@ -32,3 +32,13 @@ pub record IsLeastAbove (m : EntryMap) (k : LedgerKey) (e : LedgerEntry) : Type 
 abbrev pub IsNextAfter : EntryMap → LedgerKey → Option LedgerEntry → Type 0
 IsNextAfter m k None = (q : LedgerKey) → key_cmp k q ≡ Less → get m q ≡ None
 IsNextAfter m k (Some e) = IsLeastAbove m k e
+
+-- a key is at most a last one, if there is a last one
+abbrev pub IsUpTo : Option LedgerKey → LedgerKey → Type 0
+IsUpTo None q = ⊤
+IsUpTo (Some last) q = key_cmp q last ≢ Greater
+
+-- what comes next in the order of keys, as far as a last key: none where no key above k and up to that has an entry
+abbrev pub IsNextUpTo : EntryMap → LedgerKey → Option LedgerKey → Option LedgerEntry → Type 0
+IsNextUpTo m k last None = (q : LedgerKey) → key_cmp k q ≡ Less → IsUpTo last q → get m q ≡ None
+IsNextUpTo m k last (Some e) = IsLeastAbove m k e

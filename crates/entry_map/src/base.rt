@@ -1,8 +1,8 @@
 //! Where entries come from.
 
-ghost use Rattle.std.specs.Prelude.{◌≡◌, IfOk};
+ghost use Rattle.std.specs.Prelude.{◌≡◌, IfOk, Some};
 ghost use Rattle.std.specs.FinMap.{get};
-ghost use Rattle.entry_map.specs.EntryMap.{EntryMap, IsKeyed, IsNextAfter};
+ghost use Rattle.entry_map.specs.EntryMap.{EntryMap, IsKeyed, IsNextAfter, IsNextUpTo};
 ghost use Rattle.entry_map.specs.Book.{IsPositionPriced, AreOffersSound, next_offer};
 ghost use Rattle.entry_map.specs.Indexes.{IsIndexOf};
 
@@ -25,6 +25,19 @@ pub trait Base {
     fn next_after(&self, key: &LedgerKey) -> Result<Option<LedgerEntry>, AllocError>
         ensures next { IfOk result (IsNextAfter (entries self.now) key.now) }
         ensures keyed { IsKeyed (entries self.now) };
+
+    /// The entry with the least key above a key, as far as a last key: none where no key up to that has an entry. What
+    /// stands behind the last key need not be looked at.
+    fn next_up_to(
+        &self,
+        key: &LedgerKey,
+        last: &LedgerKey,
+    ) -> Result<Option<LedgerEntry>, AllocError>
+        ensures { IfOk result (IsNextUpTo (entries self.now) key.now (Some last.now)) }
+    {
+        let _ = last;
+        self.next_after(key)
+    }
 
     /// The index of the map's offers.
     fn offers(&self) -> Result<OfferIndex, AllocError>

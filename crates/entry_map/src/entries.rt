@@ -4,7 +4,7 @@ ghost use Rattle.std.specs.Prelude.{◌≡◌, IfOk, IfSome, MatchOption, OnOk, 
 ghost use Rattle.std.specs.Option.{option_copied};
 ghost use Rattle.std.specs.FinMap.{get};
 ghost use Rattle.ledger_types.specs.Keys.{key_of};
-ghost use Rattle.entry_map.specs.EntryMap.{IsNextAfter, put, erase};
+ghost use Rattle.entry_map.specs.EntryMap.{IsNextAfter, IsNextUpTo, put, erase};
 ghost use Rattle.entry_map.specs.Batch.{IsBatch};
 ghost use Rattle.entry_map.specs.Book.{IsPositionPriced, AreOffersSound, next_offer, offer_of};
 ghost use Rattle.entry_map.specs.Indexes.{IsIndexOf};
@@ -126,11 +126,27 @@ impl<'a, B: Base> Entries<'a, B> {
         self.layered.next_after(key)
     }
 
-    /// A walk over the entries in the order of their keys, which begins at a key.
-    pub fn walk_from(&self, key: &LedgerKey) -> Result<EntryWalk<'_, B>, AllocError>
-        ensures { IfOk result (λ walk. walk ≡ record { entries = self.now.current; at = key.now }) }
+    /// The entry with the least key above a key, as far as a last key: none where no key up to that has an entry.
+    pub fn next_up_to(
+        &self,
+        key: &LedgerKey,
+        last: &LedgerKey,
+    ) -> Result<Option<LedgerEntry>, AllocError>
+        ensures { IfOk result (IsNextUpTo self.now.current key.now (Some last.now)) }
     {
-        self.layered.walk_from(key)
+        self.layered.next_up_to(key, last)
+    }
+
+    /// A walk over the entries in the order of their keys, which begins at a key and goes as far as another one.
+    pub fn walk_from(
+        &self,
+        key: &LedgerKey,
+        last: &LedgerKey,
+    ) -> Result<EntryWalk<'_, B>, AllocError>
+        ensures { IfOk result (λ walk.
+            walk ≡ record { entries = self.now.current; at = key.now; last = last.now }) }
+    {
+        self.layered.walk_from(key, last)
     }
 
     /// The first offer of a pair's book after a price and an id, or at its head. None exactly where there is none.

@@ -1,10 +1,10 @@
 //! Layers of changes over a base.
 
-ghost use Rattle.std.specs.Prelude.{◌≡◌, IfOk, IfSome, MatchOption, OnOk};
+ghost use Rattle.std.specs.Prelude.{◌≡◌, IfOk, IfSome, MatchOption, OnOk, Some};
 ghost use Rattle.std.specs.Option.{option_copied};
 ghost use Rattle.std.specs.FinMap.{get};
 ghost use Rattle.ledger_types.specs.Keys.{key_of};
-ghost use Rattle.entry_map.specs.EntryMap.{IsNextAfter, put, erase};
+ghost use Rattle.entry_map.specs.EntryMap.{IsNextAfter, IsNextUpTo, put, erase};
 ghost use Rattle.entry_map.specs.Batch.{IsBatch};
 ghost use Rattle.entry_map.specs.Undo.{started, with_current, IsOpen, opened, undone, kept};
 
@@ -13,7 +13,7 @@ use crate::batch::Batch;
 use crate::changes::changes_of;
 use crate::layer::Layer;
 use crate::lookup::{change_at, entry_at};
-use crate::walk::{EntryWalk, entry_after};
+use crate::walk::{EntryWalk, entry_after, entry_up_to};
 use ledger_types::{LedgerEntry, LedgerKey};
 use std::alloc::{AllocError, Global};
 use std::marker::Model;
@@ -84,11 +84,27 @@ impl<'a, B: Base> Layered<'a, B> {
         entry_after(self.base, self.lower.as_slice(), &self.top, key)
     }
 
-    /// A walk over the entries in the order of their keys, which begins at a key.
-    pub fn walk_from(&self, key: &LedgerKey) -> Result<EntryWalk<'_, B>, AllocError>
-        ensures { IfOk result (λ walk. walk ≡ record { entries = self.now.current; at = key.now }) }
+    /// The entry with the least key above a key, as far as a last key: none where no key up to that has an entry.
+    pub fn next_up_to(
+        &self,
+        key: &LedgerKey,
+        last: &LedgerKey,
+    ) -> Result<Option<LedgerEntry>, AllocError>
+        ensures { IfOk result (IsNextUpTo self.now.current key.now (Some last.now)) }
     {
-        EntryWalk::new(self.base, self.lower.as_slice(), &self.top, key)
+        entry_up_to(self.base, self.lower.as_slice(), &self.top, key, last)
+    }
+
+    /// A walk over the entries in the order of their keys, which begins at a key and goes as far as another one.
+    pub fn walk_from(
+        &self,
+        key: &LedgerKey,
+        last: &LedgerKey,
+    ) -> Result<EntryWalk<'_, B>, AllocError>
+        ensures { IfOk result (λ walk.
+            walk ≡ record { entries = self.now.current; at = key.now; last = last.now }) }
+    {
+        EntryWalk::new(self.base, self.lower.as_slice(), &self.top, key, last)
     }
 
     /// Puts an entry under its key, in place of what was there.

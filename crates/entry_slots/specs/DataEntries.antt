@@ -19,9 +19,6 @@ data_in other = None
 abbrev pub data_kind : EntryKind DataEntry
 data_kind = record { body_of = body.Data; value_in = data_in }
 
-abbrev pub data_of : Option LedgerEntry → Option DataEntry
-data_of found = value_of data_kind found
-
 -- the account's data with this name, if it exists
 unfoldable pub data_at : EntryMap → AccountId → List ℕ → Option DataEntry
 data_at m account_id data_name = entry_at data_kind m (key.Data account_id data_name)

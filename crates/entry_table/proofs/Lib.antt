@@ -1,10 +1,8 @@
-pub mod Rowed
 pub mod Walks
 pub mod Turns
 pub mod Passes
 pub mod Positions
 pub mod Tables
-pub mod Above
 pub mod Batches
 pub mod Stamped
 pub mod AfterBatch

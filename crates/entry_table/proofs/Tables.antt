@@ -1,9 +1,9 @@
 -- The rows of tables.
 use Rattle.entry_table.proofs.Prelude as prelude
-use prelude.{◌≡◌, ℕ, Bool, true, false, cond, List, [], ◌∷◌, Option, Some, None, IfSome, map, refl, sym, ap, subst, ◌∙◌}
-use prelude.{◌++◌, length, take, drop, All, option_map, Less, is_lt, eq_by_cmp, slice_get}
-use prelude.{get, entries, values, from_entries, entries-from_sorted, get-from_sorted, get-from_entries}
-use prelude.{same_map, find, below_all, All-head, All-tail, slice_get-map, LedgerKey, LedgerEntry, key_cmp, key_of}
+use prelude.{◌≡◌, Bool, true, false, cond, List, [], ◌∷◌, Option, Some, None, IfSome, map, refl, sym, ap, subst, ◌∙◌}
+use prelude.{◌++◌, length, take, drop, All, Less, is_lt, eq_by_cmp}
+use prelude.{get, entries, from_entries, entries-from_sorted, get-from_sorted, get-from_entries}
+use prelude.{same_map, find, below_all, All-head, All-tail, LedgerKey, LedgerEntry, key_cmp, key_of}
 use prelude.{keys_total, keys_exact, EntryMap, IsKeyed, AreRising, map_of, with_key, AreOwn}
 use prelude.{IsTableRow, same_keys}
 use Rattle.entry_table.proofs.Walks.{both, is_less, Sorted, Above}
@@ -43,14 +43,6 @@ map_made row s = same_map keys_total keys_exact _ _
 
 pub entries_of : (row : List (LedgerKey × LedgerEntry)) (m : EntryMap) → Sorted row → map_of row ≡ m → entries m ≡ row
 entries_of row m s is = ap (λ n. entries n) (sym is) ∙ entries-from_sorted key_cmp row s
-
-pub values_made : (row : List (LedgerKey × LedgerEntry)) → Sorted row → values (map_of row) ≡ map (λ x. x.1) row
-values_made row s = ap (λ r. map (λ x. x.1) r) (entries_of row _ s refl)
-
-pub value_in : (row : List (LedgerKey × LedgerEntry)) (m : EntryMap) (index : ℕ) → Sorted row → map_of row ≡ m
-    → slice_get (values m) index ≡ option_map (λ x. x.1) (slice_get row index)
-value_in row m index s is = ap (λ r. slice_get (map (λ x. x.1) r) index) (entries_of row m s is)
-    ∙ slice_get-map (λ (x : LedgerKey × LedgerEntry). x.1) row index
 
 -- ---- each under its own key
 

@@ -1,6 +1,6 @@
 -- Rows in the order of entries' keys.
-use Rattle.entry_table.proofs.Prelude.{◌≡◌, true, T, List, None, subst, sym, eq_by_cmp, find, is_sorted, below_all}
-use Rattle.entry_table.proofs.Prelude.{LedgerKey, key_cmp, keys_total, derived, derived_is, none_above, Equal-is}
+use Rattle.entry_table.proofs.Prelude.{◌≡◌, true, T, List, None, eq_by_cmp, find, is_sorted, below_all}
+use Rattle.entry_table.proofs.Prelude.{LedgerKey, key_cmp, keys_total, none_above, Equal-is}
 pub use Rattle.shared_tree.proofs.Parts.{both, first, second, less, is_less}
 
 abbrev pub Sorted : {X : Type 0} → List (LedgerKey × X) → Type 0
@@ -13,7 +13,3 @@ Above k row = T (below_all key_cmp k row)
 pub none_found : {X : Type 0} (q k : LedgerKey) (row : List (LedgerKey × X)) → eq_by_cmp key_cmp q k ≡ true
     → Above k row → find key_cmp q row ≡ None
 none_found q k row e h = none_above keys_total q k row ((Equal-is (key_cmp q k)).0 e) h
-
--- the order that the keys' own comparison makes is the same
-pub derived_sorted : {X : Type 0} (row : List (LedgerKey × X)) → Sorted row → T (is_sorted derived row)
-derived_sorted row s = subst (λ R. T (is_sorted R row)) (sym derived_is) s

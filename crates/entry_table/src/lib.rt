@@ -1,16 +1,10 @@
-//! The entries after a closed ledger, as a table in the order of their keys, and what a batch of changes leaves of
-//! them.
+//! What a batch of changes leaves of entries, and rows of values under keys laid over one another.
 #![tactic(auto)]
 
 mod kept;
 mod next;
-mod offers;
-mod row;
 mod rows;
-mod table;
 
-pub use kept::{Kept, kept_entry};
+pub use kept::Kept;
 pub use next::{count_after, stamp_batch};
-pub use row::EntryRow;
 pub use rows::overlay;
-pub use table::EntryTable;

@@ -10,5 +10,6 @@ mod Judged
 pub mod Distinct
 pub mod Surveying
 mod Agreeing
+mod Kept
 mod Tallying
 mod Prelude

@@ -1,6 +1,8 @@
 //! Whether accounts, lines and pools state what is counted for them, in all aggregates at once.
 
-ghost use Rattle.std.specs.Prelude.{IsTrue, IfOk};
+ghost use Rattle.std.specs.Prelude.{◌≡◌, ◌<◌, length, slice_get, Some, IsTrue, IfOk};
+ghost use Rattle.std.specs.FinMap.{entries, values};
+ghost use Rattle.ledger_types.specs.declared.entry.LedgerEntry.{LedgerEntry as AnEntry};
 ghost use Rattle.close_rules.specs.EntryRules.{AreOwned};
 ghost use Rattle.image_rules.specs.declared.aggregates.Aggregate.{Aggregate as AnAggregate};
 ghost use Rattle.image_rules.specs.Aggregates.{AreCounts};
@@ -73,6 +75,25 @@ fn with_entry(before: Agreement, tallies: &Tallies, entry: &LedgerEntry) -> Agre
     }
 }
 
+/// In which aggregates the entry at an index agrees and those before it did. An offer states nothing that is counted,
+/// and needn't be decoded.
+fn with_entry_at(
+    before: Agreement,
+    tallies: &Tallies,
+    placed: &PlacedEntries<'_>,
+    index: usize,
+) -> Result<Agreement, AllocError>
+    requires { index < length (entries placed.now) }
+    ensures { IfOk result (λ after. (which : AnAggregate) (e : AnEntry) → slice_get (values placed.now) index ≡ Some e
+        → StillAgrees (tally_in tallies.now which) which e (agrees_in before which) (agrees_in after which)) }
+{
+    if placed.is_offer(index) {
+        return Ok(before);
+    }
+    let entry = placed.entry(index)?;
+    Ok(with_entry(before, tallies, &entry))
+}
+
 /// The agreement of no entries.
 const fn whole_agreement() -> Agreement
     ensures { (which : AnAggregate) → IsTrue (agrees_in result which) }
@@ -97,8 +118,7 @@ pub fn agreement_of(tallies: &Tallies, entries: &PlacedEntries<'_>) -> Result<Ag
 {
     let mut agreement = whole_agreement();
     for index in 0..entries.len() {
-        let entry = entries.entry(index)?;
-        agreement = with_entry(agreement, tallies, &entry);
+        agreement = with_entry_at(agreement, tallies, entries, index)?;
     }
     Ok(agreement)
 }

@@ -196,7 +196,8 @@ fn are_shares_there(
     }
 }
 
-/// Whether what an entry holds or trades in exists, if it is a line of pool shares or an offer. It is known of an offer.
+/// Whether what an entry holds or trades in exists, if it is a line of pool shares or an offer. It is known of an
+/// offer.
 fn are_holders_there(
     entries: &PlacedEntries<'_>,
     traded: bool,

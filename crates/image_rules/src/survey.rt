@@ -12,7 +12,7 @@ ghost use Rattle.image_rules.specs.Terms.{AreTerms};
 
 use crate::dated::is_body_dated;
 use crate::flags::both;
-use crate::holdings::holdings_of;
+use crate::holdings::{holdings_of, no_holdings};
 use crate::lumens::lumens_in;
 use crate::offer_ids::is_id_new;
 use crate::owners::is_owned;
@@ -136,11 +136,13 @@ pub fn survey_of(
 ) -> Result<Option<(Survey, i128)>, AllocError>
     ensures { IfOk result (Surveys header.now entries.now) }
 {
-    let mut survey = no_survey(header.scp_value.upgrades.allocator());
+    let alloc = header.scp_value.upgrades.allocator();
+    let mut survey = no_survey(alloc);
+    let mut known = no_holdings(alloc);
     let mut lumens = 0i128;
     for index in 0..entries.len() {
         let entry = entries.entry(index)?;
-        let held = holdings_of(entries, &entry.body)?;
+        let held = holdings_of(entries, &mut known, &entry.body)?;
         let kept = keeps_ranges(header, held.authorized, &entry)?;
         if !kept {
             return Ok(None);

@@ -1,5 +1,6 @@
 -- What a close says of the state after it.
-use Rattle.ledger_close.proofs.Prelude.{◌≡◌, ℕ, ◌+◌, ◌*◌, ◌≤◌, sym, List, length, Ok, ap, ◌∙◌, subst, Contents, IsStep, list_hash}
+use Rattle.ledger_close.proofs.Prelude.{◌≡◌, ℕ, ◌+◌, ◌*◌, ◌≤◌, sym, List, length, Ok, ap, ◌∙◌, subst, Contents, IsStep}
+use Rattle.ledger_close.proofs.Prelude.{list_hash}
 use Rattle.ledger_close.proofs.Prelude.{CloseRecord, ClosingState, IsClosingState, PreparedClose, IsClosed, IsClose}
 use Rattle.ledger_close.proofs.Prelude.{next_counts}
 use Rattle.close_laws.specs.Closes.{TakenIsClosable, NextIsClosing}

@@ -21,8 +21,8 @@ use std::alloc::AllocError;
 use std::marker::Model;
 
 /// A ledger after its last close: its header, the files of its levels, and its entries, which are looked up in the
-/// files. Contracts see these, with the network that its transactions are signed for, what is there of the merge that is
-/// pending into each level, and the caches of the files, from the newest to the oldest.
+/// files. Contracts see these, with the network that its transactions are signed for, what is there of the merge that
+/// is pending into each level, and the caches of the files, from the newest to the oldest.
 #[derive(Drop)]
 pub struct Ledger {
     pub(crate) network: Hash,

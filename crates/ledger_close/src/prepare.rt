@@ -116,8 +116,8 @@ impl Ledger {
     }
 
     /// Prepares the close of a record, which are these bytes, at most 16777216, with its set; or the first fault of the
-    /// record. The ledger stays as it is. Where levels are merged, the steps rise by at most the items of the files that
-    /// are; else they stay.
+    /// record. The ledger stays as it is. Where levels are merged, the steps rise by at most the items of the files
+    /// that are; else they stay.
     pub fn prepare_in_detail<L: Count>(
         &self,
         bytes: &[u8],

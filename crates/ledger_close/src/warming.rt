@@ -10,8 +10,8 @@ use std::alloc::AllocError;
 
 impl Ledger {
     /// Takes the page of each of fewer than 2^32 keys, in order, into the cache of the file with its newest mark, and
-    /// answers how many of them have one. Where memory is refused at a key, the pages taken before it stay. What the next
-    /// ledgers are is the same either way.
+    /// answers how many of them have one. Where memory is refused at a key, the pages taken before it stay. What the
+    /// next ledgers are is the same either way.
     pub fn warm(&mut self, keys: &[LedgerKey]) -> Result<u32, AllocError>
         requires { length keys.now < 2 ^ 32 }
         ensures count { IfOk result (λ count. count ≡ marked_count (files_of self.old.state.levels) keys.now) }

@@ -1,10 +1,13 @@
 //! The offers among the entries that the items of a row leave.
 
-ghost use Rattle.std.specs.Prelude.{◌≡◌, Some, None, IfOk, OnOk};
+ghost use Rattle.std.specs.Prelude.{◌≡◌, ◌<◌, length, slice_get, Some, None, IfOk, OnOk};
 ghost use Rattle.std.specs.FinMap.{get};
+ghost use Rattle.std.specs.List.{AllByRecursion};
+ghost use Rattle.std.specs.Option.{is_some};
 ghost use Rattle.ledger_types.specs.declared.entry.LedgerEntry.{LedgerEntry as AnEntry};
 ghost use Rattle.ledger_types.specs.Keys.{key_of};
 ghost use Rattle.bucket_items.specs.KeyRef.{key_seen};
+ghost use Rattle.entry_map.specs.Book.{offer_in};
 ghost use Rattle.entry_map.specs.EntryMap.{EntryMap, put};
 ghost use Rattle.entry_map.specs.Indexes.{IsIndexOf, index_of, is_of_offer};
 ghost use Rattle.level_entries.specs.Placed.{ArePlaced, IsIndexFrom, Leaves};
@@ -38,6 +41,15 @@ fn is_of_offer(item: &StoredItem<'_>) -> bool
         Ok(key) => is_offer_key(&key),
         Err(_) => false,
     }
+}
+
+/// Whether the entry that the item at an index of a row leaves is an offer, by its key, where each leaves an entry.
+pub(crate) fn is_offer_at(row: &[StoredItem<'_>], index: usize) -> bool
+    requires within { index < length row.now }
+    requires each { AllByRecursion Leaves row.now }
+    ensures { (e : AnEntry) → slice_get (spec.entries_in row.now) index ≡ Some e → result ≡ is_some (offer_in e.body) }
+{
+    is_of_offer(&row[index])
 }
 
 /// Puts the offer that an item leaves, if it leaves one, at the end of a list of those of which an index is to be made.

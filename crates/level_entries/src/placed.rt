@@ -2,13 +2,16 @@
 
 ghost use Rattle.std.specs.Prelude.{◌≡◌, ◌<◌, length, map, slice_get, Some, IfOk};
 ghost use Rattle.std.specs.FinMap.{entries, values};
+ghost use Rattle.std.specs.Option.{is_some};
+ghost use Rattle.ledger_types.specs.declared.entry.LedgerEntry.{LedgerEntry as AnEntry};
+ghost use Rattle.entry_map.specs.Book.{offer_in};
 ghost use Rattle.entry_map.specs.EntryMap.{EntryMap, IsKeyed};
 ghost use Rattle.bucket_levels.specs.Levels.{pair_of};
 ghost use Rattle.bucket_levels.specs.Meaning.{entries_of, files_of};
 ghost use Rattle.level_entries.specs.Rows.{IsNewestRow};
 
 use crate::left::{entry_at, left_in};
-use crate::offers::offers_in;
+use crate::offers::{is_offer_at, offers_in};
 use bucket_core::StoredItem;
 use bucket_levels::LevelPair;
 use entry_map::{Base, OfferIndex};
@@ -71,6 +74,14 @@ impl<'a> PlacedEntries<'a> {
         ensures keyed { IsKeyed self.now }
     {
         entry_at(*self.items.allocator(), self.items.as_slice(), index)
+    }
+
+    /// Whether the entry at an index in the order of keys is an offer, for which it isn't decoded.
+    pub fn is_offer(&self, index: usize) -> bool
+        requires { index < length (entries self.now) }
+        ensures { (e : AnEntry) → slice_get (values self.now) index ≡ Some e → result ≡ is_some (offer_in e.body) }
+    {
+        is_offer_at(self.items.as_slice(), index)
     }
 }
 

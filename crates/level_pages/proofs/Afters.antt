@@ -1,5 +1,5 @@
 -- The entry with the least key above one.
-use Rattle.std.proofs.Common.{◌≡◌, ◌≢◌, List, [], ◌∷◌, Option, Some, None, option_map, ℕ, refl, sym, ap}
+use Rattle.std.proofs.Common.{◌≡◌, ◌≢◌, true, List, [], ◌∷◌, Option, Some, None, option_map, ℕ, refl, sym, ap}
 use Rattle.std.proofs.Common.{◌∙◌}
 use Rattle.std.specs.FinMap.{get}
 use Rattle.std.specs.declared.cmp.Ordering.{Ordering}
@@ -10,15 +10,17 @@ use Rattle.ledger_types.specs.declared.key.LedgerKey.{LedgerKey}
 use Rattle.ledger_types.specs.KeyOrder.{key_cmp}
 use Rattle.ledger_types.specs.Keys.{key_of}
 use Rattle.ledger_types.proofs.KeyOrdering.{keys_total, keys_exact}
-use Rattle.entry_map.specs.EntryMap.{EntryMap, IsNextAfter}
+use Rattle.entry_map.specs.EntryMap.{EntryMap, IsNextUpTo}
+use Rattle.entry_map.proofs.KnownKeys.{gt_is}
 use Rattle.bucket_items.specs.KeyText.{IsKeyText}
 use Rattle.bucket_core.specs.Bucket.{Change, Init, Live, Dead}
 use Rattle.bucket_core.specs.File.{item_of}
 use Rattle.bucket_levels.specs.Pairs.{Pair}
 use Rattle.bucket_levels.specs.Meaning.{files_of, changes_of, entry_after, entry_by, Represent}
+use Rattle.level_pages.specs.Last.{is_behind}
 use Rattle.level_pages.specs.Newest.{entry_in, first_of}
 use Rattle.level_pages.specs.Next.{Says, IsLeast, IsLeastSaid}
-use Rattle.level_pages.proofs.Leasts.{silent_here}
+use Rattle.level_pages.proofs.Leasts.{not_above, silent_here}
 
 abbrev pub says_of : List Pair → Says
 says_of pairs = λ q. first_of (changes_of (files_of pairs) q)
@@ -56,12 +58,21 @@ module _ (pairs : List Pair) (m : EntryMap) (exists : Represent pairs m) where
   at_item : (k : LedgerKey) (x : LedgerKey × BucketEntry) → IsLeastSaid (says_of pairs) k x → get m x.0 ≡ entry_in x.1
   at_item k x h = at_key x.0 ∙ left_by x.0 x.1 (says_of pairs x.0) h.item
 
-  pub none_next : (k : LedgerKey) → IsLeast (says_of pairs) k None → IsNextAfter m k None
-  none_next k h = λ q lt. unsaid q (h q lt)
+  pub none_next : (k : LedgerKey) (last : Option LedgerKey) → IsLeast (says_of pairs) k None
+      → IsNextUpTo m k last None
+  none_next k last h = λ q lt within. unsaid q (h q lt)
 
-  pub some_next : (k : LedgerKey) (x : LedgerKey × BucketEntry) (e : LedgerEntry) → IsLeastSaid (says_of pairs) k x
-      → entry_in x.1 ≡ Some e → IsNextAfter m k (Some e)
-  some_next k x e h so =
+  -- the least key of which something is said is above the last one
+  pub behind_next : (k : LedgerKey) (last : Option LedgerKey) (x : LedgerKey × BucketEntry)
+      → IsLeastSaid (says_of pairs) k x → is_behind x.0 last ≡ true → IsNextUpTo m k last None
+  behind_next k None x h behind = absurd (cc (behind))
+  behind_next k (Some last) x h behind = λ q lt within.
+      unsaid q (silent_here (says_of pairs q)
+      (λ said. not_above x.0 q last (h.least q lt said) within (gt_is (key_cmp x.0 last) behind)))
+
+  pub some_next : (k : LedgerKey) (last : Option LedgerKey) (x : LedgerKey × BucketEntry) (e : LedgerEntry)
+      → IsLeastSaid (says_of pairs) k x → entry_in x.1 ≡ Some e → IsNextUpTo m k last (Some e)
+  some_next k last x e h so =
       let own : key_of e ≡ x.0 = h.own e so in
       record {
         there = ap (get m) own ∙ at_item k x h ∙ so;
@@ -93,11 +104,11 @@ module _ (pairs : List Pair) (m : EntryMap) (exists : Represent pairs m) where
   less_behind k q x Greater e h gone lt some =
       absurd (some (nothing_by k q x Greater e (λ n. absurd (cc (n))) h gone lt))
 
-  pub passed : (k : LedgerKey) (x : LedgerKey × BucketEntry) (r : Option LedgerEntry)
-      → IsLeastSaid (says_of pairs) k x → entry_in x.1 ≡ None → IsNextAfter m x.0 r → IsNextAfter m k r
-  passed k x None h gone next =
-      λ q lt. none_after k q x (key_cmp x.0 q) refl h gone lt (λ later. next q later)
-  passed k x (Some e) h gone next = record {
+  pub passed : (k : LedgerKey) (last : Option LedgerKey) (x : LedgerKey × BucketEntry) (r : Option LedgerEntry)
+      → IsLeastSaid (says_of pairs) k x → entry_in x.1 ≡ None → IsNextUpTo m x.0 last r → IsNextUpTo m k last r
+  passed k last x None h gone next =
+      λ q lt within. none_after k q x (key_cmp x.0 q) refl h gone lt (λ later. next q later within)
+  passed k last x (Some e) h gone next = record {
     there = next.there;
     above = keys_total.trans k x.0 (key_of e) h.above next.above;
     least = λ q lt some. next.least q (less_behind k q x (key_cmp x.0 q) refl h gone lt some) some;
@@ -107,5 +118,5 @@ module _ (pairs : List Pair) (m : EntryMap) (exists : Represent pairs m) where
 pub record IsOnWay (pairs : List Pair) (text at : List ℕ) : Type 0 where
   pub here : LedgerKey
   pub is : IsKeyText at here
-  pub follows : (m : EntryMap) (k : LedgerKey) → Represent pairs m → IsKeyText text k → (r : Option LedgerEntry)
-      → IsNextAfter m here r → IsNextAfter m k r
+  pub follows : (m : EntryMap) (k : LedgerKey) → Represent pairs m → IsKeyText text k → (last : Option LedgerKey)
+      (r : Option LedgerEntry) → IsNextUpTo m here last r → IsNextUpTo m k last r

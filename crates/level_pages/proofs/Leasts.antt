@@ -70,7 +70,7 @@ below_or_same q a b Less e n lt = keys_total.trans q a b lt e
 below_or_same q a b Equal e n lt = subst (λ (k : LedgerKey). key_cmp q k ≡ Less) (keys_exact a b e) lt
 below_or_same q a b Greater e n lt = absurd (n refl)
 
-not_above : (a b q : LedgerKey) → key_cmp a b ≢ Greater → key_cmp b q ≢ Greater → key_cmp a q ≢ Greater
+pub not_above : (a b q : LedgerKey) → key_cmp a b ≢ Greater → key_cmp b q ≢ Greater → key_cmp a q ≢ Greater
 not_above a b q ab bq = λ aq.
     bq (greater keys_total q b (below_or_same q a b (key_cmp a b) refl ab (turned keys_total a q aq)))
 

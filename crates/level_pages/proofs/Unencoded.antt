@@ -6,7 +6,9 @@ use Rattle.xdr_entries.specs.Keys.{ledger_key}
 use Rattle.ledger_types.specs.declared.entry.LedgerEntry.{LedgerEntry}
 use Rattle.ledger_types.specs.declared.key.LedgerKey.{LedgerKey}
 use Rattle.ledger_types.specs.Keys.{key_of}
-use Rattle.entry_map.specs.EntryMap.{EntryMap, IsNextAfter}
+use Rattle.ledger_types.proofs.KeyOrdering.{keys_total}
+use Rattle.shared_tree.proofs.Parts.{greater, turned}
+use Rattle.entry_map.specs.EntryMap.{EntryMap, IsNextAfter, IsNextUpTo}
 use Rattle.bucket_core.specs.Bucket.{Change, Contents, change_at}
 use Rattle.bucket_core.specs.Encoded.{IsEncoded}
 use Rattle.bucket_core.specs.EncodedKey.{HaveSameAbove}
@@ -69,3 +71,10 @@ module _ (pairs : List Pair) (m : EntryMap) (represent : Represent pairs m)
     above = (same (key_of e) (some_encoded (key_of e) e next.there)).1 next.above;
     least = λ q lt some. next.least q ((same q (entry_encoded q some)).0 lt) some;
   }
+
+  pub next_up_to_bound : (k bound last end : LedgerKey) (r : Option LedgerEntry) → HaveSameAbove k bound
+      → HaveSameAbove last end → IsNextUpTo m bound (Some end) r → IsNextUpTo m k (Some last) r
+  next_up_to_bound k bound last end None same ends next = λ q lt within.
+      none_by (get m q) (λ some. next q ((same q (entry_encoded q some)).0 lt)
+      (λ gt. within (greater keys_total last q ((ends q (entry_encoded q some)).1 (turned keys_total q end gt)))))
+  next_up_to_bound k bound last end (Some e) same ends next = next_of_bound k bound (Some e) same next

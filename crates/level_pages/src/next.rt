@@ -40,8 +40,8 @@ fn above_in<'a>(bucket: &'a Bucket, text: &[u8], fingerprint: u64) -> Option<Sto
     bucket.above(text, fingerprint)
 }
 
-/// The newest item of the least key above one in the files of levels, by the key's text. With the key's fingerprint it is
-/// found at once in a file that has an item under the key itself.
+/// The newest item of the least key above one in the files of levels, by the key's text. With the key's fingerprint it
+/// is found at once in a file that has an item under the key itself.
 pub fn least_above<'a>(
     pairs: &'a [LevelPair],
     text: &[u8],

@@ -7,7 +7,7 @@ ghost use Rattle.bucket_levels.specs.Levels.{pair_of};
 ghost use Rattle.bucket_levels.specs.Meaning.{Represent};
 ghost use Rattle.level_pages.specs.Represented.{AreCounted};
 
-use crate::after::next_entry;
+use crate::after::{next_entry, next_entry_up_to};
 use crate::newest::find_entry;
 use bucket_levels::LevelPair;
 use entry_map::{Base, OfferIndex};
@@ -92,6 +92,14 @@ impl Base for StoredEntries {
 
     fn next_after(&self, key: &LedgerKey) -> Result<Option<LedgerEntry>, AllocError> {
         next_entry(*self.pairs.allocator(), self.pairs.as_slice(), key)
+    }
+
+    fn next_up_to(
+        &self,
+        key: &LedgerKey,
+        last: &LedgerKey,
+    ) -> Result<Option<LedgerEntry>, AllocError> {
+        next_entry_up_to(*self.pairs.allocator(), self.pairs.as_slice(), key, last)
     }
 
     fn offers(&self) -> Result<OfferIndex, AllocError> {

@@ -24,7 +24,7 @@ not_none : (b : Bool) (v : LedgerEntry) (o : Option LedgerEntry) → o ≢ None 
 not_none true v o h e = absurd (cc)
 not_none false v o h e = h e
 
-later_none : (b : Bool) (v : LedgerEntry) (o : Option LedgerEntry) → cond b (Some v) o ≡ None → o ≡ None
+pub later_none : (b : Bool) (v : LedgerEntry) (o : Option LedgerEntry) → cond b (Some v) o ≡ None → o ≡ None
 later_none true v o h = absurd (cc)
 later_none false v o h = h
 

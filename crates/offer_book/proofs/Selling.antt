@@ -3,7 +3,7 @@ use Rattle.offer_book.proofs.Prelude as prelude
 use prelude.{◌≡◌, ◌≢◌, refl, sym, ap, ◌∙◌, arith, Bool, true, false, cond, T, ℤ, pos, ◌<◌, ◌≤ℤ◌, List, [], ◌∷◌, map}
 use prelude.{length, All, Option, Some, None, IfSome, Less, Equal, Greater, is_eq, ordering_then, int_cmp, int_cmp_is}
 use prelude.{get, find, entries, entries_sorted, get-entries, is_sorted, first, second, LedgerEntry, LedgerKey, key_of}
-use prelude.{key_of_body, account_cmp, key_cmp, EntryMap, IsKeyed, IsLeastAbove, IsNextAfter, offer_in, offers_in}
+use prelude.{key_of_body, account_cmp, key_cmp, EntryMap, IsKeyed, IsLeastAbove, offer_in, offers_in, eq_by_cmp}
 use prelude.{above, sold_in, IsSoldIn, found_first, found_later, account_cmp_itself, exact_accounts}
 use prelude.{same_from_both_orders}
 use Rattle.std.specs.List.{cons_option}
@@ -16,10 +16,11 @@ use Rattle.ledger_types.specs.declared.offer.OfferEntry.{OfferEntry}
 use Rattle.ledger_types.specs.declared.entry.LedgerEntryBody.{LedgerEntryBody}
 use Rattle.ledger_types.specs.declared.entry.LedgerEntryBody.TheVariants as body
 use Rattle.ledger_types.specs.declared.key.LedgerKey.TheVariants as key
+use Rattle.entry_map.specs.EntryMap.{IsNextUpTo}
 use Rattle.entry_map.specs.Walk.{WalkAt}
 use Rattle.offer_book.specs.Book.{sold_by, offers_by, AreNumbered}
-use Rattle.offer_book.specs.Sold.{AreSold, IsAmong, IsFirstSold, IsOfferOf}
-use Rattle.offer_book.proofs.Above.{Pairs, skipped, taken, nothing_left, next_left}
+use Rattle.offer_book.specs.Sold.{AreSold, AreUpTo, IsAmong, IsFirstSold, IsOfferOf}
+use Rattle.offer_book.proofs.Above.{Pairs, skipped, taken, later_none, next_left}
 
 pub offer_key : (b : LedgerEntryBody) (o : OfferEntry) → offer_in b ≡ Some o
     → key_of_body b ≡ key.Offer o.seller_id o.offer_id
@@ -122,9 +123,27 @@ all_own m keyed = own_listed (entries m) (entries_sorted m)
 
 -- ---- the next offer of an account
 
-pub nothing_sold : (m : EntryMap) (at : LedgerKey) (s : AccountId) → IsNextAfter m at None
-    → sold_in s (above at (entries m)) ≡ []
-nothing_sold m at s none = ap (sold_in s) (nothing_left m at none)
+-- under none of the account's offers' keys above a key there is anything
+none_listed : (s : AccountId) (at : LedgerKey) (es : Pairs) → All IsOwn es
+    → ((q : LedgerKey) (n : ℤ) → q ≡ key.Offer s n → key_cmp at q ≡ Less → find key_cmp q es ≡ None)
+    → sold_in s (above at es) ≡ []
+none_listed s at [] own none = refl
+none_listed s at (x ∷ xs) own none =
+    let later = none_listed s at xs (All-tail IsOwn x xs own)
+    (λ q n is lt. later_none (eq_by_cmp key_cmp q x.0) x.1 (find key_cmp q xs) (none q n is lt)) in
+    elim (key_cmp at x.0) as (λ r. key_cmp at x.0 ≡ r → sold_in s (above at (x ∷ xs)) ≡ []) [
+      | Less ↦ λ lt. ap (sold_in s) (taken at x xs lt)
+          ∙ not_sold s x (above at xs) (by_offer s x.0 x.1.body (All-head IsOwn x xs own)
+          (λ n is. absurd (cc (none x.0 n is lt, found_first x xs)))) ∙ later
+      | Equal ↦ λ e. ap (sold_in s) (skipped at x xs (λ lt. absurd (cc (e, lt)))) ∙ later
+      | Greater ↦ λ e. ap (sold_in s) (skipped at x xs (λ lt. absurd (cc (e, lt)))) ∙ later
+    ] refl
+
+pub nothing_sold : (m : EntryMap) (at last : LedgerKey) (s : AccountId) → IsNextUpTo m at (Some last) None → IsKeyed m
+    → AreUpTo s last → sold_in s (above at (entries m)) ≡ []
+nothing_sold m at last s none keyed within = none_listed s at (entries m) (all_own m keyed)
+    (λ q n is lt. sym (get-entries m q) ∙ none q lt
+    (subst (λ (k : LedgerKey). key_cmp k last ≢ Greater) (sym is) (within n)))
 
 pub other_sold : (m : EntryMap) (at : LedgerKey) (s : AccountId) (e : LedgerEntry) → IsLeastAbove m at e
     → IsSoldIn e s None → IsKeyed m → IsAmong s at → sold_in s (above at (entries m)) ≡ []
@@ -164,23 +183,26 @@ offers_more es e = filter_map-append (λ x. offer_in x.body) es (e ∷ [])
 pub record AreFound (m : EntryMap) (s : AccountId) (walk : WalkAt) (sold : List LedgerEntry) : Type 0 where
   pub same : walk.entries ≡ m
   pub among : IsAmong s walk.at
+  pub within : AreUpTo s walk.last
   pub found : offers_in sold ++ sold_in s (above walk.at (entries m)) ≡ sold_in s (above (key.Offer s (pos 0)) (entries m))
   pub each : All (IsOfferOf m) sold
 
-pub none_found : (m : EntryMap) (s : AccountId) (walk : WalkAt) (sold : List LedgerEntry)
-    → walk ≡ record { entries = m; at = key.Offer s (pos 0) } → sold ≡ [] → AreFound m s walk sold
-none_found m s walk sold is empty = record {
+pub none_found : (m : EntryMap) (s : AccountId) (last : LedgerKey) (walk : WalkAt) (sold : List LedgerEntry)
+    → walk ≡ record { entries = m; at = key.Offer s (pos 0); last = last } → AreUpTo s last → sold ≡ []
+    → AreFound m s walk sold
+none_found m s last walk sold is within empty = record {
   same = ap (λ (w : WalkAt). w.entries) is;
   among = (pos 0, ap (λ (w : WalkAt). w.at) is);
+  within = subst (AreUpTo s) (sym (ap (λ (w : WalkAt). w.last) is)) within;
   found = ap (λ (es : List LedgerEntry). offers_in es ++ sold_in s (above walk.at (entries m))) empty
       ∙ ap (λ (w : WalkAt). sold_in s (above w.at (entries m))) is;
   each = subst (All (IsOfferOf m)) (sym empty) (All-nil (IsOfferOf m));
 }
 
 pub one_more_found : (m : EntryMap) (s : AccountId) (old new : WalkAt) (sold next : List LedgerEntry) (e : LedgerEntry)
-    → AreFound m s old sold → new.entries ≡ old.entries → IsFirstSold old new.at s e → next ≡ sold ++ e ∷ []
-    → AreFound m s new next
-one_more_found m s old new sold next e far same first is =
+    → AreFound m s old sold → new.entries ≡ old.entries → new.last ≡ old.last → IsFirstSold old new.at s e
+    → next ≡ sold ++ e ∷ [] → AreFound m s new next
+one_more_found m s old new sold next e far same last first is =
     let in_m : old.entries ≡ m = far.same in
     let rest = sold_in s (above new.at (entries m)) in
     let o : OfferEntry = first.found.offer in
@@ -190,6 +212,7 @@ one_more_found m s old new sold next e far same first is =
     record {
       same = same ∙ in_m;
       among = first.at;
+      within = subst (AreUpTo s) (sym last) far.within;
       found = ap (λ (es : List LedgerEntry). offers_in es ++ rest) is
           ∙ ap (λ (os : List OfferEntry). os ++ rest) (offers_more sold e)
           ∙ ap (λ (x : Option OfferEntry). (offers_in sold ++ cons_option x []) ++ rest) first.found.is

@@ -1,7 +1,8 @@
 -- The offers of an account after one of its ids.
-use Rattle.std.specs.Prelude.{◌≡◌, ◌<◌, ℤ, List, [], ◌∷◌, All, map, length, Option, Some, None}
+use Rattle.std.specs.Prelude.{◌≡◌, ◌≢◌, ◌<◌, ℤ, List, [], ◌∷◌, All, map, length, Option, Some, None}
 use Rattle.std.specs.List.{filter}
 use Rattle.std.specs.Ordering.{is_lt}
+use Rattle.std.specs.declared.cmp.Ordering.TheVariants.{Greater}
 use Rattle.std.specs.FinMap.{entries, get}
 use Rattle.ledger_types.specs.declared.ids.AccountId.{AccountId}
 use Rattle.ledger_types.specs.declared.offer.OfferEntry.{OfferEntry}
@@ -32,6 +33,10 @@ IsSoldIn entry seller (Some offer) = (offer_in entry.body ≡ Some offer) × (of
 abbrev pub IsAmong : AccountId → LedgerKey → Type 0
 IsAmong seller at = (id : ℤ) × (at ≡ key.Offer seller id)
 
+-- a key is behind all offers of an account
+abbrev pub AreUpTo : AccountId → LedgerKey → Type 0
+AreUpTo seller last = (id : ℤ) → key_cmp (key.Offer seller id) last ≢ Greater
+
 -- an entry is an offer, and is there under its key
 pub record IsOfferOf (m : EntryMap) (entry : LedgerEntry) : Type 0 where
   pub offer : OfferEntry
@@ -47,7 +52,7 @@ pub record IsFirstSold (old : WalkAt) (now : LedgerKey) (seller : AccountId) (en
   pub fewer : length (above now (entries old.entries)) < length (above old.at (entries old.entries))
 
 abbrev pub IsNextSold : (old : WalkAt) (now : LedgerKey) (seller : AccountId) → Option LedgerEntry → Type 0
-IsNextSold old now seller None = IsKeyed old.entries → IsAmong seller old.at
+IsNextSold old now seller None = IsKeyed old.entries → IsAmong seller old.at → AreUpTo seller old.last
     → sold_in seller (above old.at (entries old.entries)) ≡ []
 IsNextSold old now seller (Some entry) = IsFirstSold old now seller entry
 

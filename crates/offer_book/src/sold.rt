@@ -4,10 +4,12 @@ ghost use Rattle.std.specs.Prelude.{◌≡◌, IfOk, pos};
 ghost use Rattle.ledger_types.specs.declared.key.LedgerKey.TheVariants.{Offer};
 ghost use Rattle.entry_map.specs.Book as book;
 ghost use Rattle.offer_book.specs.Book as spec;
-ghost use Rattle.offer_book.specs.Sold.{AreSold, IsNextSold, IsSoldIn};
+ghost use Rattle.offer_book.specs.Sold.{AreSold, AreUpTo, IsNextSold, IsSoldIn};
 
-use entry_map::{Base, Entries, EntryWalk};
-use ledger_types::{AccountId, LedgerEntry, LedgerEntryBody, LedgerKey, OfferEntry};
+use entry_map::{Base, Entries, EntryWalk, greater_account};
+use ledger_types::{
+    AccountId, ClaimableBalanceId, Hash, LedgerEntry, LedgerEntryBody, LedgerKey, OfferEntry,
+};
 use std::alloc::{AllocError, Global};
 use std::cmp::Ordering;
 
@@ -44,12 +46,25 @@ fn first_key(seller_id: AccountId) -> LedgerKey
     }
 }
 
+/// A key behind those of all offers of an account, with few other keys between.
+fn last_key(seller: &AccountId) -> LedgerKey
+    ensures { AreUpTo seller.now result }
+{
+    match greater_account(seller) {
+        Some(seller_id) => first_key(seller_id),
+        None => LedgerKey::ClaimableBalance {
+            balance_id: ClaimableBalanceId(Hash([0; 32])),
+        },
+    }
+}
+
 /// The entry of an account's next offer, where the walk came to one of its offers or to the key ahead of them.
 fn next_sold<B: Base>(
     walk: &mut EntryWalk<'_, B>,
     seller: &AccountId,
 ) -> Result<Option<LedgerEntry>, AllocError>
     ensures entries { walk.new.entries ≡ walk.old.entries }
+    ensures last { walk.new.last ≡ walk.old.last }
     ensures next { IfOk result (IsNextSold walk.old walk.new.at seller.now) }
 {
     let Some(entry) = walk.next()? else {
@@ -71,7 +86,7 @@ pub fn sold_entries<B: Base>(
     ensures { spec.AreNumbered entries.now.current
         → IfOk result (λ sold. AreSold entries.now.current seller.now sold.items) }
 {
-    let mut walk = entries.walk_from(&first_key(*seller))?;
+    let mut walk = entries.walk_from(&first_key(*seller), &last_key(seller))?;
     let mut sold = Vec::new(alloc);
     while let Some(entry) = next_sold(&mut walk, seller)? {
         sold.push(entry)?;

@@ -27,8 +27,8 @@ pub record CanApply (ctx : Ctx) (of : OperationBody) (m : EntryMap) : Type 0 whe
   pub manageable : IsManageable ctx m
   pub fit : AreEntriesFit ctx of m
 
--- Legal entries but for the bound on the ids drawn, under open sponsorships whose sponsors have accounts, where one more
--- id can be drawn and a ledger can close: an operation of an account that exists can be applied.
+-- Legal entries but for the bound on the ids drawn, under open sponsorships whose sponsors have accounts, where one
+-- more id can be drawn and a ledger can close: an operation of an account that exists can be applied.
 abbrev pub OperationsCanApply : Type 0
 OperationsCanApply = (ctx : Ctx) (of : OperationBody) (m : EntryMap) → IsUnderway ctx m → HasAccount m ctx.op_source
     → pos (ctx.id_pool + 1) ≤ℤ greatest_i64 → CanApply ctx of m

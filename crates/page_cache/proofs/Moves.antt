@@ -3,7 +3,8 @@ use Rattle.std.proofs.Common.{◌≡◌, ◌≢◌, ◌+◌, ◌*◌, ◌<◌, �
 use Rattle.std.proofs.Common.{map, take, set, length, get_or, refl, sym, ap, subst, ◌∙◌, arith, nat_lt}
 use Rattle.std.proofs.lemmas.Bool.{ltb-true, ltb-false}
 use Rattle.std.proofs.lemmas.List.{get_or-set_same, get_or-set_other, length-set, length-map, length-append}
-use Rattle.std.proofs.lemmas.List.{length-take-le, get_or-take, take_all, take_more, map-append, get_or-map as get_or_map}
+use Rattle.std.proofs.lemmas.List.{length-take-le, get_or-take, take_all, take_more, map-append}
+use Rattle.std.proofs.lemmas.List.{get_or-map as get_or_map}
 use Rattle.std.proofs.Math.ListN.{get_or-map}
 use Rattle.std.specs.Prelude.{if◌then◌else◌}
 use Rattle.bucket_core.specs.Bucket.{Contents}

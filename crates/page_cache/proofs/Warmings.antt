@@ -1,5 +1,6 @@
 -- Pages of keys taken in the caches of several files.
-use Rattle.std.proofs.Common.{◌≡◌, ◌≢◌, ◌+◌, ◌<◌, ◌≤◌, ℕ, zero, suc, Bool, true, false, List, [], ◌∷◌, ◌++◌, Option, Some}
+use Rattle.std.proofs.Common.{◌≡◌, ◌≢◌, ◌+◌, ◌<◌, ◌≤◌, ℕ, zero, suc, Bool, true, false, List, [], ◌∷◌, ◌++◌, Option}
+use Rattle.std.proofs.Common.{Some}
 use Rattle.std.proofs.Common.{None, map, take, set, length, get_or, refl, sym, ap, subst, ◌∙◌, arith}
 use Rattle.std.proofs.Common.{Result, Ok, Err}
 use Rattle.std.proofs.lemmas.List.{take_more, length-take-le, set-get_or}
@@ -9,7 +10,8 @@ use Rattle.bucket_core.specs.Bucket.{Change, Contents, change_at}
 use Rattle.bucket_core.specs.Index.{rows, index_of}
 use Rattle.bucket_levels.specs.Meaning.{changes_of, prepended}
 use Rattle.page_cache.specs.Pages.{CacheAt, IsWarmed}
-use Rattle.page_cache.specs.Caches.{contents_in, no_pages, cache_at, with_page_of, warmed_by, warmed, all_warmed, is_any}
+use Rattle.page_cache.specs.Caches.{contents_in, no_pages, cache_at, with_page_of, warmed_by, warmed, all_warmed}
+use Rattle.page_cache.specs.Caches.{is_any}
 use Rattle.page_cache.specs.Caches.{is_marked, marked_count}
 
 -- ---- one key
@@ -81,7 +83,8 @@ found_marked k (c ∷ older) (suc i) lt some =
 -- ---- a file of several
 
 -- whatever stands in for a file that isn't there
-any_default : (caches : List CacheAt) (i : ℕ) (c d : CacheAt) → i < length caches → get_or caches i c ≡ get_or caches i d
+any_default : (caches : List CacheAt) (i : ℕ) (c d : CacheAt) → i < length caches
+    → get_or caches i c ≡ get_or caches i d
 any_default [] i c d lt = absurd (omega (arith, lt))
 any_default (x ∷ caches) zero c d lt = refl
 any_default (x ∷ caches) (suc i) c d lt = any_default caches i c d (omega (arith, lt))

@@ -1,6 +1,7 @@
 //! The caches after a step of the levels: new ones of the files that are new, and those of the files that stay.
 
-ghost use Rattle.std.specs.Prelude.{◌≡◌, ◌≤◌, ◌<◌, ◌+◌, ◌*◌, ℕ, List, true, false, length, map, set, if◌then◌else◌, IfOk};
+ghost use Rattle.std.specs.Prelude.{◌≡◌, ◌≤◌, ◌<◌, ◌+◌, ◌*◌, ℕ, List, true, false, length, map, set, if◌then◌else◌};
+ghost use Rattle.std.specs.Prelude.{IfOk};
 ghost use Rattle.bucket_levels.specs.Levels.{pair_of};
 ghost use Rattle.bucket_levels.specs.Pairs.{Pair};
 ghost use Rattle.bucket_levels.specs.Spills.{level_count};

@@ -3,7 +3,7 @@ use Rattle.pool_shares.proofs.Prelude.{◌≡◌, ◌≢◌, refl, sym, ap, ◌�
 use Rattle.pool_shares.proofs.Prelude.{append-nil, append_assoc, length, All, Option, Some, None, IfSome, if◌then◌else◌}
 use Rattle.pool_shares.proofs.Prelude.{Less, Equal, Greater, ordering_then, get, entries, AccountId, Hash}
 use Rattle.pool_shares.proofs.Prelude.{TrustLineAsset, LedgerEntry, LedgerEntryBody, LedgerKey, key_of, key_of_body}
-use Rattle.pool_shares.proofs.Prelude.{line_cmp, key_cmp, EntryMap, IsLeastAbove, IsNextAfter, is_same_account}
+use Rattle.pool_shares.proofs.Prelude.{line_cmp, key_cmp, EntryMap, IsLeastAbove, is_same_account}
 use Rattle.pool_shares.proofs.Prelude.{AreKeyed, line_held, left, held_in, IsNextLine, IsAheadOfShares}
 use Rattle.std.specs.List.{cons_option}
 use Rattle.std.proofs.lemmas.List.Elements.{All-head, All-tail}
@@ -12,10 +12,15 @@ use Rattle.std.proofs.lemmas.Cmp.{nat_list_cmp_total}
 use Rattle.ledger_types.specs.declared.asset.TrustLineAsset.TheVariants as line
 use Rattle.ledger_types.specs.declared.entry.LedgerEntryBody.TheVariants as body
 use Rattle.ledger_types.specs.declared.key.LedgerKey.TheVariants as key
-use Rattle.entry_map.specs.EntryMap.{IsKeyed}
+use Rattle.std.proofs.Common.{subst}
+use Rattle.std.specs.FinMap.{find, get-entries}
+use Rattle.std.specs.Ordering.{eq_by_cmp}
+use Rattle.entry_map.specs.EntryMap.{IsKeyed, IsNextUpTo}
+use Rattle.entry_map.proofs.Aggregates.{found_first}
+use Rattle.pool_shares.specs.Held.{AreLinesUpTo}
 use Rattle.sponsor_rules.proofs.Ids.{is_itself, same_account}
 use Rattle.trade_cross.specs.offer_book.Sold.{above}
-use Rattle.trade_cross.proofs.offer_book_proofs.Above.{Pairs, skipped, taken, nothing_left, next_left}
+use Rattle.trade_cross.proofs.offer_book_proofs.Above.{Pairs, skipped, taken, later_none, next_left}
 use Rattle.trade_cross.proofs.offer_book_proofs.Selling.{IsOwn, all_own}
 use Rattle.pool_shares.specs.AccountPools.{pool_in_line, pool_held_by, pools_held_by}
 use Rattle.ledger_types.proofs.KeyOrdering.{same_from_both_orders}
@@ -116,9 +121,28 @@ if_some P (Some e) all = all e refl
 own_keys : (m : EntryMap) → AreKeyed m → IsKeyed m
 own_keys m keyed k = if_some (λ e. key_of e ≡ k) (get m k) (keyed k)
 
-pub none_next : (m : EntryMap) (s : AccountId) (i : TrustLineAsset) → IsNextAfter m (key.TrustLine s i) None
-    → IsNextLine m s i None
-none_next m s i none keyed = ap (held_in s) (nothing_left m (key.TrustLine s i) none)
+-- under none of the account's lines' keys above a key there is anything
+none_listed : (s : AccountId) (at : LedgerKey) (es : Pairs) → All IsOwn es
+    → ((q : LedgerKey) (x : TrustLineAsset) → q ≡ key.TrustLine s x → key_cmp at q ≡ Less → find key_cmp q es ≡ None)
+    → held_in s (above at es) ≡ []
+none_listed s at [] own none = refl
+none_listed s at (x ∷ xs) own none =
+    let later = none_listed s at xs (All-tail IsOwn x xs own)
+    (λ q a is lt. later_none (eq_by_cmp key_cmp q x.0) x.1 (find key_cmp q xs) (none q a is lt)) in
+    elim (key_cmp at x.0) as (λ r. key_cmp at x.0 ≡ r → held_in s (above at (x ∷ xs)) ≡ []) [
+      | Less ↦ λ lt. ap (held_in s) (taken at x xs lt)
+          ∙ held_first s x (above at xs) None (none_under s x.0 x.1.body (All-head IsOwn x xs own)
+          (λ a is. absurd (cc (none x.0 a is lt, found_first x xs)))) ∙ later
+      | Equal ↦ λ e. ap (held_in s) (skipped at x xs (λ lt. absurd (cc (e, lt)))) ∙ later
+      | Greater ↦ λ e. ap (held_in s) (skipped at x xs (λ lt. absurd (cc (e, lt)))) ∙ later
+    ] refl
+
+pub none_next : (m : EntryMap) (s : AccountId) (i : TrustLineAsset) (last : LedgerKey)
+    → IsNextUpTo m (key.TrustLine s i) (Some last) None → AreLinesUpTo s last → IsNextLine m s i None
+none_next m s i last none within keyed =
+    none_listed s (key.TrustLine s i) (entries m) (all_own m (own_keys m keyed))
+    (λ q x is lt. sym (get-entries m q) ∙ none q lt
+    (subst (λ (k : LedgerKey). key_cmp k last ≢ Greater) (sym is) (within x)))
 
 other_next : (m : EntryMap) (s : AccountId) (i : TrustLineAsset) (e : LedgerEntry)
     → IsLeastAbove m (key.TrustLine s i) e → line_held s e.body ≡ None → IsNextLine m s i None

@@ -1,6 +1,6 @@
 -- The lines of an account, one after another.
-use Rattle.std.specs.Prelude.{◌≡◌, ◌<◌, List, [], ◌++◌, map, length, Option, Some, None, if◌then◌else◌}
-use Rattle.std.specs.declared.cmp.Ordering.TheVariants.{Less}
+use Rattle.std.specs.Prelude.{◌≡◌, ◌≢◌, ◌<◌, List, [], ◌++◌, map, length, Option, Some, None, if◌then◌else◌}
+use Rattle.std.specs.declared.cmp.Ordering.TheVariants.{Less, Greater}
 use Rattle.std.specs.List.{filter_map, cons_option}
 use Rattle.std.specs.FinMap.{entries}
 use Rattle.ledger_types.specs.declared.ids.AccountId.{AccountId}
@@ -12,7 +12,7 @@ use Rattle.ledger_types.specs.declared.entry.LedgerEntryBody.{LedgerEntryBody}
 use Rattle.ledger_types.specs.declared.entry.LedgerEntryBody.TheVariants as body
 use Rattle.ledger_types.specs.declared.key.LedgerKey.{LedgerKey}
 use Rattle.ledger_types.specs.declared.key.LedgerKey.TheVariants as key
-use Rattle.ledger_types.specs.KeyOrder.{line_cmp}
+use Rattle.ledger_types.specs.KeyOrder.{line_cmp, key_cmp}
 use Rattle.entry_map.specs.EntryMap.{EntryMap}
 use Rattle.sponsor_rules.specs.Payers.{is_same_account}
 use Rattle.trade_cross.specs.legal_rules.Holdings.{IsKeyed}
@@ -40,6 +40,10 @@ pub record IsFirstLine (m : EntryMap) (id : AccountId) (after next : TrustLineAs
 abbrev pub IsNextLine : EntryMap → AccountId → TrustLineAsset → Option TrustLineAsset → Type 0
 IsNextLine m id after None = IsKeyed m → held_in id (left m id after) ≡ []
 IsNextLine m id after (Some next) = IsFirstLine m id after next
+
+-- a key is behind all lines of an account
+abbrev pub AreLinesUpTo : AccountId → LedgerKey → Type 0
+AreLinesUpTo id last = (asset : TrustLineAsset) → key_cmp (key.TrustLine id asset) last ≢ Greater
 
 -- an asset that is ahead of each pool share
 abbrev pub IsAheadOfShares : TrustLineAsset → Type 0

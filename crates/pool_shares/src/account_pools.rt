@@ -6,7 +6,7 @@ ghost use Rattle.trade_cross.specs.legal_rules.Holdings.{IsKeyed};
 ghost use Rattle.pool_shares.specs.AccountPools as spec;
 ghost use Rattle.pool_shares.specs.Held as held;
 
-use entry_map::{Base, Entries};
+use entry_map::{Base, Entries, greater_account};
 use ledger_types::{AccountId, Hash, LedgerEntry, LedgerEntryBody, LedgerKey, TrustLineAsset};
 use std::alloc::{AllocError, Global};
 
@@ -27,6 +27,19 @@ fn line_key(account_id: AccountId, asset: TrustLineAsset) -> LedgerKey
     LedgerKey::TrustLine { account_id, asset }
 }
 
+/// A key behind those of all lines of an account, with few other keys between.
+fn last_key(id: &AccountId) -> LedgerKey
+    ensures { held.AreLinesUpTo id.now result }
+{
+    match greater_account(id) {
+        Some(other) => line_key(other, TrustLineAsset::Native),
+        None => LedgerKey::Offer {
+            seller_id: AccountId([0; 32]),
+            offer_id: 0,
+        },
+    }
+}
+
 /// What the first line of an account after another one is in.
 fn next_line<B: Base>(
     entries: &Entries<'_, B>,
@@ -35,7 +48,7 @@ fn next_line<B: Base>(
 ) -> Result<Option<TrustLineAsset>, AllocError>
     ensures { IfOk result (held.IsNextLine entries.now.current id.now after.now) }
 {
-    match entries.next_after(&line_key(*id, *after))? {
+    match entries.next_up_to(&line_key(*id, *after), &last_key(id))? {
         None => Ok(None),
         Some(entry) => Ok(line_held(entry, id)),
     }

@@ -2,11 +2,10 @@
 //! buckets, streams, lists of changes, and single calls. Prints a line a step, and `BAD` after its name where it
 //! can't be taken.
 //!
-//! The program's one argument is the file of the cases. Blank lines part them. The first line of a case says what it
-//! is of: `ledgers`, `maps` with the files of levels, `levels`, `streams`, `calls`, `changes`, `pages` with the file of a
-//! bucket, or `warming` with a start image. Each further line is
-//! the name of a step and its arguments, as XDR in hexadecimal. The scripts in `tests/probe` at the top write the
-//! cases, and what is expected of them.
+//! The program's one argument is the file of the cases. Blank lines part them. The first line of a case says what it is
+//! of: `ledgers`, `maps` with the files of levels, `levels`, `streams`, `calls`, `changes`, `pages` with the file of a
+//! bucket, or `warming` with a start image. Each further line is the name of a step and its arguments, as XDR in
+//! hexadecimal. The scripts in `tests/probe` at the top write the cases, and what is expected of them.
 #![tactic(auto)]
 
 mod answers;

@@ -8,7 +8,8 @@ use prelude.{end_line, refused_line, Outcome, silent, framed, max_record_len, li
 use prelude.{IsAnswer, Image, Disk, Runs, Same, IsSafe, widened, onward, OpensTo, OpensWithin, RunPosition, Goes, Wrote}
 use prelude.{Refuses, EndsAt, MayBeAhead, IsFailedEnd, IsUnbrokenEnd, OpensAcknowledged, OpensEither, OpensOnward}
 use prelude.{Keeps, Answers, KeptOn, IsWritten, IsUnkept, IsHalfway, KeptClose, KeptPass, KeptTurn, IsWriting}
-use prelude.{KeptWriting, nil_from_length}
+use prelude.{KeptWriting, nil_from_length, SeenVolume}
+use Rattle.replay.specs.Keeping.{DidClose}
 use Rattle.record_stream.specs.declared.piece.PieceFault.TheVariants as piece
 use Rattle.stored_outcome.specs.close_rules.declared.close_fault.CloseFault.TheVariants as close
 use Rattle.stored_outcome.specs.run_outcome.declared.status.Status.TheVariants as status
@@ -119,6 +120,26 @@ unkept_nothing s bytes out d h = record {
   runs = stays_same d;
   same = refl;
 }
+
+-- memory was refused before anything was kept or written
+pub nothing_closed : (stores : Type 0) (s : ClosingState) (bytes : List ℕ) (next : ClosingState) (out : Seen)
+    (vol : SeenVolume) (goes : Type 0) → vol.now ≡ vol.before → out.faults_before ≤ out.faults_now
+    → vol.faults_before ≤ vol.faults_now → Received out []
+    → DidClose stores s bytes next out vol goes (Some status.NoMemory)
+nothing_closed stores s bytes next out vol goes same later vol_later none = record {
+  step = record { later = later; vol_later = vol_later; going = λ some. absurd (cc) };
+  closes = inr (inr (refl, none));
+  kept = λ st te. inl
+      (subst (λ (d : Disk). IsUnkept s bytes out vol.before d status.NoMemory) (sym same)
+      (unkept_nothing s bytes out vol.before none));
+}
+
+-- it is the same state
+pub closed_from : (stores : Type 0) (s t : ClosingState) → s ≡ t → (bytes : List ℕ) (next : ClosingState) (out : Seen)
+    (vol : SeenVolume) (goes : Type 0) (end : Option Status) → DidClose stores s bytes next out vol goes end
+    → DidClose stores t bytes next out vol goes end
+closed_from stores s t same bytes next out vol goes end did =
+    subst (λ (x : ClosingState). DidClose stores x bytes next out vol goes end) same did
 
 no_lines : (c : PreparedClose) → [] ≡ lines_of c → ⊥
 no_lines c e = absurd (omega (arith, lines_some c, ap length e))

@@ -12,8 +12,11 @@ use Rattle.replay.specs.Warming.{IsPartlyWarmed, IsWarmedAfter, changed_keys}
 -- whatever the ledger answers, the pages of some keys were taken
 pub partly_warmed : (keys : List LedgerKey) (old new : List CacheAt) (r : Result ℕ AllocError)
     → AreWarmed keys old r new → IsPartlyWarmed keys old new
-partly_warmed keys old new (Ok n) warm =
-    (length keys, warm.0 ∙ ap (λ (ks : List LedgerKey). all_warmed ks old) (sym (take_all (length keys) keys (omega arith))))
+partly_warmed keys old new (Ok n) warm = (
+  length keys,
+  warm.0
+      ∙ ap (λ (ks : List LedgerKey). all_warmed ks old) (sym (take_all (length keys) keys (omega arith))),
+)
 partly_warmed keys old new (Err e) warm = (warm.0, warm.2)
 
 pub none_warmed : (keys : List LedgerKey) (old : List CacheAt) → IsPartlyWarmed keys old old

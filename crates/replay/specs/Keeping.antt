@@ -1,5 +1,6 @@
 -- What a run leaves of the volume upon which it keeps its records.
-use Rattle.std.specs.Prelude.{◌≡◌, ℕ, ◌≤◌, List, [], ◌++◌, length, take, Option, Some, None, Result, Ok, Err, ◌⊎◌}
+use Rattle.std.specs.Prelude.{◌≡◌, ℕ, ◌≤◌, List, [], ◌++◌, length, take, drop, Option, Some, None, IsNone}
+use Rattle.std.specs.Prelude.{Result, Ok, Err, ◌⊎◌}
 use Rattle.outside.specs.Streams.{Rose}
 use Rattle.stored_outcome.specs.run_streams.Seen.{Seen, Gave, Received}
 use Rattle.stored_outcome.specs.close_rules.declared.close_fault.CloseFault.{CloseFault}
@@ -7,6 +8,7 @@ use Rattle.stored_outcome.specs.close_rules.State.{ClosingState}
 use Rattle.stored_outcome.specs.close_rules.Close.{PreparedClose, IsClose}
 use Rattle.stored_outcome.specs.run_outcome.declared.status.Status.{Status}
 use Rattle.stored_outcome.specs.run_outcome.declared.status.Status.TheVariants as status
+use Rattle.xdr_core.specs.Format.{IsBytes}
 use Rattle.xdr_core.specs.Position.{Position}
 use Rattle.stored_outcome.specs.run_outcome.Lines.{refused_line}
 use Rattle.stored_outcome.specs.run_outcome.Outcome.{framed, max_record_len, lines_of, IsPrefix, IsRun, AreComplete}
@@ -17,7 +19,7 @@ use Rattle.stored_outcome.specs.run_streams.SeenVolume.{SeenVolume}
 use Rattle.stored_outcome.specs.Opening.{OpensTo}
 use Rattle.stored_outcome.specs.After.{OpensWithin, AreAcknowledged}
 use Rattle.stored_outcome.specs.StoredRun.{IsFailedEnd, IsUnbrokenEnd, OpensAcknowledged}
-use Rattle.replay.specs.Following.{Followed}
+use Rattle.replay.specs.Following.{Followed, RunPosition, WroteClose, Closes, Passes, Turned}
 use Rattle.replay.specs.declared.keeper.KeepFault.{KeepFault}
 use Rattle.replay.specs.declared.keeper.KeepFault.TheVariants as fault
 
@@ -26,6 +28,12 @@ pub record Ready (keeps : Type 0) (disk : Disk) (s : ClosingState) : Type 0 wher
   pub kept : keeps
   pub safe : IsSafe disk
   pub opens : OpensTo disk.reads s
+
+-- a run can go on from a state: what keeps its records works, and where it stores them the volume yields that state
+pub record IsGoing (stores working reports : Type 0) (keeps : Disk → ClosingState → Type 0) (disk : Disk)
+    (s : ClosingState) : Type 0 where
+  pub works : working
+  pub ready : stores → reports → Ready (keeps disk s) disk s
 
 -- what opens to a state opens to it or to the next one
 abbrev pub OpensEither : (s next : ClosingState) → Image → Image → Type 0
@@ -162,3 +170,43 @@ pub record IsWriting (s : ClosingState) (text : List ℕ) (out : Seen) (old new 
 abbrev pub KeptWriting : (s : ClosingState) (text : List ℕ) (out : Seen) (old new : Disk) → Option Status → Type 0
 KeptWriting s text out old new None = Runs (OpensEither s s) old new
 KeptWriting s text out old new (Some end) = IsWriting s text out old new end
+
+-- ---- what the steps of a run come to, whatever the volume reports
+
+-- a step wrote, and called the volume; no fault was forgotten, and the run goes on unless this is its end
+pub record DidStep (out : Seen) (vol : SeenVolume) (goes : Type 0) (end : Option Status) : Type 0 where
+  pub later : out.faults_before ≤ out.faults_now
+  pub vol_later : vol.faults_before ≤ vol.faults_now
+  pub going : IsNone end → goes
+
+-- the lines of a close were written, and what is due after them was done, or that ends the run
+pub record DidWrite (stores : Type 0) (s : ClosingState) (text : List ℕ) (out : Seen) (vol : SeenVolume)
+    (goes : Type 0) (end : Option Status) : Type 0 where
+  pub step : DidStep out vol goes end
+  pub reported : WroteClose text out (DiskFailed stores vol.faults_before vol.faults_now) end
+  pub kept : stores → vol.reports → KeptWriting s text out vol.before vol.now end
+
+-- a record closed the ledger, or ended the run
+pub record DidClose (stores : Type 0) (s : ClosingState) (bytes : List ℕ) (next : ClosingState) (out : Seen)
+    (vol : SeenVolume) (goes : Type 0) (end : Option Status) : Type 0 where
+  pub step : DidStep out vol goes end
+  pub closes : Closes s bytes next out (DiskFailed stores vol.faults_before vol.faults_now) end
+  pub kept : stores → vol.reports → KeptClose s bytes next out vol.before vol.now end
+
+-- the record at the start of what is ahead closed the ledger and was taken away, or ended the run
+pub record DidPass (stores : Type 0) (s : ClosingState) (ahead : List ℕ) (size : ℕ) (next : ClosingState)
+    (left : List ℕ) (out : Seen) (vol : SeenVolume) (goes : Type 0) (end : Option Status) : Type 0 where
+  pub step : DidStep out vol goes end
+  pub passes : Passes s ahead size next out (DiskFailed stores vol.faults_before vol.faults_now) end
+  pub fits : IsBytes ahead
+  pub rest : IsNone end → left ≡ drop size ahead
+  pub kept : stores → vol.reports → KeptPass s ahead size next out vol.before vol.now end
+
+-- the next record closed the ledger, or ended the run
+pub record DidTurn (stores : Type 0) (old new : RunPosition) (input out : Seen) (vol : SeenVolume) (goes : Type 0)
+    (end : Option Status) : Type 0 where
+  pub turned : Turned old new input out (DiskFailed stores vol.faults_before vol.faults_now) end
+  pub vol_later : vol.faults_before ≤ vol.faults_now
+  pub going : IsNone end → goes
+  pub kept : stores → vol.reports
+      → KeptTurn old.state new.state old.at old.ahead input out vol.before vol.now end

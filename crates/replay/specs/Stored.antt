@@ -1,5 +1,5 @@
 -- What a store keeps, as the ledger that it yields.
-use Rattle.std.specs.Prelude.{◌≡◌, ℕ}
+use Rattle.std.specs.Prelude.{◌≡◌, ℕ, ◌<◌, ◌-◌, ◌^◌, false}
 use Rattle.stored_outcome.specs.close_rules.State.{ClosingState}
 use Rattle.outside.specs.Disk.{Disk}
 use Rattle.image_store.specs.State.{StoreState}
@@ -8,6 +8,7 @@ use Rattle.image_store.specs.Calls.{IsSettled}
 use Rattle.image_store.specs.gate_journal.declared.fault.StoreFault.{StoreFault}
 use Rattle.image_store.specs.gate_journal.declared.fault.StoreFault.TheVariants as fault
 use Rattle.stored_outcome.specs.Opening.{Yields}
+use Rattle.replay.specs.Keeping.{Ready}
 use Rattle.replay.specs.declared.keeper.KeepFault.{KeepFault}
 use Rattle.replay.specs.declared.keeper.KeepFault.TheVariants as keep
 
@@ -18,6 +19,13 @@ pub record IsStored (format : ℕ) (store : StoreState) (disk : Disk) (s : Closi
   pub settled : IsSettled store disk kept
   pub yields : Yields kept s
   pub is_format : kept.format ≡ format
+
+-- A run can go on with a store that was opened in a format: it works, it has a next epoch where it has to be brought
+-- over to format 2, and what the volume keeps yields this state.
+pub record CanGoOn (format : ℕ) (store : StoreState) (reports : Type 0) (disk : Disk) (s : ClosingState) : Type 0 where
+  pub works : store.failed ≡ false
+  pub low : format ≡ 1 → store.epoch < 2 ^ 63 - 1
+  pub ready : reports → Ready (IsStored format store disk s) disk s
 
 -- why a roll wasn't made
 abbrev pub keep_fault_of : StoreFault → KeepFault

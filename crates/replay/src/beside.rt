@@ -1,12 +1,12 @@
 //! How records are closed while workers make merges beside the closing thread.
 
-ghost use Rattle.std.specs.Prelude.{◌≡◌, ◌≤◌, [], All, IfSome, Some, false, length, vec_len, ◌<◌, ◌-◌, ◌^◌};
+ghost use Rattle.std.specs.Prelude.{◌≡◌, ◌≤◌, [], All, length};
 ghost use denote.Param.Send.{IsSync};
 ghost use Rattle.stored_outcome.specs.run_streams.Seen.{seen};
 ghost use Rattle.stored_outcome.specs.run_streams.SeenVolume.{seen_volume};
 ghost use Rattle.worker_merges.specs.WorkerSlots.{IsManned, HasEnded, IsSideOf, IsSideEndOf};
-ghost use Rattle.replay.specs.Stored.{IsStored};
-ghost use Rattle.replay.specs.Keeping.{Ready, DidFollow};
+ghost use Rattle.replay.specs.Stored.{CanGoOn};
+ghost use Rattle.replay.specs.Keeping.{DidFollow};
 ghost use Rattle.replay.specs.StoredRuns.{RanStored};
 ghost use Rattle.replay.specs.Beside as spec;
 
@@ -66,19 +66,18 @@ fn serve<R: Wait, V: Volume, I: Source, O: Sink, L: Count>(
     steps: &mut Steps<L>,
 ) -> Served
     requires side { spec.HasSide room.now workers side.old }
-    requires works { opened.old.keeper.store.failed ≡ false }
-    requires low { opened.old.format ≡ 1 → opened.old.keeper.store.epoch < 2 ^ 63 - 1 }
-    requires ready { V.reports → Ready (IsStored opened.old.format opened.old.keeper.store (V.disk vol.old)
-        opened.old.ledger.state) (V.disk vol.old) opened.old.ledger.state }
+    requires open { CanGoOn opened.old.format opened.old.closing.keeper.store V.reports (V.disk vol.old)
+        opened.old.closing.ledger.state }
     ensures side { IsSideEndOf room.now workers result.side }
-    ensures followed { DidFollow (Unit {0}) opened.old.ledger.state 0 [] (seen I.left I.faults input.old input.new)
-        (seen O.taken O.faults out.old out.new) (seen_volume V.reports V.disk V.faults vol.old vol.new) result.end }
+    ensures followed { DidFollow (Unit {0}) opened.old.closing.ledger.state 0 []
+        (seen I.left I.faults input.old input.new) (seen O.taken O.faults out.old out.new)
+        (seen_volume V.reports V.disk V.faults vol.old vol.new) result.end }
 {
     let Some(mut side) = side.take() else {
         unreachable!()
     };
     let crew = AtWork { rt, room, workers };
-    crew.post_due(&mut side, &mut opened.ledger);
+    crew.post_due(&mut side, &mut opened.closing.ledger);
     let end = follow_with(alloc, &crew, &mut side, opened, vol, input, out, steps);
     Served {
         end,
@@ -103,15 +102,14 @@ fn serve_beside<R: Threads + Wait + Sync, G: Gate, V: Volume, I: Source, O: Sink
 ) -> Served
     requires manned { All (IsManned room.now) slots.old }
     requires side { spec.HasSide room.now workers side.old }
-    requires works { opened.old.keeper.store.failed ≡ false }
-    requires low { opened.old.format ≡ 1 → opened.old.keeper.store.epoch < 2 ^ 63 - 1 }
-    requires ready { V.reports → Ready (IsStored opened.old.format opened.old.keeper.store (V.disk vol.old)
-        opened.old.ledger.state) (V.disk vol.old) opened.old.ledger.state }
+    requires open { CanGoOn opened.old.format opened.old.closing.keeper.store V.reports (V.disk vol.old)
+        opened.old.closing.ledger.state }
     ensures count { length slots.new ≡ length slots.old }
     ensures ended { All (HasEnded room.now) slots.new }
     ensures side { IsSideEndOf room.now workers result.side }
-    ensures followed { DidFollow (Unit {0}) opened.old.ledger.state 0 [] (seen I.left I.faults input.old input.new)
-        (seen O.taken O.faults out.old out.new) (seen_volume V.reports V.disk V.faults vol.old vol.new) result.end }
+    ensures followed { DidFollow (Unit {0}) opened.old.closing.ledger.state 0 []
+        (seen I.left I.faults input.old input.new) (seen O.taken O.faults out.old out.new)
+        (seen_volume V.reports V.disk V.faults vol.old vol.new) result.end }
 {
     join_mut(
         rt,
@@ -122,13 +120,10 @@ fn serve_beside<R: Threads + Wait + Sync, G: Gate, V: Volume, I: Source, O: Sink
         { work_all(rt, room, gate, slots) },
         &mut || -> Served
             requires side { spec.HasSide room.now workers side.now }
-            requires works { opened.now.keeper.store.failed ≡ false }
-            requires low { opened.now.format ≡ 1 → opened.now.keeper.store.epoch < 2 ^ 63 - 1 }
-            requires ready { V.reports
-                → Ready (IsStored opened.now.format opened.now.keeper.store (V.disk vol.now) opened.now.ledger.state)
-                (V.disk vol.now) opened.now.ledger.state }
+            requires open { CanGoOn opened.now.format opened.now.closing.keeper.store V.reports (V.disk vol.now)
+                opened.now.closing.ledger.state }
             ensures side { IsSideEndOf room.entry.now workers result.side }
-            ensures followed { DidFollow (Unit {0}) opened.entry.now.ledger.state 0 []
+            ensures followed { DidFollow (Unit {0}) opened.entry.now.closing.ledger.state 0 []
                 (seen I.left I.faults input.entry.now input.exit.now)
                 (seen O.taken O.faults out.entry.now out.exit.now)
                 (seen_volume V.reports V.disk V.faults vol.entry.now vol.exit.now) result.end }
@@ -156,11 +151,9 @@ fn close_beside<R: Threads + Wait + Sync, G: Gate, V: Volume, I: Source, O: Sink
 ) -> Status
     requires some { 1 ≤ workers }
     requires few { workers ≤ 8 }
-    requires works { opened.old.keeper.store.failed ≡ false }
-    requires low { opened.old.format ≡ 1 → opened.old.keeper.store.epoch < 2 ^ 63 - 1 }
-    requires ready { V.reports → Ready (IsStored opened.old.format opened.old.keeper.store (V.disk vol.old)
-        opened.old.ledger.state) (V.disk vol.old) opened.old.ledger.state }
-    ensures { DidFollow (Unit {0}) opened.old.ledger.state 0 [] (seen I.left I.faults input.old input.new)
+    requires open { CanGoOn opened.old.format opened.old.closing.keeper.store V.reports (V.disk vol.old)
+        opened.old.closing.ledger.state }
+    ensures { DidFollow (Unit {0}) opened.old.closing.ledger.state 0 [] (seen I.left I.faults input.old input.new)
         (seen O.taken O.faults out.old out.new) (seen_volume V.reports V.disk V.faults vol.old vol.new) result }
 {
     let Ok(shop) = hire(alloc, workers) else {

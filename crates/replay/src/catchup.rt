@@ -3,7 +3,7 @@
 ghost use Rattle.stored_outcome.specs.run_streams.Seen.{seen};
 ghost use Rattle.replay.specs.Starting.{CaughtUp};
 
-use crate::closes::follow;
+use crate::closes::{Closing, Records, follow};
 use crate::crew::Nobody;
 use crate::nowhere::Nowhere;
 use crate::starting::{Started, start};
@@ -25,17 +25,20 @@ pub(crate) fn catch_up<I: Source, O: Sink, L: Count>(
 {
     let mut ahead = Vec::new(alloc);
     match start(alloc, passphrase, input, &mut ahead) {
-        Ok(Started { mut ledger, at }) => {
+        Ok(Started { ledger, at }) => {
+            let mut closing = Closing {
+                ledger,
+                keeper: Nowhere,
+            };
+            let at = at as u128;
             follow(
                 alloc,
                 &Nobody,
                 &mut (),
-                &mut ledger,
-                &mut Nowhere,
+                &mut closing,
                 &mut MemVolume::new(alloc),
-                at as u128,
+                Records { at, ahead },
                 input,
-                &mut ahead,
                 out,
                 steps,
             )

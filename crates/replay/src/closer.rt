@@ -1,13 +1,13 @@
 //! An opened store, and closing records after it with or without workers.
 
-ghost use Rattle.std.specs.Prelude.{◌≡◌, ◌≤◌, ◌<◌, ◌-◌, ◌^◌, [], false, OnOk};
+ghost use Rattle.std.specs.Prelude.{◌≡◌, ◌≤◌, [], false, OnOk};
 ghost use Rattle.outside.specs.Disk.{Runs};
 ghost use Rattle.stored_outcome.specs.run_streams.Seen.{seen};
 ghost use Rattle.stored_outcome.specs.run_streams.SeenVolume.{seen_volume};
-ghost use Rattle.replay.specs.Stored.{IsStored};
-ghost use Rattle.replay.specs.Keeping.{Ready, DidFollow, OpensEither, IsCaused};
+ghost use Rattle.replay.specs.Stored.{IsStored, CanGoOn};
+ghost use Rattle.replay.specs.Keeping.{IsGoing, DidFollow, OpensEither, IsCaused};
 
-use crate::closes::follow;
+use crate::closes::{Closing, Records, follow};
 use crate::crew::Crew;
 use crate::keeper::KeepFault;
 use crate::stored::Stored;
@@ -15,13 +15,11 @@ use outside::{Sink, Source, Steps, Volume};
 use std::alloc::Global;
 use std::sync::ledger::Ledger as Count;
 use stored_outcome::run_outcome::Status;
-use worker_merges::ledger_close::Ledger;
 
 /// A ledger, the store that keeps it, and how many records followed the store's image as it was opened.
 #[derive(Drop)]
 pub(crate) struct Opened {
-    pub(crate) ledger: Ledger,
-    pub(crate) keeper: Stored,
+    pub(crate) closing: Closing<Stored>,
     pub(crate) records: usize,
     /// The format of the store's image as it was opened, 1 or 2.
     pub(crate) format: u8,
@@ -29,23 +27,21 @@ pub(crate) struct Opened {
 
 /// Brings a store of format 1 over to format 2, by going on to the next epoch with the ledger as it is.
 fn migrate<V: Volume>(alloc: Global, opened: &mut Opened, vol: &mut V) -> Result<(), KeepFault>
-    requires works { opened.old.keeper.store.failed ≡ false }
-    requires low { opened.old.format ≡ 1 → opened.old.keeper.store.epoch < 2 ^ 63 - 1 }
-    requires ready { V.reports → Ready (IsStored opened.old.format opened.old.keeper.store (V.disk vol.old)
-        opened.old.ledger.state) (V.disk vol.old) opened.old.ledger.state }
-    ensures migrated { V.reports → OnOk result (Ready (IsStored 2 opened.new.keeper.store (V.disk vol.new)
-        opened.new.ledger.state) (V.disk vol.new) opened.new.ledger.state) }
-    ensures runs { V.reports
-        → Runs (OpensEither opened.old.ledger.state opened.old.ledger.state) (V.disk vol.old) (V.disk vol.new) }
-    ensures works { OnOk result (opened.new.keeper.store.failed ≡ false) }
-    ensures state { opened.new.ledger.state ≡ opened.old.ledger.state }
+    requires { CanGoOn opened.old.format opened.old.closing.keeper.store V.reports (V.disk vol.old)
+        opened.old.closing.ledger.state }
+    ensures going { OnOk result (IsGoing (Unit {0}) (opened.new.closing.keeper.store.failed ≡ false) V.reports
+        (IsStored 2 opened.new.closing.keeper.store) (V.disk vol.new) opened.new.closing.ledger.state) }
+    ensures runs { V.reports → Runs (OpensEither opened.old.closing.ledger.state opened.old.closing.ledger.state)
+        (V.disk vol.old) (V.disk vol.new) }
+    ensures state { opened.new.closing.ledger.state ≡ opened.old.closing.ledger.state }
     ensures later { V.faults vol.old ≤ V.faults vol.new }
     ensures cause { IsCaused (Unit {0}) (V.faults vol.old) (V.faults vol.new) result }
 {
     if opened.format != 1 {
         return Ok(());
     }
-    opened.keeper.renew(alloc, vol, &opened.ledger)
+    let closing = &mut opened.closing;
+    closing.keeper.renew(alloc, vol, &closing.ledger)
 }
 
 /// Closes a ledger for each record of the input, with the help of a crew. A store of format 1 is brought over to format
@@ -61,30 +57,30 @@ pub(crate) fn follow_with<C: Crew, V: Volume, I: Source, O: Sink, L: Count>(
     steps: &mut Steps<L>,
 ) -> Status
     requires crew { C.has crew.now side.old }
-    requires works { opened.old.keeper.store.failed ≡ false }
-    requires low { opened.old.format ≡ 1 → opened.old.keeper.store.epoch < 2 ^ 63 - 1 }
-    requires ready { V.reports → Ready (IsStored opened.old.format opened.old.keeper.store (V.disk vol.old)
-        opened.old.ledger.state) (V.disk vol.old) opened.old.ledger.state }
+    requires open { CanGoOn opened.old.format opened.old.closing.keeper.store V.reports (V.disk vol.old)
+        opened.old.closing.ledger.state }
     ensures crew { C.has crew.now side.new }
-    ensures followed { DidFollow (Unit {0}) opened.old.ledger.state 0 [] (seen I.left I.faults input.old input.new)
-        (seen O.taken O.faults out.old out.new) (seen_volume V.reports V.disk V.faults vol.old vol.new) result }
+    ensures followed { DidFollow (Unit {0}) opened.old.closing.ledger.state 0 []
+        (seen I.left I.faults input.old input.new) (seen O.taken O.faults out.old out.new)
+        (seen_volume V.reports V.disk V.faults vol.old vol.new) result }
 {
     match migrate(alloc, opened, vol) {
         Ok(()) => {}
         Err(KeepFault::DiskFault) => return Status::DiskFault,
         Err(KeepFault::NoMemory) => return Status::NoMemory,
     }
-    let mut ahead = Vec::new(alloc);
+    let records = Records {
+        at: 0,
+        ahead: Vec::new(alloc),
+    };
     follow(
         alloc,
         crew,
         side,
-        &mut opened.ledger,
-        &mut opened.keeper,
+        &mut opened.closing,
         vol,
-        0,
+        records,
         input,
-        &mut ahead,
         out,
         steps,
     )

@@ -1,15 +1,15 @@
 //! The loop over the records of a run: each is read, prepared, kept, installed and written.
 
-ghost use Rattle.std.specs.Prelude.{◌≡◌, ◌≤◌, ◌+◌, ◌*◌, ◌^◌, ℕ, List, Ok, length, take, drop, IsNone};
+ghost use Rattle.std.specs.Prelude.{◌≡◌, ◌≤◌, ◌+◌, ◌*◌, ◌^◌, ℕ, List, Ok, length, IsNone};
 ghost use Rattle.xdr_core.specs.Format.{IsBytes};
 ghost use Rattle.stored_outcome.specs.run_streams.Seen.{seen};
+ghost use Rattle.stored_outcome.specs.run_streams.SeenVolume.{seen_volume};
 ghost use Rattle.record_stream.specs.Measured.{record_end};
 ghost use Rattle.stored_outcome.specs.close_rules.Close.{IsClose};
-ghost use Rattle.stored_outcome.specs.run_outcome.Outcome.{lines_of};
 ghost use Rattle.worker_merges.specs.ledger_close.States.{close_of};
 ghost use Rattle.replay.specs.Warming.{IsWarmedAfter};
-ghost use Rattle.replay.specs.Following.{WroteClose, Turned, Refuses, Closes, Passes, EndsAt, Followed};
-ghost use Rattle.replay.specs.Keeping.{DiskFailed, Ready, KeptWriting, KeptClose, KeptPass, KeptTurn, KeptOn};
+ghost use Rattle.replay.specs.Following.{Refuses, EndsAt};
+ghost use Rattle.replay.specs.Keeping.{IsGoing, DidWrite, DidClose, DidPass, DidTurn, DidFollow};
 
 use crate::crew::Crew;
 use crate::keeper::{KeepFault, Keeper};
@@ -24,6 +24,21 @@ use stored_outcome::close_rules::LAST_SEQ;
 use stored_outcome::run_outcome::Status;
 use worker_merges::ledger_close::{CloseFault, Ledger, Prepared};
 
+/// A ledger, and what keeps the records that close it.
+#[derive(Drop)]
+pub(crate) struct Closing<K: Keeper> {
+    pub(crate) ledger: Ledger,
+    pub(crate) keeper: K,
+}
+
+/// The records that a run has ahead of it, but for those that are still in the source.
+#[derive(Drop)]
+pub(crate) struct Records {
+    /// The offset in the input of what is ahead.
+    pub(crate) at: u128,
+    pub(crate) ahead: Vec<u8>,
+}
+
 /// The lines of a close are written, and then what is due after them is done.
 fn write_close<K: Keeper, V: Volume, O: Sink>(
     alloc: Global,
@@ -33,19 +48,11 @@ fn write_close<K: Keeper, V: Volume, O: Sink>(
     text: &[u8],
     out: &mut O,
 ) -> Option<Status>
-    requires works { K.works keeper.old }
-    requires ready { K.stores → V.reports
-        → Ready (K.keeps keeper.old (V.disk vol.old) ledger.now.state) (V.disk vol.old)
-        ledger.now.state }
-    ensures reported { WroteClose text.now (seen O.taken O.faults out.old out.new)
-        (DiskFailed K.stores (V.faults vol.old) (V.faults vol.new)) result }
-    ensures later { O.faults out.old ≤ O.faults out.new }
-    ensures vol_later { V.faults vol.old ≤ V.faults vol.new }
-    ensures kept { K.stores → V.reports → KeptWriting ledger.now.state text.now (seen O.taken O.faults out.old out.new)
-        (V.disk vol.old) (V.disk vol.new) result }
-    ensures works { IsNone result → K.works keeper.new }
-    ensures keeps { K.stores → V.reports → IsNone result
-        → Ready (K.keeps keeper.new (V.disk vol.new) ledger.now.state) (V.disk vol.new) ledger.now.state }
+    requires { IsGoing K.stores (K.works keeper.old) V.reports (K.keeps keeper.old) (V.disk vol.old) ledger.now.state }
+    ensures { DidWrite K.stores ledger.now.state text.now (seen O.taken O.faults out.old out.new)
+        (seen_volume V.reports V.disk V.faults vol.old vol.new)
+        (IsGoing K.stores (K.works keeper.new) V.reports (K.keeps keeper.new) (V.disk vol.new) ledger.now.state)
+        result }
 {
     match write_all(out, text) {
         Ok(()) => {}
@@ -58,36 +65,28 @@ fn write_close<K: Keeper, V: Volume, O: Sink>(
     }
 }
 
-/// A close is kept, the ledger takes it, its lines are written, and the pages of the entries that it made or changed are
-/// taken. All memory that the record takes, but for these pages, is taken before it is kept.
+/// A close is kept, the ledger takes it, its lines are written, and the pages of the entries that it made or changed
+/// are taken. All memory that the record takes, but for these pages, is taken before it is kept.
 fn take_close<C: Crew, K: Keeper, V: Volume, O: Sink>(
     alloc: Global,
     crew: &C,
     side: &mut C::Side,
-    ledger: &mut Ledger,
-    keeper: &mut K,
+    closing: &mut Closing<K>,
     vol: &mut V,
     bytes: &[u8],
     prepared: Prepared,
     out: &mut O,
 ) -> Option<Status>
     requires short { length bytes.now ≤ 16777216 }
-    requires closes { IsClose ledger.old.state bytes.now (Ok (close_of prepared)) }
+    requires closes { IsClose closing.old.ledger.state bytes.now (Ok (close_of prepared)) }
     requires crew { C.has crew.now side.old }
-    requires works { K.works keeper.old }
-    requires ready { K.stores → V.reports
-        → Ready (K.keeps keeper.old (V.disk vol.old) ledger.old.state) (V.disk vol.old)
-        ledger.old.state }
-    ensures closes { Closes ledger.old.state bytes.now ledger.new.state (seen O.taken O.faults out.old out.new)
-        (DiskFailed K.stores (V.faults vol.old) (V.faults vol.new)) result }
-    ensures later { O.faults out.old ≤ O.faults out.new }
-    ensures vol_later { V.faults vol.old ≤ V.faults vol.new }
-    ensures kept { K.stores → V.reports → KeptClose ledger.old.state bytes.now ledger.new.state
-        (seen O.taken O.faults out.old out.new) (V.disk vol.old) (V.disk vol.new) result }
-    ensures works { IsNone result → K.works keeper.new }
-    ensures keeps { K.stores → V.reports → IsNone result
-        → Ready (K.keeps keeper.new (V.disk vol.new) ledger.new.state) (V.disk vol.new) ledger.new.state }
-    ensures warmed { IsNone result → IsWarmedAfter prepared ledger.old.caches ledger.new.caches }
+    requires going { IsGoing K.stores (K.works closing.old.keeper) V.reports (K.keeps closing.old.keeper)
+        (V.disk vol.old) closing.old.ledger.state }
+    ensures did { DidClose K.stores closing.old.ledger.state bytes.now closing.new.ledger.state
+        (seen O.taken O.faults out.old out.new) (seen_volume V.reports V.disk V.faults vol.old vol.new)
+        (IsGoing K.stores (K.works closing.new.keeper) V.reports (K.keeps closing.new.keeper) (V.disk vol.new)
+        closing.new.ledger.state) result }
+    ensures warmed { IsNone result → IsWarmedAfter prepared closing.old.ledger.caches closing.new.ledger.caches }
     ensures crew { C.has crew.now side.new }
 {
     let pairs = prepared.results().results.as_slice();
@@ -97,17 +96,18 @@ fn take_close<C: Crew, K: Keeper, V: Volume, O: Sink>(
     let Ok(keys) = batch_keys(alloc, prepared.batch()) else {
         return Some(Status::NoMemory);
     };
-    let Ok(piece) = keeper.hold(alloc, bytes) else {
+    let Ok(piece) = closing.keeper.hold(alloc, bytes) else {
         return Some(Status::NoMemory);
     };
-    match keeper.keep(vol, piece) {
+    match closing.keeper.keep(vol, piece) {
         Ok(()) => {}
         Err(_) => return Some(Status::DiskFault),
     }
-    ledger.install(prepared);
-    crew.post_due(side, ledger);
-    let ended = write_close(alloc, ledger, keeper, vol, text.as_slice(), out);
-    warm_keys(ledger, keys.as_slice());
+    closing.ledger.install(prepared);
+    crew.post_due(side, &mut closing.ledger);
+    let text = text.as_slice();
+    let ended = write_close(alloc, &closing.ledger, &mut closing.keeper, vol, text, out);
+    warm_keys(&mut closing.ledger, keys.as_slice());
     ended
 }
 
@@ -132,8 +132,7 @@ fn close_record<C: Crew, K: Keeper, V: Volume, O: Sink, L: Count>(
     alloc: Global,
     crew: &C,
     side: &mut C::Side,
-    ledger: &mut Ledger,
-    keeper: &mut K,
+    closing: &mut Closing<K>,
     vol: &mut V,
     text: &[u8],
     out: &mut O,
@@ -141,65 +140,49 @@ fn close_record<C: Crew, K: Keeper, V: Volume, O: Sink, L: Count>(
 ) -> Option<Status>
     requires short { length text.now ≤ 16777216 }
     requires crew { C.has crew.now side.old }
-    requires works { K.works keeper.old }
-    requires ready { K.stores → V.reports
-        → Ready (K.keeps keeper.old (V.disk vol.old) ledger.old.state) (V.disk vol.old)
-        ledger.old.state }
-    ensures closes { Closes ledger.old.state text.now ledger.new.state (seen O.taken O.faults out.old out.new)
-        (DiskFailed K.stores (V.faults vol.old) (V.faults vol.new)) result }
-    ensures later { O.faults out.old ≤ O.faults out.new }
-    ensures vol_later { V.faults vol.old ≤ V.faults vol.new }
-    ensures kept { K.stores → V.reports → KeptClose ledger.old.state text.now ledger.new.state
-        (seen O.taken O.faults out.old out.new) (V.disk vol.old) (V.disk vol.new) result }
-    ensures works { IsNone result → K.works keeper.new }
-    ensures keeps { K.stores → V.reports → IsNone result
-        → Ready (K.keeps keeper.new (V.disk vol.new) ledger.new.state) (V.disk vol.new) ledger.new.state }
+    requires going { IsGoing K.stores (K.works closing.old.keeper) V.reports (K.keeps closing.old.keeper)
+        (V.disk vol.old) closing.old.ledger.state }
+    ensures did { DidClose K.stores closing.old.ledger.state text.now closing.new.ledger.state
+        (seen O.taken O.faults out.old out.new) (seen_volume V.reports V.disk V.faults vol.old vol.new)
+        (IsGoing K.stores (K.works closing.new.keeper) V.reports (K.keeps closing.new.keeper) (V.disk vol.new)
+        closing.new.ledger.state) result }
     ensures crew { C.has crew.now side.new }
 {
-    crew.adopt(side, ledger);
-    match ledger.prepare(text, steps) {
-        Ok(prepared) => take_close(alloc, crew, side, ledger, keeper, vol, text, prepared, out),
-        Err(fault) => Some(refuse(alloc, ledger, fault, out)),
+    crew.adopt(side, &mut closing.ledger);
+    match closing.ledger.prepare(text, steps) {
+        Ok(prepared) => take_close(alloc, crew, side, closing, vol, text, prepared, out),
+        Err(fault) => Some(refuse(alloc, &closing.ledger, fault, out)),
     }
 }
 
-/// The record at the start of what is ahead closes the ledger and is taken away, or ends the run.
+/// The record at the start of what is ahead, of so many bytes, closes the ledger and is taken away, or ends the run.
 fn pass_record<C: Crew, K: Keeper, V: Volume, O: Sink, L: Count>(
     alloc: Global,
     crew: &C,
     side: &mut C::Side,
-    ledger: &mut Ledger,
-    keeper: &mut K,
+    closing: &mut Closing<K>,
     vol: &mut V,
-    end: usize,
+    size: usize,
     ahead: &mut Vec<u8>,
     out: &mut O,
     steps: &mut Steps<L>,
 ) -> Option<Status>
-    requires ends { record_end ahead.old.items ≡ Ok end }
+    requires size { record_end ahead.old.items ≡ Ok size }
     requires crew { C.has crew.now side.old }
-    requires works { K.works keeper.old }
-    requires ready { K.stores → V.reports
-        → Ready (K.keeps keeper.old (V.disk vol.old) ledger.old.state) (V.disk vol.old)
-        ledger.old.state }
-    ensures passes { Passes ledger.old.state ahead.old.items end ledger.new.state
-        (seen O.taken O.faults out.old out.new) (DiskFailed K.stores (V.faults vol.old) (V.faults vol.new)) result }
-    ensures fits { IsBytes ahead.old.items }
-    ensures rest { IsNone result → ahead.new.items ≡ drop end ahead.old.items }
-    ensures later { O.faults out.old ≤ O.faults out.new }
-    ensures vol_later { V.faults vol.old ≤ V.faults vol.new }
-    ensures kept { K.stores → V.reports → KeptPass ledger.old.state ahead.old.items end ledger.new.state
-        (seen O.taken O.faults out.old out.new) (V.disk vol.old) (V.disk vol.new) result }
-    ensures works { IsNone result → K.works keeper.new }
-    ensures keeps { K.stores → V.reports → IsNone result
-        → Ready (K.keeps keeper.new (V.disk vol.new) ledger.new.state) (V.disk vol.new) ledger.new.state }
+    requires going { IsGoing K.stores (K.works closing.old.keeper) V.reports (K.keeps closing.old.keeper)
+        (V.disk vol.old) closing.old.ledger.state }
+    ensures did { DidPass K.stores closing.old.ledger.state ahead.old.items size closing.new.ledger.state
+        ahead.new.items (seen O.taken O.faults out.old out.new)
+        (seen_volume V.reports V.disk V.faults vol.old vol.new)
+        (IsGoing K.stores (K.works closing.new.keeper) V.reports (K.keeps closing.new.keeper) (V.disk vol.new)
+        closing.new.ledger.state) result }
     ensures crew { C.has crew.now side.new }
 {
-    let record = prefix_record(ahead.as_slice(), end);
-    let Ok(rest) = without_prefix(alloc, ahead.as_slice(), end) else {
+    let record = prefix_record(ahead.as_slice(), size);
+    let Ok(rest) = without_prefix(alloc, ahead.as_slice(), size) else {
         return Some(Status::NoMemory);
     };
-    if let Some(end) = close_record(alloc, crew, side, ledger, keeper, vol, record, out, steps) {
+    if let Some(end) = close_record(alloc, crew, side, closing, vol, record, out, steps) {
         return Some(end);
     }
     *ahead = rest;
@@ -234,45 +217,39 @@ fn turn<C: Crew, K: Keeper, V: Volume, I: Source, O: Sink, L: Count>(
     alloc: Global,
     crew: &C,
     side: &mut C::Side,
-    ledger: &mut Ledger,
-    keeper: &mut K,
+    closing: &mut Closing<K>,
     vol: &mut V,
-    at: &mut u128,
+    records: &mut Records,
     input: &mut I,
-    ahead: &mut Vec<u8>,
     out: &mut O,
     steps: &mut Steps<L>,
 ) -> Option<Status>
-    requires offset { at.old ≤ (ledger.old.state.header.ledger_seq + 1) * 2 ^ 64 }
+    requires offset { records.old.at ≤ (closing.old.ledger.state.header.ledger_seq + 1) * 2 ^ 64 }
     requires crew { C.has crew.now side.old }
-    requires works { K.works keeper.old }
-    requires ready { K.stores → V.reports
-        → Ready (K.keeps keeper.old (V.disk vol.old) ledger.old.state) (V.disk vol.old)
-        ledger.old.state }
-    ensures turned { Turned (record { state = ledger.old.state; at = at.old; ahead = ahead.old.items })
-        (record { state = ledger.new.state; at = at.new; ahead = ahead.new.items })
+    requires going { IsGoing K.stores (K.works closing.old.keeper) V.reports (K.keeps closing.old.keeper)
+        (V.disk vol.old) closing.old.ledger.state }
+    ensures did { DidTurn K.stores
+        (record { state = closing.old.ledger.state; at = records.old.at; ahead = records.old.ahead.items })
+        (record { state = closing.new.ledger.state; at = records.new.at; ahead = records.new.ahead.items })
         (seen I.left I.faults input.old input.new) (seen O.taken O.faults out.old out.new)
-        (DiskFailed K.stores (V.faults vol.old) (V.faults vol.new)) result }
-    ensures vol_later { V.faults vol.old ≤ V.faults vol.new }
-    ensures kept { K.stores → V.reports → KeptTurn ledger.old.state ledger.new.state at.old ahead.old.items
-        (seen I.left I.faults input.old input.new) (seen O.taken O.faults out.old out.new)
-        (V.disk vol.old) (V.disk vol.new) result }
-    ensures works { IsNone result → K.works keeper.new }
-    ensures keeps { K.stores → V.reports → IsNone result
-        → Ready (K.keeps keeper.new (V.disk vol.new) ledger.new.state) (V.disk vol.new) ledger.new.state }
+        (seen_volume V.reports V.disk V.faults vol.old vol.new)
+        (IsGoing K.stores (K.works closing.new.keeper) V.reports (K.keeps closing.new.keeper) (V.disk vol.new)
+        closing.new.ledger.state) result }
     ensures crew { C.has crew.now side.new }
 {
-    let is_low = ledger.header().ledger_seq <= LAST_SEQ;
+    let is_low = closing.ledger.header().ledger_seq <= LAST_SEQ;
     prove!(is_low);
-    match read_piece::<RecordLength, I>(input, ahead) {
-        Ok(end) => {
-            let stopped = pass_record(
-                alloc, crew, side, ledger, keeper, vol, end, ahead, out, steps,
-            );
-            *at += end as u128;
+    match read_piece::<RecordLength, I>(input, &mut records.ahead) {
+        Ok(size) => {
+            let ahead = &mut records.ahead;
+            let stopped = pass_record(alloc, crew, side, closing, vol, size, ahead, out, steps);
+            records.at += size as u128;
             stopped
         }
-        Err(fault) => Some(stop(alloc, ledger, *at, ahead.as_slice(), fault, out)),
+        Err(fault) => {
+            let ahead = records.ahead.as_slice();
+            Some(stop(alloc, &closing.ledger, records.at, ahead, fault, out))
+        }
     }
 }
 
@@ -281,33 +258,34 @@ pub(crate) fn follow<C: Crew, K: Keeper, V: Volume, I: Source, O: Sink, L: Count
     alloc: Global,
     crew: &C,
     side: &mut C::Side,
-    ledger: &mut Ledger,
-    keeper: &mut K,
+    closing: &mut Closing<K>,
     vol: &mut V,
-    start: u128,
+    records: Records,
     input: &mut I,
-    ahead: &mut Vec<u8>,
     out: &mut O,
     steps: &mut Steps<L>,
 ) -> Status
-    requires offset { start ≤ 2 ^ 64 }
+    requires offset { records.at ≤ 2 ^ 64 }
     requires crew { C.has crew.now side.old }
-    requires works { K.works keeper.old }
-    requires ready { K.stores → V.reports
-        → Ready (K.keeps keeper.old (V.disk vol.old) ledger.old.state) (V.disk vol.old)
-        ledger.old.state }
-    ensures followed { Followed ledger.old.state start ahead.old.items (seen I.left I.faults input.old input.new)
-        (seen O.taken O.faults out.old out.new) (DiskFailed K.stores (V.faults vol.old) (V.faults vol.new)) result }
-    ensures vol_later { V.faults vol.old ≤ V.faults vol.new }
-    ensures kept { K.stores → V.reports → KeptOn ledger.old.state start ahead.old.items
-        (seen I.left I.faults input.old input.new)
-        (seen O.taken O.faults out.old out.new) (V.disk vol.old) (V.disk vol.new) result }
+    requires going { IsGoing K.stores (K.works closing.old.keeper) V.reports (K.keeps closing.old.keeper)
+        (V.disk vol.old) closing.old.ledger.state }
+    ensures did { DidFollow K.stores closing.old.ledger.state records.at records.ahead.items
+        (seen I.left I.faults input.old input.new) (seen O.taken O.faults out.old out.new)
+        (seen_volume V.reports V.disk V.faults vol.old vol.new) result }
     ensures crew { C.has crew.now side.new }
 {
-    let mut at = start;
+    let mut records = records;
     loop {
         match turn(
-            alloc, crew, side, ledger, keeper, vol, &mut at, input, ahead, out, steps,
+            alloc,
+            crew,
+            side,
+            closing,
+            vol,
+            &mut records,
+            input,
+            out,
+            steps,
         ) {
             Some(end) => return end,
             None => {}

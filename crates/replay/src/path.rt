@@ -28,7 +28,7 @@ fn ask<I: Source, O: Sink, V: Volume, L: Count>(
         (seen_volume V.reports V.disk V.faults vol.old vol.new) result }
 {
     match open(alloc, vol, steps) {
-        Ok(opened) => answer_query(alloc, &opened.ledger, input, out),
+        Ok(opened) => answer_query(alloc, &opened.closing.ledger, input, out),
         Err(end) => end,
     }
 }

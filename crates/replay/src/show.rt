@@ -24,12 +24,12 @@ use stored_outcome::run_outcome::Status;
 /// Writes the lines of an opened store.
 fn show_opened<O: Sink>(alloc: Global, opened: &Opened, out: &mut O) -> Status
     ensures { Wrote (seen O.taken O.faults out.old out.new)
-        (shown_lines opened.now.ledger.state.header opened.now.keeper.store.epoch opened.now.records
-        (length (entries opened.now.ledger.state.entries))) status.Done result }
+        (shown_lines opened.now.closing.ledger.state.header opened.now.closing.keeper.store.epoch opened.now.records
+        (length (entries opened.now.closing.ledger.state.entries))) status.Done result }
 {
-    let ledger = &opened.ledger;
+    let ledger = &opened.closing.ledger;
     let digest = ledger.header_hash();
-    let epoch = opened.keeper.store.epoch();
+    let epoch = opened.closing.keeper.store.epoch();
     match shown_text(
         alloc,
         ledger.header(),

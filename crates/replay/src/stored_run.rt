@@ -15,6 +15,7 @@ ghost use Rattle.replay.specs.StoredRuns as spec;
 
 use crate::again::{AgainFault, close_again};
 use crate::closer::{Opened, follow_with};
+use crate::closes::Closing;
 use crate::crew::Nobody;
 use crate::stored::Stored;
 use image_store::{Mounted, Store, StoreFault, image_offset};
@@ -87,10 +88,11 @@ pub(crate) fn open<V: Volume, L: Count>(
     vol: &mut V,
     steps: &mut Steps<L>,
 ) -> Result<Opened, Status>
-    ensures works { IfOk result (λ o. o.keeper.store.failed ≡ false) }
-    ensures low { IfOk result (λ o. o.format ≡ 1 → o.keeper.store.epoch < 2 ^ 63 - 1) }
+    ensures works { IfOk result (λ o. o.closing.keeper.store.failed ≡ false) }
+    ensures low { IfOk result (λ o. o.format ≡ 1 → o.closing.keeper.store.epoch < 2 ^ 63 - 1) }
     ensures opens { V.reports
-        → spec.OpensSo (λ o. spec.IsOpened o.format o.records o.ledger.state o.keeper.store (V.disk vol.new))
+        → spec.OpensSo (λ o. spec.IsOpened o.format o.records o.closing.ledger.state o.closing.keeper.store
+        (V.disk vol.new))
         (V.disk vol.old).reads (V.disk vol.new).reads result }
     ensures runs { Runs Same (V.disk vol.old) (V.disk vol.new) }
     ensures later { V.faults vol.old ≤ V.faults vol.new }
@@ -109,8 +111,10 @@ pub(crate) fn open<V: Volume, L: Count>(
     };
     match restore(image, network, closes.as_slice(), epoch, format, steps) {
         Ok(ledger) => Ok(Opened {
-            ledger,
-            keeper: Stored { store },
+            closing: Closing {
+                ledger,
+                keeper: Stored { store },
+            },
             records: closes.len(),
             format,
         }),

@@ -31,7 +31,8 @@ pub(crate) fn batch_keys(alloc: Global, batch: &Batch) -> Result<Vec<LedgerKey>,
     Ok(keys)
 }
 
-/// Takes the pages of keys into the ledger's caches. What it can't take is passed over, since the ledger goes on without.
+/// Takes the pages of keys into the ledger's caches. What it can't take is passed over, since the ledger goes on
+/// without.
 pub(crate) fn warm_keys(ledger: &mut Ledger, keys: &[LedgerKey])
     ensures state { ledger.new.state ≡ ledger.old.state }
     ensures pages { IsPartlyWarmed keys.now ledger.old.caches ledger.new.caches }

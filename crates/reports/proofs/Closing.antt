@@ -10,7 +10,8 @@ use Rattle.run_outcome.specs.declared.status.Status.TheVariants as status
 use Rattle.reports.specs.declared.gathering.Stop.TheVariants as stop
 
 abbrev pub detailed : (s : ClosingState) (bytes : List ℕ) (close : DetailedClose) → length bytes ≤ max_record_len
-    → IsClose s bytes (Ok (states.close_of close.prepared)) → IsDetail s bytes close → (c : RecordClose) × IsDetailed s close c
+    → IsClose s bytes (Ok (states.close_of close.prepared)) → IsDetail s bytes close
+    → (c : RecordClose) × IsDetailed s close c
 detailed s bytes close short closes detail = (
   record { before = s; closing = detail.0; closed = states.close_of close.prepared },
   record {

@@ -84,12 +84,14 @@ recordable before after batch is befores afters (Updated b a) h =
 recordable before after batch is befores afters (Removed b) h = removed b before (befores b h.1)
 
 pub are_recordable : TakenIsClosable → NextIsClosing → (s : ClosingState) (close : DetailedClose) (c : RecordClose)
-    (changes : List Change) → IsClosingState s → IsDetailed s close c → AreChangesOf s.entries close.prepared.batch changes
+    (changes : List Change) → IsClosingState s → IsDetailed s close c
+    → AreChangesOf s.entries close.prepared.batch changes
     → AreRecordable changes
 are_recordable closable closing s close c changes state d are change there =
     let next = next_closing closable closing s close c state d in
     let after = subst (λ (x : PreparedClose). AreEntries x.state.entries) d.closed (entries_of c.closed.state next) in
-    recordable s.entries close.prepared.state.entries close.prepared.batch d.detail.batch.batch (entries_of s state) after change
+    recordable s.entries close.prepared.state.entries close.prepared.batch d.detail.batch.batch
+    (entries_of s state) after change
     ((are.each change).0 there)
 
 -- ---- the changes of a close

@@ -1,7 +1,7 @@
 -- A sum over all entries, by what comes after one key after another.
-use Rattle.tally.proofs.Prelude.{◌≡◌, ◌≢◌, refl, sym, ap, ◌∙◌, subst, ℕ, zero, suc, cond, T, arith, List, [], ◌∷◌}
-use Rattle.tally.proofs.Prelude.{length, Option, Some, None, ints, IfSome, ◌+◌, ◌*◌, ◌<◌, ℤ, pos, negsuc, neg_ℤ, ◌+ℤ◌}
-use Rattle.tally.proofs.Prelude.{◌≤ℤ◌, replicate, FitsSigned, w128, key_of, key_of_body, EntryMap, IsKeyed}
+use Rattle.tally.proofs.Prelude.{◌≡◌, ◌≢◌, refl, sym, ap, ◌∙◌, ℕ, zero, suc, cond, T, arith, List, [], ◌∷◌}
+use Rattle.tally.proofs.Prelude.{length, Option, Some, None, ints, ◌+◌, ◌*◌, ◌<◌, ℤ, pos, negsuc, neg_ℤ, ◌+ℤ◌}
+use Rattle.tally.proofs.Prelude.{◌≤ℤ◌, replicate, FitsSigned, w128, key_of, EntryMap}
 use Rattle.tally.proofs.Prelude.{IsLeastAbove, IsNextAfter, Weight, sum_over, total, part, first_key, sum_after}
 use Rattle.std.specs.declared.cmp.Ordering.TheVariants.{Less, Equal, Greater}
 use Rattle.std.specs.Ordering.{is_eq, ordering_then}
@@ -14,14 +14,9 @@ use Rattle.entry_map.proofs.shared_tree_proofs.Changed.{below_less, below_tied}
 use Rattle.ledger_types.specs.declared.entry.LedgerEntry.{LedgerEntry}
 use Rattle.ledger_types.specs.declared.key.LedgerKey.{LedgerKey}
 use Rattle.ledger_types.specs.declared.key.LedgerKey.TheVariants as key
-use Rattle.ledger_types.specs.declared.entry.LedgerEntryBody.{LedgerEntryBody}
-use Rattle.ledger_types.specs.declared.entry.LedgerEntryBody.TheVariants as body
 use Rattle.ledger_types.specs.Bytes.{bytes_cmp}
 use Rattle.ledger_types.specs.KeyOrder.{key_cmp}
-use Rattle.legal_rules.specs.xdr_core.Leaves.{fixed}
-use Rattle.entry_changes.specs.xdr_entries.Basic.{account_id}
-use Rattle.entry_changes.specs.xdr_entries.Entries.{account_head, account_entry, ledger_entry_body, ledger_entry}
-use Rattle.entry_changes.specs.Encodable.{IsEntryEncodable, AreEncodable}
+use Rattle.entry_changes.specs.Encodable.{HasEntireId, HaveEntireIds}
 use Rattle.offer_book.specs.Sold.{above}
 use Rattle.offer_book.proofs.Above.{Pairs, skipped, taken, nothing_left, next_left}
 use Rattle.entry_changes.proofs.entry_sums_proofs.Lists.{not_found_below}
@@ -40,24 +35,6 @@ zeros_first zero (x ∷ xs) same = λ e. absurd (cc)
 zeros_first (suc n) [] same = absurd (cc)
 zeros_first (suc n) (zero ∷ xs) same = zeros_first n xs (omega (arith, same))
 zeros_first (suc n) (suc x ∷ xs) same = λ e. absurd (let lt = zero_less n x xs in cc)
-
--- the id in an account's key has 32 bytes
-abbrev HasEntireId : LedgerKey → Type 0
-HasEntireId (key.Account id) = length id.0 ≡ 32
-HasEntireId other = Unit {0}
-
-body_entire : (b : LedgerEntryBody) → ledger_entry_body.within b → HasEntireId (key_of_body b)
-unfolding ledger_entry_body account_entry account_head account_id fixed
-body_entire (body.Account account) within = within.0.0.1
-body_entire (body.TrustLine line) within = tt
-body_entire (body.Offer offer) within = tt
-body_entire (body.Data entry) within = tt
-body_entire (body.ClaimableBalance balance) within = tt
-body_entire (body.LiquidityPool pool) within = tt
-
-entry_entire : (e : LedgerEntry) → IsEntryEncodable e → HasEntireId (key_of e)
-unfolding ledger_entry
-entry_entire e encodable = body_entire e.body encodable.within.1.0
 
 pub none_ahead : (k : LedgerKey) → HasEntireId k → key_cmp first_key k ≢ Greater
 none_ahead (key.Account id) entire = zeros_first 32 id.0 entire
@@ -99,15 +76,12 @@ sum_from f k (x ∷ xs) h ahead = elim (key_cmp k x.0) as (λ r. key_cmp k x.0 �
       | Greater ↦ λ past. absurd (ahead x.0 x.1 (found_first x xs) past)
     ] refl
 
-pub sum_from_first : (f : Weight) (m : EntryMap) → IsKeyed m → AreEncodable m
+pub sum_from_first : (f : Weight) (m : EntryMap) → HaveEntireIds m
     → total f m ≡ (part f (get m first_key) +ℤ sum_after f m first_key)
 unfolding total
-sum_from_first f m keyed encodable =
+sum_from_first f m entire =
     sum_from f first_key (entries m) (entries_sorted m)
-    (λ q e there.
-    let exists : get m q ≡ Some e = get-entries m q ∙ there in
-    let at : key_of e ≡ q = subst (λ o. IfSome o (λ e. key_of e ≡ q)) exists (keyed q) in
-    none_ahead q (subst HasEntireId at (entry_entire e (encodable q e exists))))
+    (λ q e there. none_ahead q (entire q e (get-entries m q ∙ there)))
     ∙ ap (λ o. part f o +ℤ sum_after f m first_key) (sym (get-entries m first_key))
 
 -- ---- one key after another
@@ -120,9 +94,9 @@ pub none_after : (f : Weight) (m : EntryMap) (k : LedgerKey) → IsNextAfter m k
 none_after f m k none = ap (sum_over f) (nothing_left m k none)
 
 -- what was looked up at the first key, and what comes after it, is all
-pub first_part : (f : Weight) (m : EntryMap) → IsKeyed m → AreEncodable m → (k : LedgerKey)
-    (o : Option LedgerEntry) → k ≡ first_key → o ≡ get m k → total f m ≡ (part f o +ℤ sum_after f m k)
-first_part f m keyed encodable k o is found = sum_from_first f m keyed encodable
+pub first_part : (f : Weight) (m : EntryMap) → HaveEntireIds m → (k : LedgerKey) (o : Option LedgerEntry)
+    → k ≡ first_key → o ≡ get m k → total f m ≡ (part f o +ℤ sum_after f m k)
+first_part f m entire k o is found = sum_from_first f m entire
     ∙ ap (λ q. part f (get m q) +ℤ sum_after f m q) (sym is)
     ∙ ap (λ p. part f p +ℤ sum_after f m k) (sym found)
 

@@ -2,9 +2,8 @@
 
 ghost use Rattle.std.specs.Prelude.{◌≡◌, IfOk};
 ghost use Rattle.ledger_types.specs.declared.asset.Asset.TheVariants as asset;
-ghost use Rattle.entry_map.specs.EntryMap.{IsKeyed};
 ghost use Rattle.legal_rules.specs.entry_sums.Sums.{total};
-ghost use Rattle.entry_changes.specs.Encodable.{AreEncodable};
+ghost use Rattle.entry_changes.specs.Encodable.{HaveEntireIds};
 ghost use Rattle.legal_rules.specs.Supply.{held};
 ghost use Rattle.tally.specs.Walk as spec;
 
@@ -30,7 +29,7 @@ fn first_key() -> LedgerKey
 /// and the reserves of pools (CAP-0038). Shares of pools are no asset. It goes through all entries once, from the
 /// least id on that an account's key can have in XDR.
 pub fn supply<B: Base>(entries: &Entries<'_, B>, asset: &Asset) -> Result<i128, AllocError>
-    ensures { IsKeyed entries.now.current → AreEncodable entries.now.current
+    ensures { HaveEntireIds entries.now.current
         → IfOk result (λ sum. sum ≡ total (held asset.now) entries.now.current) }
 {
     let mut last = first_key();
@@ -47,7 +46,7 @@ pub fn supply<B: Base>(entries: &Entries<'_, B>, asset: &Asset) -> Result<i128, 
 
 /// All lumens that entries hold, in units of 10^-7 (stroops). The fee pool, which the header has, is left out.
 pub fn lumens<B: Base>(entries: &Entries<'_, B>) -> Result<i128, AllocError>
-    ensures { IsKeyed entries.now.current → AreEncodable entries.now.current
+    ensures { HaveEntireIds entries.now.current
         → IfOk result (λ sum. sum ≡ total (held asset.Native) entries.now.current) }
 {
     supply(entries, &Asset::Native)

@@ -8,6 +8,7 @@ stored_at-requires c =
 pub loop-offset-preserved : goal.loop-offset-preserved
 loop-offset-preserved c =
     one_more c.args.file.now c.args.offsets.now c.loop-offset.words c.insert.new.words c.key.result.now
-    c.loop-offset.offset-index c.stored_at.result c.fingerprint-fingerprint.result c.loop-offset-test.true c.stored_at.ensures
+    c.loop-offset.offset-index c.stored_at.result c.fingerprint-fingerprint.result c.loop-offset-test.true
+    c.stored_at.ensures
     c.key.ensures c.fingerprint-fingerprint.ensures c.loop-offset.invariant c.insert.ensures.noted c.insert.ensures.kept
     c.insert.ensures.len

@@ -23,10 +23,11 @@ returns-in-Kept g c =
     let at = c.loop-at.at in
     let e = c.in-Kept.entry in
     let it = c.loop-at.invariant in
-    let known = next_is m ls top at c.in_ok-known.field-0 (Some (Kept e)) (c.in-Some.is ∙ ap Some c.in-Kept.is)
+    let last = option_copied c.args.last in
+    let known = next_is m ls top at last c.in_ok-known.field-0 (Some (Kept e)) (c.in-Some.is ∙ ap Some c.in-Kept.is)
     (c.in_ok-known.ensures ls top it.ahead) in (
       found_next m ls top c.args.key.now at (key_of e) e it.seen known.0 known.1 refl,
-      still_ahead m ls top at e (option_copied c.loop-at.ahead) known it.ahead,
+      still_ahead m ls top at (option_copied c.args.last) e (option_copied c.loop-at.ahead) known it.ahead,
     )
 
 pub returns-in-Some-2 : goal.returns-in-Some-2
@@ -40,7 +41,8 @@ returns-in-Some-2 g c =
     let it = c.loop-at.invariant in
     let own = if_some_at (λ x. key_of x ≡ next) c.in_ok-entry.field-0 e c.in_ok-entry.ensures.keyed c.in-Some-2.is in (
       found_next m ls top c.args.key.now at next e it.seen
-          (next_is m ls top at c.in_ok-known.field-0 (Some (Changed next)) (c.in-Some.is ∙ ap Some c.in-Changed.is)
+          (next_is m ls top at (option_copied c.args.last) c.in_ok-known.field-0 (Some (Changed next))
+          (c.in-Some.is ∙ ap Some c.in-Changed.is)
           (c.in_ok-known.ensures ls top it.ahead))
           (sym c.in_ok-entry.ensures.found ∙ c.in-Some-2.is) own,
       subst (λ (k : LedgerKey). IsNextKey (λ q. contains_key top q || is_changed ls q) k
@@ -51,7 +53,7 @@ pub loop-at-smaller : goal.loop-at-smaller
 loop-at-smaller g c =
     let m = g.B.Base.entries c.args.base.now in
     known_falls m c.args.lower.now c.args.top.now c.loop-at.at c.in-Changed.next
-    (next_is m c.args.lower.now c.args.top.now c.loop-at.at c.in_ok-known.field-0
+    (next_is m c.args.lower.now c.args.top.now c.loop-at.at (option_copied c.args.last) c.in_ok-known.field-0
     (Some (Changed c.in-Changed.next)) (c.in-Some.is ∙ ap Some c.in-Changed.is)
     (c.in_ok-known.ensures c.args.lower.now c.args.top.now c.loop-at.invariant.ahead))
 
@@ -61,7 +63,7 @@ loop-at-preserved g c =
     record {
       seen = seen_next m c.args.lower.now c.args.top.now c.args.key.now c.loop-at.at
           c.in-Changed.next c.loop-at.invariant.seen
-          (next_is m c.args.lower.now c.args.top.now c.loop-at.at c.in_ok-known.field-0
+          (next_is m c.args.lower.now c.args.top.now c.loop-at.at (option_copied c.args.last) c.in_ok-known.field-0
           (Some (Changed c.in-Changed.next)) (c.in-Some.is ∙ ap Some c.in-Changed.is)
           (c.in_ok-known.ensures c.args.lower.now c.args.top.now c.loop-at.invariant.ahead))
           (sym c.in_ok-entry.ensures.found ∙ c.in_default-2.is);
@@ -71,7 +73,7 @@ loop-at-preserved g c =
 pub returns : goal.returns
 returns g c =
     let m = g.B.Base.entries c.args.base.now in
-    ended m c.args.lower.now c.args.top.now c.args.key.now c.loop-at.at
+    ended m c.args.lower.now c.args.top.now c.args.key.now c.loop-at.at (option_copied c.args.last)
     c.loop-at.invariant.seen
-    (next_is m c.args.lower.now c.args.top.now c.loop-at.at c.in_ok-known.field-0
+    (next_is m c.args.lower.now c.args.top.now c.loop-at.at (option_copied c.args.last) c.in_ok-known.field-0
     None c.in_default.is (c.in_ok-known.ensures c.args.lower.now c.args.top.now c.loop-at.invariant.ahead))

@@ -1,4 +1,5 @@
-use Rattle.image_rules.proofs.Prelude.{◌≡◌, ◌≢◌, ◌↔◌, refl, subst, Bool, [], ◌∷◌, Option, Some, None, All, All-nil, All-cons, All-head}
+use Rattle.image_rules.proofs.Prelude.{◌≡◌, ◌≢◌, ◌↔◌, refl, subst, Bool, [], ◌∷◌, Option, Some, None, All, All-nil}
+use Rattle.image_rules.proofs.Prelude.{All-cons, All-head}
 use Rattle.image_rules.proofs.Prelude.{IsTrue, get, LedgerEntry, LedgerKey}
 use Rattle.std.specs.Option.{is_some}
 use Rattle.entry_slots.specs.Lines.{line_of}

@@ -46,7 +46,8 @@ loop-i-preserved c =
           (c.loop-i.invariant.silent k sought)
           (silent_at k c.args.caches.now c.loop-i.caches c.loop-i.i c.index-caches-i.result c.loop-i.invariant.same
           (omega (arith, c.loop-i-test.true)) (record {
-            index = subst (λ (b : Bool). MatchBool b (Unit {0}) (index_of k (rows at.contents) ≡ None)) c.if-branch.false
+            index = subst (λ (b : Bool). MatchBool b (Unit {0}) (index_of k (rows at.contents) ≡ None))
+                c.if-branch.false
                 (c.in_ok-warm_sought.ensures.none k sought);
             change = subst (λ (b : Bool).
                 MatchBool b (change_at at.contents k ≢ None) (change_at at.contents k ≡ None)) c.if-branch.false

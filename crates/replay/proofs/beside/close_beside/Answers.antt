@@ -9,7 +9,7 @@ use Rattle.replay.proofs.beside.close_beside.Goals as goal
 
 pub returns-in_default : goal.returns-in_default
 returns-in_default g c =
-    let s : ClosingState = c.args.opened.now.ledger.state in
+    let s : ClosingState = c.args.opened.now.closing.ledger.state in
     let input : Seen = seen g.I.Source.left g.I.Source.faults c.args.input.now c.args.input.now in
     let out : Seen = seen g.O.Sink.taken g.O.Sink.faults c.args.out.now c.args.out.now in
     let failed : Type 0 = DiskFailed (Unit {0}) (g.V.Volume.faults c.args.vol.now) (g.V.Volume.faults c.args.vol.now) in
@@ -18,7 +18,7 @@ returns-in_default g c =
       followed = nothing_followed s 0 [] input out failed received;
       vol_later = omega arith;
       kept = λ st te.
-          let r = c.requires.ready te in
+          let r = c.requires.open.ready te in
           let disk : Disk = g.V.Volume.disk c.args.vol.now in
           nothing_kept s 0 [] input out disk disk status.NoMemory tt r.safe r.opens (stays_either s s disk)
           (Consumes-nil (g.I.Source.left c.args.input.now)) received;

@@ -1,12 +1,12 @@
-use Rattle.replay.proofs.Prelude.{[], sym, subst, Seen, seen, SeenVolume, seen_volume, ClosingState, Disk, IsStored}
-use Rattle.replay.proofs.Prelude.{Ready, DidFollow}
+use Rattle.replay.proofs.Prelude.{[], sym, subst, Seen, seen, SeenVolume, seen_volume, ClosingState, DidFollow}
+use Rattle.replay.specs.Stored.{CanGoOn}
 use Rattle.replay.proofs.beside.serve.Goals as goal
 
-pub follow_with-end-requires-clause-ready : goal.follow_with-end-requires-clause-ready
-follow_with-end-requires-clause-ready g c te =
-    let disk : Disk = g.V.Volume.disk c.args.vol.now in
-    subst (λ (s : ClosingState). Ready (IsStored c.args.opened.now.format c.args.opened.now.keeper.store disk s) disk s)
-    (sym c.post_due.ensures.state) (c.requires.ready te)
+pub follow_with-end-requires-clause-open : goal.follow_with-end-requires-clause-open
+follow_with-end-requires-clause-open g c =
+    let o = c.args.opened.now in
+    subst (CanGoOn o.format o.closing.keeper.store g.V.Volume.reports (g.V.Volume.disk c.args.vol.now))
+    (sym c.post_due.ensures.state) c.requires.open
 
 pub returns-clause-followed : goal.returns-clause-followed
 returns-clause-followed g c =

@@ -8,10 +8,10 @@ returns-in-Ok g c =
     (seen g.I.Source.left g.I.Source.faults c.args.input.now c.start.new.input)
     (seen g.O.Sink.taken g.O.Sink.faults c.args.out.now c.follow.new.out) (g.I.Source.left c.follow.new.input)
     (g.I.Source.faults c.follow.new.input) _ c.follow.result c.in-Ok.ensures (λ failed. failed.0)
-    c.follow.ensures.followed
+    c.follow.ensures.did.followed
 
-pub returns : goal.returns
-returns g c =
+pub returns-in-Err : goal.returns-in-Err
+returns-in-Err g c =
     barred_unstarted c.args.passphrase.now (seen g.I.Source.left g.I.Source.faults c.args.input.now c.start.new.input)
     c.in-Err.end c.in-Err.ensures (seen g.O.Sink.taken g.O.Sink.faults c.args.out.now c.args.out.now)
     (Appends-nil (g.O.Sink.taken c.args.out.now))

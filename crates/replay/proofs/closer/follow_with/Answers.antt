@@ -8,7 +8,7 @@ use Rattle.reports.proofs.Streams.{rose_before}
 
 pub returns-in-Err-DiskFault-clause-followed : goal.returns-in-Err-DiskFault-clause-followed
 returns-in-Err-DiskFault-clause-followed g c =
-    let s : ClosingState = c.args.opened.now.ledger.state in
+    let s : ClosingState = c.args.opened.now.closing.ledger.state in
     let input : Seen = seen g.I.Source.left g.I.Source.faults c.args.input.now c.args.input.now in
     let out : Seen = seen g.O.Sink.taken g.O.Sink.faults c.args.out.now c.args.out.now in
     let failed : Type 0 =
@@ -19,7 +19,7 @@ returns-in-Err-DiskFault-clause-followed g c =
           (rw c.in-Err-DiskFault.field-0-is at c.in-Err-DiskFault.ensures.cause);
       vol_later = c.migrate.ensures.later;
       kept = λ st te.
-          let r = c.requires.ready te in
+          let r = c.requires.open.ready te in
           nothing_kept s 0 [] input out (g.V.Volume.disk c.args.vol.now) (g.V.Volume.disk c.migrate.new.vol)
           status.DiskFault tt r.safe r.opens (c.migrate.ensures.runs te)
           (Consumes-nil (g.I.Source.left c.args.input.now)) received;
@@ -27,7 +27,7 @@ returns-in-Err-DiskFault-clause-followed g c =
 
 pub returns-in-Err-NoMemory-clause-followed : goal.returns-in-Err-NoMemory-clause-followed
 returns-in-Err-NoMemory-clause-followed g c =
-    let s : ClosingState = c.args.opened.now.ledger.state in
+    let s : ClosingState = c.args.opened.now.closing.ledger.state in
     let input : Seen = seen g.I.Source.left g.I.Source.faults c.args.input.now c.args.input.now in
     let out : Seen = seen g.O.Sink.taken g.O.Sink.faults c.args.out.now c.args.out.now in
     let failed : Type 0 =
@@ -37,7 +37,7 @@ returns-in-Err-NoMemory-clause-followed g c =
       followed = nothing_followed s 0 [] input out failed received;
       vol_later = c.migrate.ensures.later;
       kept = λ st te.
-          let r = c.requires.ready te in
+          let r = c.requires.open.ready te in
           nothing_kept s 0 [] input out (g.V.Volume.disk c.args.vol.now) (g.V.Volume.disk c.migrate.new.vol)
           status.NoMemory tt r.safe r.opens (c.migrate.ensures.runs te)
           (Consumes-nil (g.I.Source.left c.args.input.now)) received;
@@ -45,8 +45,8 @@ returns-in-Err-NoMemory-clause-followed g c =
 
 pub returns-clause-followed : goal.returns-clause-followed
 returns-clause-followed g c =
-    let s : ClosingState = c.args.opened.now.ledger.state in
-    let after : ClosingState = c.migrate.new.opened.ledger.state in
+    let s : ClosingState = c.args.opened.now.closing.ledger.state in
+    let after : ClosingState = c.migrate.new.opened.closing.ledger.state in
     let state : after ≡ s = c.migrate.ensures.state in
     let input : Seen = seen g.I.Source.left g.I.Source.faults c.args.input.now c.follow.new.input in
     let out : Seen = seen g.O.Sink.taken g.O.Sink.faults c.args.out.now c.follow.new.out in
@@ -59,19 +59,20 @@ returns-clause-followed g c =
     let mid : Disk = g.V.Volume.disk c.migrate.new.vol in
     let new : Disk = g.V.Volume.disk c.follow.new.vol in
     let one = c.migrate.ensures.later in
-    let two = c.follow.ensures.vol_later in
+    let did = c.follow.ensures.did in
+    let two = did.vol_later in
     record {
       followed = followed_later s 0 [] input out late any c.follow.result
           (λ failed. (failed.0, rose_before first second last one failed.1))
           (subst (λ (x : ClosingState). Followed x 0 [] input out late c.follow.result) state
-          (subst (λ (ahead : List ℕ). Followed after 0 ahead input out late c.follow.result) c.new-ahead.ensures.items
-          c.follow.ensures.followed));
+          (subst (λ (ahead : List ℕ). Followed after 0 ahead input out late c.follow.result) c.new.ensures.items
+          did.followed));
       vol_later = omega (arith, one, two);
       kept = λ st te.
-          let r = c.in-Ok.ensures.migrated te in
+          let r = c.in-Ok.ensures.going.ready tt te in
           kept_rolled s 0 [] input out old mid new c.follow.result r.safe
           (subst (λ (x : ClosingState). OpensTo mid.reads x) state r.opens) (c.migrate.ensures.runs te)
           (subst (λ (x : ClosingState). KeptOn x 0 [] input out mid new c.follow.result) state
           (subst (λ (ahead : List ℕ). KeptOn after 0 ahead input out mid new c.follow.result)
-          c.new-ahead.ensures.items (c.follow.ensures.kept st te)));
+          c.new.ensures.items (did.kept st te)));
     }

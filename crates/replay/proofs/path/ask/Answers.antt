@@ -4,7 +4,7 @@ use Rattle.replay.proofs.path.ask.Goals as goal
 
 pub returns-in-Ok : goal.returns-in-Ok
 returns-in-Ok g c =
-    let s = c.in-Ok.opened.ledger.state in
+    let s = c.in-Ok.opened.closing.ledger.state in
     record {
       runs = c.open.ensures.runs;
       survives = λ te. reads_survive _ _ c.open.ensures.runs (g.met.V.Volume.reads_now c.open.new.vol te);

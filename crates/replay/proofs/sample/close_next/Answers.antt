@@ -12,7 +12,8 @@ returns-in-Ok-prepare g c =
     (c.as_slice.ensures.value ∙ are) c.in-Ok-prepare.ensures.answers in
     let took = c.take_close.ensures in
     one_more c.args.seed c.args.closed was now.ledger.state c.args.sampled.now.transactions c.args.sampled.now.successes
-    now.transactions now.successes (close_of c.in-Ok-prepare.prepared) c.requires.reached closes took.state took.transactions
+    now.transactions now.successes
+    (close_of c.in-Ok-prepare.prepared) c.requires.reached closes took.state took.transactions
     took.successes took.fits took.success_fits
 
 pub returns : goal.returns

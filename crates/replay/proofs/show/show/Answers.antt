@@ -8,7 +8,7 @@ use Rattle.replay.proofs.show.show.Goals as goal
 pub returns-in-Ok : goal.returns-in-Ok
 returns-in-Ok g c =
     let out : Seen = seen g.O.Sink.taken g.O.Sink.faults c.args.out.now c.show_opened.new.out in
-    let s : ClosingState = c.in-Ok.opened.ledger.state in
+    let s : ClosingState = c.in-Ok.opened.closing.ledger.state in
     let count : ℕ = length (entries s.entries) in
     let end = c.show_opened.result in
     record {

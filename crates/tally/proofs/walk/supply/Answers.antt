@@ -6,7 +6,7 @@ use Rattle.tally.proofs.walk.supply.Goals as goal
 use Rattle.tally.proofs.Walking.{moved_sum_goes_on}
 
 pub returns-in_default : goal.returns-in_default
-returns-in_default g c keyed encodable =
+returns-in_default g c entire =
     let m = c.args.entries.now.current in
     let f = held c.args.asset.now in
     let none : sum_after f m c.loop.last ≡ pos 0 =
@@ -15,7 +15,7 @@ returns-in_default g c keyed encodable =
     let start : to_z w128 (of_z w128 c.held_if-sum.result) ≡ part f c.in_ok-get.field-0 =
     to_z-of_z w128 c.held_if-sum.result fits ∙ c.held_if-sum.ensures.value in
     at_the_end _ _ _ _ _ _ c.loop.invariant.0 none start
-    (first_part f m keyed encodable c.first_key-last.result c.in_ok-get.field-0 c.first_key-last.ensures
+    (first_part f m entire c.first_key-last.result c.in_ok-get.field-0 c.first_key-last.ensures
     c.in_ok-get.ensures.found)
 
 pub loop-preserved : goal.loop-preserved

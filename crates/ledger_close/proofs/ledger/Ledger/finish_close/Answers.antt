@@ -140,7 +140,8 @@ invariant_of-prepared g c =
     record {
       hashed = c.in_ok-digest.ensures;
       number = leveled.seq ∙ sym (ap (λ (h : LedgerHeader). h.ledger_seq) header_is ∙ counts.ledger_seq);
-      files = subst (λ (pairs : List Pair). AreNewCaches c.in_ok-header.header.ledger_seq pairs c.in_ok-caches.caches.items)
+      files = subst (λ (pairs : List Pair). AreNewCaches c.in_ok-header.header.ledger_seq pairs
+          c.in_ok-caches.caches.items)
           c.pairs.ensures c.in_ok-caches.ensures;
     }
 
